@@ -10,7 +10,8 @@ use Rattle.xsi_calls.specs.declared.payment.Stage.{Stage}
 use Rattle.xsi_calls.specs.declared.payment.Stage.TheVariants as stages
 use Rattle.xsi_calls.specs.PaymentWords.{RecordKey, PoolState, Table, Lock, IsReady, OnlyWrites, FollowsRow, Progress, Ended, Fault, is_fault, Plan, CallWrites, writes_locks, Work, is_move, sweep_locks}
 use Rattle.xsi_calls.specs.Payments.{payment_locks, unwritten}
-use Rattle.xsi_calls.specs.PaySteps.{Goes, HasFailed, KeepsPayment, MakesWrites, StepsPart}
+use Rattle.xsi_calls.specs.MakeSteps.{MakesWrites}
+use Rattle.xsi_calls.specs.PaySteps.{Goes, HasFailed, KeepsPayment, StepsPart}
 
 -- a sweep that is over holds no lock
 pub over_free : (v : Option Work) (before : List Lock) → IsOver v → sweep_locks v before ≡ before

@@ -1,14 +1,15 @@
--- A step of either part in a sound world.
+-- A step of either part.
 use Rattle.std.proofs.Common.{◌≡◌, ℕ, false, List}
 use Rattle.file_pages.specs.declared.fault.FileFault.{FileFault}
+use Rattle.xsi_calls.proofs.PartLemmas.{follows, keeps, only_writes}
 use Rattle.xsi_calls.proofs.SweptLemmas.{ends_with, nears_end, nears_on, sweeps_on}
 use Rattle.xsi_calls.proofs.WrittenLemmas.{writes_on}
 use Rattle.xsi_calls.specs.declared.payment.Stage.{Stage}
 use Rattle.xsi_calls.specs.declared.payment.Stage.TheVariants as stages
-use Rattle.xsi_calls.specs.PaymentWords.{RecordKey, PoolState, Table, Lock, Change, store_of, IsSeat, NearsOrSpares, Progress, is_fault, Plan, Records}
+use Rattle.xsi_calls.specs.PaymentWords.{RecordKey, PoolState, Table, Lock, Change, store_of, IsReady, IsSeat, NearsOrSpares, Progress, is_fault, Plan, Records}
 use Rattle.xsi_calls.specs.Payments.{payment_left}
 use Rattle.xsi_calls.specs.Paying.{IsPaying}
-use Rattle.xsi_calls.specs.PaySteps.{Goes, HasFailed, Pays, StepsPart}
+use Rattle.xsi_calls.specs.PaySteps.{Goes, HasFailed, MakesPayment, Pays, StepsPart}
 
 module _ (hash : RecordKey → ℕ) (seat : ℕ) (p : Plan) (did : Progress FileFault) (pool pool' : PoolState)
     (locks locks' : Table) (seated : IsSeat locks seat) (names : List Lock) (records : Records) (change : Change) where
@@ -39,3 +40,20 @@ module _ (hash : RecordKey → ℕ) (seat : ℕ) (p : Plan) (did : Progress File
   pays (stages.Writing w) (stages.Sweeping v) none y fine = absurd none
   pays (stages.Writing w) (stages.Writing w') makes y fine =
       writes_on hash seat names p did w w' pool pool' locks locks' makes records change y fine
+
+-- ---- a step of a part, told at once
+
+pub makes_payment : (hash : RecordKey → ℕ) (seat : ℕ) (p : Plan) (did : Progress FileFault) (old new : Stage)
+    (pool pool' : PoolState) (locks locks' : Table) → IsSeat locks seat → IsReady pool →
+    StepsPart hash seat p did old new pool pool' locks locks' →
+    MakesPayment hash seat p did old new pool pool' locks locks'
+makes_payment hash seat p did old new pool pool' locks locks' seated ready part = record {
+  part = part;
+  writes = only_writes hash seat p did pool pool' locks locks' old new ready part;
+  aim = keeps hash seat p did pool pool' locks locks' old new part;
+  row = follows hash seat p did pool pool' locks locks' old new part;
+  progress = λ names records change paying.
+      nears hash seat p did pool pool' locks locks' seated names records change old new part paying;
+  step = λ names records change paying fine.
+      pays hash seat p did pool pool' locks locks' seated names records change old new part paying fine;
+}
