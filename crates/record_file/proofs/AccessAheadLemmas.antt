@@ -67,6 +67,7 @@ module _ (f : BucketView) (links : Option Links) (bytes : List ℕ) (written : B
     none_takes : {X : Type 0} (x : X) (pool : PoolState) → IsReady pool → Takes (Ok x) pool pool a a
     none_takes x pool ready = record {
       reads = untouched pool ready;
+      cause = tt;
       operation = refl;
       written = refl;
       serves = λ p serves. serves;

@@ -78,7 +78,8 @@ module _ (hash : RecordKey → ℕ) (seat : ℕ) (did : Progress FileFault) (a :
             writes_answered (length a.bytes) did pool a.operation o' op.aim.kind f.sees.honest (wrote_of did written)
             (is_replace p a.operation (subst IsReplacing (sym is) tt) f.serves.kind)
 
-        pub tells : TellsOf hash did p found a (behind did pool a o' (then_written (is_write did) a.written) op.aim)
+        pub tells : TellsOf hash seat did p found a
+            (behind did pool a o' (then_written (is_write did) a.written) op.aim)
             (world pool.images locks change) (world pool'.images locks' change)
         tells = record {
           stands = stands;
@@ -91,6 +92,7 @@ module _ (hash : RecordKey → ℕ) (seat : ℕ) (did : Progress FileFault) (a :
           finds = inl (same_answer (length a.bytes) did pool a.operation o' op.aim.kind same);
           sets_out = past;
           lacks = lacks;
+          turns_away = told.turns_away;
         }
 
   module _ (quiet : did ≡ Moved Look → operation_found a.operation ≡ None → operation_found o' ≡ None) where
@@ -115,6 +117,7 @@ module _ (hash : RecordKey → ℕ) (seat : ℕ) (did : Progress FileFault) (a :
         pool pool' locks locks'
     makes_on = record {
       writes = op.writes.writes;
+      cause = op.cause;
       aim = record {
         key = op.aim.key;
         pseudokey = op.aim.pseudokey;

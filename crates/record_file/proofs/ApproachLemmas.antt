@@ -10,7 +10,7 @@ use Rattle.split_merge.specs.stale_search.declared.place.ApproachPlace.{Approach
 use Rattle.split_merge.specs.stale_search.declared.place.ApproachPlace.TheVariants.{GrantDirectory, ReadDepth, ReadEntry, GrantPage, At}
 use Rattle.record_file.proofs.of_split_merge.MoveLemmas.{read_only}
 use Rattle.record_file.proofs.of_split_merge.MergeRowLemmas.{page_held}
-use Rattle.record_file.specs.InsertWords.{RecordKey, pair, Put, PoolState, Table, IsSeat, Lock, Selective, Page, kind_of, row_of, held, with_row, store_of, OnlyReads, Progress, Moved, Blocked, Fault, Ended, World, AllKnown, is_fault, HasNoFileLock, Stays, world, ApproachView, approach_locks, approach_facts, approach_left, reached_at, FollowsRow, SecondPlace, Approaching, Look}
+use Rattle.record_file.specs.InsertWords.{RecordKey, pair, Put, PoolState, Table, IsSeat, Lock, Selective, Page, kind_of, row_of, held, with_row, store_of, Progress, Moved, Blocked, Fault, Ended, World, AllKnown, is_fault, HasNoFileLock, ReadsPages, Stays, world, ApproachView, approach_locks, approach_facts, approach_left, reached_at, FollowsRow, SecondPlace, Approaching, Look}
 use Rattle.record_file.specs.SecondTries.{IsOnWayTo, splits_left, left_at, on_one}
 use Rattle.record_file.specs.SecondSteps.{KeepsSecondTry, NearsOrSpares}
 use Rattle.record_file.proofs.HomeLemmas.{look_is_less, near_bucket}
@@ -50,7 +50,7 @@ stays_by Ended a a' old new still same = same still
 
 module _ (hash : RecordKey → ℕ) (seat : ℕ) (key : RecordKey) (k bytes : ℕ) (value : List ℕ) (pool pool' : PoolState)
     (locks locks' : Table) (a a' : ApproachView) (did : Progress FileFault) (way : IsOnWayTo k a)
-    (reads : OnlyReads (not (is_fault did)) pool pool') (goal : KeepsGoal did a a')
+    (reads : ReadsPages did pool pool') (goal : KeepsGoal did a a')
     (row : FollowsRow seat (approach_locks a) (approach_locks a') locks locks')
     (nears : Advances seat (approach_facts a) did (approach_left a) (approach_left a') pool pool' locks)
     (step : MakesApproachStep seat (approach_locks a) (approach_facts a) (approach_facts a') (approach_turn a) did pool
@@ -73,11 +73,12 @@ module _ (hash : RecordKey → ℕ) (seat : ℕ) (key : RecordKey) (k bytes : �
   -- it goes on
   pub goes_on : Makes hash seat key k bytes value pool locks did (Approaching a) (Approaching a') pool' locks'
   goes_on = record {
-    writes = read_only (not (is_fault did)) pool pool' reads;
+    writes = read_only (not (is_fault did)) pool pool' reads.reads;
+    cause = reads.cause;
     aim = aim (Approaching a') (λ same. ap Approaching same);
     row = row;
     progress = λ change keyed sees. spares did (approach_left a) (approach_left a') (splits_left 0 + 7) pool pool'
-        (reads.images sees.honest) (nears hash change sees);
+        (reads.reads.images sees.honest) (nears hash change sees);
     step = λ change before bare owns here keyed sees fine.
         step hash change (Some (Put (pair key value))) before bare here sees fine;
     answer = λ change keyed sees fine. tt;
@@ -87,12 +88,13 @@ module _ (hash : RecordKey → ℕ) (seat : ℕ) (key : RecordKey) (k bytes : �
   pub arrives : IsSeat locks seat → (depth n : ℕ) → a'.place ≡ At depth n →
       Makes hash seat key k bytes value pool locks did (Approaching a) (Look depth n) pool' locks'
   arrives seated depth n is = record {
-    writes = read_only (not (is_fault did)) pool pool' reads;
+    writes = read_only (not (is_fault did)) pool pool' reads.reads;
+    cause = reads.cause;
     aim = aim (Look depth n) (λ same. absurd (moved same));
     row = there;
     progress = λ change keyed sees. comes did (approach_left a) (approach_left a') (splits_left 0 + 7)
         (left_at (Look depth n) k (store_of pool'.images)) pool pool'
-        (reads.images sees.honest) (look_is_less (store_of pool'.images) n k) (nears hash change sees);
+        (reads.reads.images sees.honest) (look_is_less (store_of pool'.images) n k) (nears hash change sees);
     step = λ change before bare owns here keyed sees fine.
         let s = step hash change (Some (Put (pair key value))) before bare here sees fine in
         let new : World = world pool'.images locks' s.after in

@@ -8,6 +8,7 @@ use Rattle.page_locks.specs.declared.row.TheConstants.{MAX_LOCKS}
 use Rattle.page_locks.proofs.ChangeLemmas.{without_lock-with_lock}
 use Rattle.page_locks.proofs.TableLemmas.{row_of-same}
 use Rattle.page_locks.proofs.WriterLemmas.{IsFree-unopposed}
+use Rattle.split_merge.specs.file_pages.declared.fault.FileFault.TheVariants.{Failed}
 use Rattle.split_merge.specs.file_pages.declared.sight.Sight.TheVariants.{Covering as SeesCovering, Naming}
 use Rattle.step_rules.specs.declared.kind.Kind.TheVariants as kinds
 use Rattle.step_rules.specs.Words.{chain}
@@ -17,7 +18,7 @@ use Rattle.step_rules.proofs.LockStepLemmas.{KeepsOthers-same, none_busy}
 use Rattle.split_merge.proofs.of_stale_search.WayLemmas.{leads_in_file}
 use Rattle.record_file.proofs.of_split_merge.MoveLemmas.{read_only}
 use Rattle.record_file.proofs.of_split_merge.MergeRowLemmas.{directory_beside, no_other_held, no_page_held, page_held, without_last}
-use Rattle.record_file.specs.InsertWords.{RecordKey, PoolState, IsDevicesFault, Table, IsSeat, Lock, Selective, Page, Directory, Change, Store, Answers, range_at, next_at, kind_of, lock_of, row_of, held, with_row, without, without_lock, store_of, IsFilePool, OnlyReads, Progress, Moved, Blocked, Fault, World, HasNoFileLock, EndsRow, in_directory, on_page, AllKnown, world, SecondPlace, Look, Hop}
+use Rattle.record_file.specs.InsertWords.{RecordKey, PoolState, FileHasCause, IsDevicesFault, Table, IsSeat, Lock, Selective, Page, Directory, Change, Store, Answers, range_at, next_at, kind_of, lock_of, row_of, held, with_row, without, without_lock, store_of, IsFilePool, OnlyReads, Progress, Moved, Blocked, Fault, World, HasNoFileLock, EndsRow, in_directory, on_page, AllKnown, world, SecondPlace, Look, Hop}
 use Rattle.record_file.specs.SecondTries.{near_facts, locks_at, home_at, splits_left, look_left, on_one}
 use Rattle.record_file.proofs.HomeLemmas.{home_here, home_on, look_here, next_answers, next_live, next_near}
 use Rattle.record_file.proofs.MoveLemmas.{Makes, was, moved_aim, same_row, read, faulted}
@@ -39,12 +40,12 @@ module _ (hash : RecordKey → ℕ) (seat : ℕ) (key : RecordKey) (k bytes : �
   abbrev old : Change → World
   old change = was hash seat key k bytes value pool locks change
 
-  pub not_looked : (fault : FileFault) → OnlyReads false pool pool' →
+  pub not_looked : (fault : FileFault) → OnlyReads false pool pool' → FileHasCause pool pool' fault →
       (IsTrue pool.honest → IsFilePool pool → ROOT_PAGE ≤ n → n < length pool.images →
       IsOnWay (page_at (store_of pool.images) n) → IsDevicesFault pool pool' fault) →
       Arm (Fault fault) (Hop depth n) (Hop depth n) locks
-  not_looked fault reads risen = faulted hash seat key k bytes value pool locks (Hop depth n) fault pool'
-      (read_only false pool pool' reads) reads.images refl
+  not_looked fault reads cause risen = faulted hash seat key k bytes value pool locks (Hop depth n) fault pool'
+      (read_only false pool pool' reads) reads.images cause refl
       (λ change keyed sees.
       let there = leads_in_file hash pool.images n change k sees.sound.file sees.known.1.1.0.1.leads in
       risen sees.honest sees.file there.behind there.within there.on_way)
@@ -86,8 +87,8 @@ module _ (hash : RecordKey → ℕ) (seat : ℕ) (key : RecordKey) (k bytes : �
       other honest answers = (sight honest).0 (record { bucket = answers.0; covers = answers.1 })
 
       -- no page names itself
-      pub is_itself : (fault : FileFault) → m ≡ n → Arm (Fault fault) (Hop depth n) (Hop depth n) locks
-      is_itself fault same = faulted hash seat key k bytes value pool locks (Hop depth n) fault pool'
+      pub is_itself : m ≡ n → Arm (Fault Failed) (Hop depth n) (Hop depth n) locks
+      is_itself same = faulted hash seat key k bytes value pool locks (Hop depth n) Failed pool'
           (read_only false pool pool' (record {
             ready = reads.ready;
             honest = reads.honest;
@@ -96,7 +97,7 @@ module _ (hash : RecordKey → ℕ) (seat : ℕ) (key : RecordKey) (k bytes : �
             images = reads.images;
             file = λ honest fine. absurd cc;
           }))
-          reads.images refl
+          reads.images (λ same. absurd cc) refl
           (λ change keyed sees. absurd (hop_goes_elsewhere hash (old change) n k sees.sound
           sees.known.1.1.0.1.leads (other sees.honest) ((sight sees.honest).1 ∙ same)))
 
@@ -105,6 +106,7 @@ module _ (hash : RecordKey → ℕ) (seat : ℕ) (key : RecordKey) (k bytes : �
           Arm (Blocked seat') (Hop depth n) (Hop depth n) locks
       is_kept_from seat' opposes = record {
         writes = read_only true pool pool' reads;
+        cause = λ fault same. absurd cc;
         aim = record {
           key = refl;
           pseudokey = refl;
@@ -163,6 +165,7 @@ module _ (hash : RecordKey → ℕ) (seat : ℕ) (key : RecordKey) (k bytes : �
           pub moves_on : Arm (Moved kinds.Hop) (Hop depth n) (Look depth m) locks'
           moves_on = record {
             writes = read_only true pool pool' reads;
+            cause = λ fault same. absurd cc;
             aim = moved_aim hash seat key k bytes value pool locks (Hop depth n) (Look depth m) kinds.Hop refl;
             row = given_back;
             progress = λ change keyed sees.

@@ -98,7 +98,7 @@ module _ (hash : RecordKey → ℕ) (seat : ℕ) (key : RecordKey) (k : ℕ) (va
         (bucket_left deeds.Put t' (store_of pool'.images) + SECOND_STEPS) pool pool'
     nears_on change sees = nears_more did (bucket_left deeds.Put t (store_of pool.images))
         (bucket_left deeds.Put t' (store_of pool'.images)) SECOND_STEPS pool pool'
-        (λ f. (fault_spares deeds.Put did pool pool' made.writes).spares f sees.honest)
+        (λ f. (fault_spares deeds.Put did pool pool' made.writes made.cause).spares f sees.honest)
         (made.progress hash change tt sees)
 
     puts : (change : Change) (before : List Lock) → HasNoFileLock before → Owns before key →
@@ -118,6 +118,7 @@ module _ (hash : RecordKey → ℕ) (seat : ℕ) (key : RecordKey) (k : ℕ) (va
         (world pool'.images locks' change)) → Inserts (First t said) (First t' said')
     goes_on said' stays says = record {
       writes = made.writes.writes;
+      cause = made.cause;
       aim = record { key = refl; pseudokey = refl; ended = made.aim.ended; stays = stays; goes = tt; lent = λ lent. tt };
       row = made.row;
       progress = λ change keyed sees. nears_on change sees;
@@ -165,6 +166,7 @@ module _ (hash : RecordKey → ℕ) (seat : ℕ) (key : RecordKey) (k : ℕ) (va
           let is = (ended_is t'.stage over).1 in
           record {
             writes = made.writes.writes;
+            cause = made.cause;
             aim = record {
               key = refl;
               pseudokey = refl;
@@ -196,6 +198,7 @@ module _ (hash : RecordKey → ℕ) (seat : ℕ) (key : RecordKey) (k : ℕ) (va
       λ keyed. ap hash inv.key_is ∙ keyed ∙ sym inv.pseudokey_is in
       record {
         writes = made.writes;
+        cause = made.cause;
         aim = record {
           key = refl;
           pseudokey = refl;

@@ -7,7 +7,7 @@ use Rattle.split_merge.specs.file_pages.Writes.{TakesRecord}
 use Rattle.hash_file.specs.Changes.{write_record}
 use Rattle.step_rules.specs.declared.kind.Kind.TheVariants as kinds
 use Rattle.record_file.proofs.WriteLemmas.{there, wrote}
-use Rattle.record_file.specs.InsertWords.{RECORD_HEAD_BYTES, ROOM_BYTES, RecordKey, pair, Put, PoolState, IsDevicesFault, Table, Lock, Exclusive, kind_of, held, guard_of, store_of, IsFilePool, OnlyWrites, Moved, Fault, World, IsPut, Write, GiveBackPage}
+use Rattle.record_file.specs.InsertWords.{RECORD_HEAD_BYTES, ROOM_BYTES, RecordKey, pair, Put, PoolState, FileHasCause, IsDevicesFault, Table, Lock, Exclusive, kind_of, held, guard_of, store_of, IsFilePool, OnlyWrites, Moved, Fault, World, IsPut, Write, GiveBackPage}
 use Rattle.record_file.proofs.InsertCallerLemmas.{guard_aside, one_aside}
 use Rattle.record_file.proofs.MoveLemmas.{Makes, moved_aim, same_row, faulted}
 
@@ -20,6 +20,7 @@ module _ (hash : RecordKey → ℕ) (seat : ℕ) (key : RecordKey) (k bytes : �
       locks
   is_put writes is = record {
     writes = writes;
+    cause = λ fault same. absurd cc;
     aim = moved_aim hash seat key k bytes value pool locks (Write n used) (GiveBackPage n IsPut) kinds.WriteRecord refl;
     row = same_row hash seat key k bytes value pool locks (Write n used) (GiveBackPage n IsPut) (λ before. refl);
     progress = λ change keyed sees. omega arith;
@@ -45,12 +46,12 @@ module _ (hash : RecordKey → ℕ) (seat : ℕ) (key : RecordKey) (k bytes : �
   }
 
   pub not_put : (fault : FileFault) → OnlyWrites false pool pool' →
-      (IsTrue pool.honest → pool'.images ≡ pool.images) →
+      (IsTrue pool.honest → pool'.images ≡ pool.images) → FileHasCause pool pool' fault →
       (IsTrue pool.honest → IsFilePool pool → TakesRecord n key (length value) (store_of pool.images) →
       IsDevicesFault pool pool' fault) →
       Makes hash seat key k bytes value pool locks (Fault fault) (Write n used) (Write n used) pool' locks
-  not_put fault writes spares risen =
-      faulted hash seat key k bytes value pool locks (Write n used) fault pool' writes spares refl
+  not_put fault writes spares cause risen =
+      faulted hash seat key k bytes value pool locks (Write n used) fault pool' writes spares cause refl
       (λ change keyed sees. risen sees.honest sees.file (record {
         there = there hash seat _ pool locks change sees n k sees.known.1.0 sees.known.1.1.0;
         absent = sees.known.1.1.1.0.1;

@@ -1,13 +1,13 @@
 -- What the machine of each kind promises of its step is what an operation does.
-use Rattle.std.proofs.Common.{◌≡◌, refl, sym, ap, ◌∙◌, ℕ, true, false, not, List, inl, length}
+use Rattle.std.proofs.Common.{◌≡◌, refl, sym, ap, ◌∙◌, ℕ, true, false, List, inl}
 use Rattle.std.proofs.lemmas.Bool.{true≢false}
 use Rattle.record_file.proofs.OperationNames.{FileFault, MakesOperation, Stays-of}
-use Rattle.record_file.specs.OperationWords.{RecordKey, pair, PoolState, Table, Lock, Change, row_of, store_of, OnlyWrites, WritesOrSpares, Progress, Moved, Blocked, Fault, Ended, WriteRecord, is_fault, HasNoFileLock, Nears, Sees, Step, FollowsRow, NearsOrSpares, world, Owns, FindsAt, SaysAt, TurnsAwayAt, TurnsAwayIn}
+use Rattle.record_file.specs.OperationWords.{RecordKey, PoolState, Table, Lock, Change, row_of, store_of, WritesOrSpares, Progress, Moved, Blocked, Fault, Ended, WriteRecord, is_fault, HasNoFileLock, Nears, Sees, Step, FollowsRow, NearsOrSpares, world, Owns, FindsAt, TurnsAwayAt, TurnsAwayIn}
 use Rattle.record_file.specs.OperationWords.{BucketView, MakesBucket, bucket_left, found_of}
 use Rattle.record_file.specs.declared.bucket_access.Deed.TheVariants as deeds
 use Rattle.record_file.proofs.StepLemmas.{leaves_search}
 use Rattle.record_file.specs.OperationWords.{DeleteView, KeepsDelete, delete_facts, delete_left, delete_locks, delete_turn}
-use Rattle.record_file.specs.OperationWords.{InsertView, KeepsInsert, insert_facts, insert_left, insert_locks, insert_turn, said_of, RecordOperation, Find, Insert, Replace, Delete}
+use Rattle.record_file.specs.OperationWords.{InsertView, MakesInsert, RecordOperation, Find, Insert, Replace, Delete}
 
 -- a fault of the device, by which no page has changed
 nears_or_spares : (did : Progress FileFault) (left left' : ℕ) (pool pool' : PoolState) →
@@ -30,6 +30,7 @@ module _ (hash : RecordKey → ℕ) (seat : ℕ) (bytes : List ℕ) (did : Progr
       Makes (Find f) (Find f')
   find_makes f f' made = record {
     writes = record { writes = made.writes.writes; spares = made.writes.spares (λ may. may) };
+    cause = made.cause;
     aim = record {
       key = made.aim.key;
       pseudokey = made.aim.pseudokey;
@@ -49,41 +50,33 @@ module _ (hash : RecordKey → ℕ) (seat : ℕ) (bytes : List ℕ) (did : Progr
         record { found = (made.answer hash change keyed sees fine).0; tried = tt; turns_away = tt };
   }
 
-  pub insert_makes : (i i' : InsertView) → OnlyWrites (not (is_fault did)) pool pool' →
-      KeepsInsert (length bytes) did i i' → FollowsRow seat (insert_locks i) (insert_locks i') locks locks' →
-      ((change : Change) → hash i.key ≡ i.pseudokey → Sees hash seat (insert_facts i) pool locks change →
-      NearsOrSpares did (insert_left i (store_of pool.images)) (insert_left i' (store_of pool'.images)) pool pool') →
-      ((change : Change) (before : List Lock) → HasNoFileLock before → Owns before i.key →
-      row_of locks seat ≡ insert_locks i before → hash i.key ≡ i.pseudokey →
-      Sees hash seat (insert_facts i) pool locks change → is_fault did ≡ false →
-      Step hash seat (insert_turn i bytes) did (insert_facts i') pool pool' locks locks' change) →
-      ((change : Change) → hash i.key ≡ i.pseudokey → Sees hash seat (insert_facts i) pool locks change →
-      is_fault did ≡ false →
-      SaysAt hash seat did (pair i.key bytes) (said_of i.stage) (said_of i'.stage) (world pool.images locks change)
-      (world pool'.images locks' change)) →
+  pub insert_makes : (i i' : InsertView) → MakesInsert hash seat bytes did i i' pool pool' locks locks' →
       Makes (Insert i) (Insert i')
-  insert_makes i i' writes aim row progress step answer = record {
-    writes = record { writes = writes; spares = λ honest. tt };
+  insert_makes i i' made = record {
+    writes = record { writes = made.writes; spares = λ honest. tt };
+    cause = made.cause;
     aim = record {
-      key = aim.key;
-      pseudokey = aim.pseudokey;
-      ended = aim.ended;
-      stays = Stays-of (λ (x : InsertView). Insert x) did i i' aim.stays;
-      lent = aim.lent;
+      key = made.aim.key;
+      pseudokey = made.aim.pseudokey;
+      ended = made.aim.ended;
+      stays = Stays-of (λ (x : InsertView). Insert x) did i i' made.aim.stays;
+      lent = made.aim.lent;
       leaves = tt;
-      kind = aim;
+      kind = made.aim;
     };
-    row = row;
-    progress = λ change keyed suits sees. progress change keyed sees;
-    step = λ change before bare owns here keyed suits sees fine. step change before bare owns here keyed sees fine;
+    row = made.row;
+    progress = λ change keyed suits sees. made.progress change keyed sees;
+    step = λ change before bare owns here keyed suits sees fine.
+        made.step change before bare owns here keyed sees fine;
     answer = λ change keyed sees fine.
-        record { found = inl refl; tried = answer change keyed sees fine; turns_away = tt };
+        record { found = inl refl; tried = made.answer change keyed sees fine; turns_away = tt };
   }
 
   pub replace_makes : (r r' : BucketView) → MakesBucket deeds.Replace seat bytes did r r' pool pool' locks locks' →
       Makes (Replace r) (Replace r')
   replace_makes r r' made = record {
     writes = record { writes = made.writes.writes; spares = λ honest other. made.writes.spares other honest };
+    cause = made.cause;
     aim = record {
       key = made.aim.key;
       pseudokey = made.aim.pseudokey;
@@ -122,6 +115,7 @@ module _ (hash : RecordKey → ℕ) (seat : ℕ) (bytes : List ℕ) (did : Progr
       Makes (Delete d) (Delete d')
   delete_makes d d' writes aim row progress step answer = record {
     writes = record { writes = writes.writes; spares = λ honest failed. writes.spares failed honest };
+    cause = writes.cause;
     aim = record {
       key = aim.key;
       pseudokey = aim.pseudokey;

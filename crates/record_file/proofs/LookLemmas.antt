@@ -5,6 +5,7 @@ use Rattle.std.specs.Prelude.{IsTrue}
 use Rattle.bucket_page.proofs.Steps.{length-pair}
 use Rattle.directory.specs.declared.range.Range.{Range}
 use Rattle.directory.specs.Ranges.{Covers}
+use Rattle.split_merge.specs.file_pages.declared.fault.FileFault.TheVariants.{Failed}
 use Rattle.split_merge.specs.file_pages.declared.sight.Sight.TheVariants.{Covering as SeesCovering, Naming}
 use Rattle.split_merge.proofs.of_file_pages.ReadLemmas.{devices_after, reads_on}
 use Rattle.split_merge.proofs.of_file_pages.StoreLemmas.{layout_is}
@@ -12,11 +13,12 @@ use Rattle.step_rules.specs.declared.kind.Kind.TheVariants as kinds
 use Rattle.step_rules.specs.Words.{IsBucketOf}
 use Rattle.step_rules.proofs.AnswerLemmas.{look_may_tell}
 use Rattle.step_rules.proofs.LockLemmas.{IsHeld-writer}
+use Rattle.split_merge.proofs.of_stale_search.CauseLemmas.{cause_after}
 use Rattle.split_merge.proofs.of_stale_search.WayLemmas.{leads_in_file}
 use Rattle.record_file.proofs.of_split_merge.BuddyFacts.{live_page, seen_shape, seen_used, seen_depth}
 use Rattle.record_file.proofs.of_split_merge.MoveLemmas.{read_only}
 use Rattle.split_merge.specs.declared.place.SplitPlace.TheVariants.{TakePage}
-use Rattle.record_file.specs.InsertWords.{RECORD_HEAD_BYTES, ROOM_BYTES, GREATEST_DEPTH, RecordKey, pair, lookup, PoolState, IsDevicesFault, Table, Store, Lock, HasNoFileLock, row_of, Page, Directory, Change, Answers, range_at, store_of, records_at, IsFilePool, OnlyReads, Progress, Moved, Fault, World, Sees, SplitView, IsThere, IsFull, SecondPlace, Look, Hop, Write, Splitting, GiveBackPage}
+use Rattle.record_file.specs.InsertWords.{RECORD_HEAD_BYTES, ROOM_BYTES, GREATEST_DEPTH, RecordKey, pair, lookup, PoolState, FileHasCause, IsDevicesFault, Table, Store, Lock, HasNoFileLock, row_of, Page, Directory, Change, Answers, range_at, store_of, records_at, IsFilePool, OnlyReads, Progress, Moved, Fault, World, Sees, SplitView, IsThere, IsFull, SecondPlace, Look, Hop, Write, Splitting, GiveBackPage}
 use Rattle.record_file.specs.SecondTries.{facts_at, locks_at, second_turn, splits_left}
 use Rattle.record_file.proofs.HomeLemmas.{home_on, look_here, look_on, look_is_more}
 use Rattle.record_file.proofs.MoveLemmas.{Makes, IfSeen, view_at, was, read, faulted}
@@ -53,11 +55,12 @@ module _ (hash : RecordKey → ℕ) (seat : ℕ) (key : RecordKey) (k bytes : �
       fault there.behind there.within there.on_way
 
   pub not_looked : (fault : FileFault) (pool' : PoolState) → OnlyReads false pool pool' →
+      FileHasCause pool pool' fault →
       (IsTrue pool.honest → IsFilePool pool → ROOT_PAGE ≤ n → n < length pool.images →
       IsOnWay (page_at (store_of pool.images) n) → IsDevicesFault pool pool' fault) →
       Arm (Fault fault) (Look depth n) (Look depth n) pool' locks
-  not_looked fault pool' reads risen = faulted hash seat key k bytes value pool locks (Look depth n) fault pool'
-      (read_only false pool pool' reads) reads.images refl
+  not_looked fault pool' reads cause risen = faulted hash seat key k bytes value pool locks (Look depth n) fault pool'
+      (read_only false pool pool' reads) reads.images cause refl
       (λ change keyed sees. is_read change keyed sees (risen sees.honest sees.file))
 
   -- another page is named
@@ -107,14 +110,15 @@ module _ (hash : RecordKey → ℕ) (seat : ℕ) (key : RecordKey) (k bytes : �
   -- the key is not there, and the page is read again for its bytes
   module _ (pool1 pool2 : PoolState) (first : OnlyReads true pool pool1)
       (sight : IsTrue pool.honest → IsSight (SeesCovering None) (page_at (store_of pool.images) n) k key) where
-    pub not_read : (fault : FileFault) → OnlyReads false pool1 pool2 →
+    pub not_read : (fault : FileFault) → OnlyReads false pool1 pool2 → FileHasCause pool1 pool2 fault →
         (IsTrue pool1.honest → IsFilePool pool1 → ROOT_PAGE ≤ n → n < length pool1.images →
         is_bucket (page_at (store_of pool1.images) n) ≡ true → IsDevicesFault pool1 pool2 fault) →
         Arm (Fault fault) (Look depth n) (Look depth n) pool2 locks
-    not_read fault second risen =
+    not_read fault second cause risen =
         let reads = reads_on false pool pool1 pool2 first second in
         faulted hash seat key k bytes value pool locks (Look depth n) fault pool2
-        (read_only false pool pool2 reads) reads.images refl
+        (read_only false pool pool2 reads) reads.images
+        (cause_after pool pool1 pool2 fault first.later cause) refl
         (λ change keyed sees.
         let same = sym (first.images sees.honest) in
         let live = live_page hash pool.images locks change n sees.sound sees.known.1.1.1.0.1 in
@@ -209,9 +213,9 @@ module _ (hash : RecordKey → ℕ) (seat : ℕ) (key : RecordKey) (k bytes : �
             })
 
         -- the directory is no deeper than one can be
-        pub is_too_deep : (fault : FileFault) → GREATEST_DEPTH < depth →
-            Arm (Fault fault) (Look depth n) (Look depth n) pool2 locks
-        is_too_deep fault deep = faulted hash seat key k bytes value pool locks (Look depth n) fault pool2
+        pub is_too_deep : GREATEST_DEPTH < depth →
+            Arm (Fault Failed) (Look depth n) (Look depth n) pool2 locks
+        is_too_deep deep = faulted hash seat key k bytes value pool locks (Look depth n) Failed pool2
             (read_only false pool pool2 (record {
               ready = reads.ready;
               honest = reads.honest;
@@ -220,7 +224,7 @@ module _ (hash : RecordKey → ℕ) (seat : ℕ) (key : RecordKey) (k bytes : �
               images = reads.images;
               file = λ honest fine. absurd cc;
             }))
-            reads.images refl
+            reads.images (λ same. absurd cc) refl
             (λ change keyed sees. absurd (let far : ⊥ = omega (
               arith,
               deep,

@@ -16,10 +16,11 @@ use Rattle.step_rules.proofs.LockLemmas.{IsHeld-some}
 use Rattle.step_rules.proofs.LockStepLemmas.{KeepsOthers-same, none_busy}
 use Rattle.step_rules.proofs.MachineLemmas.{AllKnown-relocked}
 use Rattle.step_rules.proofs.SearchLemmas.{no_way}
+use Rattle.split_merge.proofs.of_stale_search.CauseLemmas.{told_cause}
 use Rattle.split_merge.proofs.of_stale_search.StepLemmas.{read as read_page}
 use Rattle.record_file.proofs.of_split_merge.MoveLemmas.{nothing_written, read_only}
 use Rattle.record_file.proofs.of_split_merge.MergeRowLemmas.{held_last, without_last}
-use Rattle.record_file.specs.InsertWords.{RecordKey, pair, PoolState, IsDevicesFault, Table, IsSeat, Lock, LockKind, Selective, Exclusive, LockName, Directory, Page, Change, Quiet, kind_of, lock_of, row_of, held, with_row, without, without_lock, store_of, IsReady, OnlyReads, OnlyWrites, Progress, Moved, Fault, Ended, World, AllKnown, HasNoFileLock, world, Sees, Tried, SecondPlace, HasEnded}
+use Rattle.record_file.specs.InsertWords.{RecordKey, pair, PoolState, FileHasCause, IsDevicesFault, Table, IsSeat, Lock, LockKind, Selective, Exclusive, LockName, Directory, Page, Change, Quiet, kind_of, lock_of, row_of, held, with_row, without, without_lock, store_of, IsReady, OnlyReads, OnlyWrites, Progress, Moved, Fault, Ended, World, AllKnown, HasNoFileLock, world, Sees, Tried, SecondPlace, HasEnded}
 use Rattle.record_file.specs.SecondTries.{SecondTryView, ask_at, locks_at, facts_at, left_at, said_at, tried_at, second_turn}
 use Rattle.record_file.proofs.FactLemmas.{second_knows_no_way}
 use Rattle.record_file.specs.SecondSteps.{KeepsSecondTry, MakesStep, SaysAt}
@@ -81,6 +82,7 @@ module _ (hash : RecordKey → ℕ) (seat : ℕ) (key : RecordKey) (k bytes : �
       Makes (Moved kind) place place' pool' locks
   read place place' kind pool' reads going same known does falls says = record {
     writes = read_only true pool pool' reads;
+    cause = λ fault same. absurd cc;
     aim = moved_aim place place' kind going;
     row = same_row place place' same;
     progress = λ change keyed sees. subst (λ (images : List (List ℕ)).
@@ -98,10 +100,11 @@ module _ (hash : RecordKey → ℕ) (seat : ℕ) (key : RecordKey) (k bytes : �
 
   -- the device failed
   pub faulted : (place : SecondPlace) (fault : FileFault) (pool' : PoolState) → OnlyWrites false pool pool' →
-      (IsTrue pool.honest → pool'.images ≡ pool.images) → tried_at place ≡ None →
+      (IsTrue pool.honest → pool'.images ≡ pool.images) → FileHasCause pool pool' fault → tried_at place ≡ None →
       IfSeen place (λ change. IsDevicesFault pool pool' fault) → Makes (Fault fault) place place pool' locks
-  faulted place fault pool' writes spares going risen = record {
+  faulted place fault pool' writes spares cause going risen = record {
     writes = writes;
+    cause = told_cause fault pool pool' cause;
     aim = record {
       key = refl;
       pseudokey = refl;
@@ -131,6 +134,7 @@ module _ (hash : RecordKey → ℕ) (seat : ℕ) (key : RecordKey) (k bytes : �
   released place place' name kind locks' tried going said said' ends fresh ready seated is quiet done known anchored
       falls = record {
         writes = nothing_written pool ready;
+        cause = λ fault same. absurd cc;
         aim = moved_aim place place' kinds.Release going;
         row = given_back;
         progress = λ change keyed sees. falls (store_of pool.images);
@@ -183,6 +187,7 @@ module _ (hash : RecordKey → ℕ) (seat : ℕ) (key : RecordKey) (k bytes : �
   pub ended : (tried : Tried) → IsReady pool → Makes Ended (HasEnded tried) (HasEnded tried) pool locks
   ended tried ready = record {
     writes = nothing_written pool ready;
+    cause = λ fault same. absurd cc;
     aim = record {
       key = refl;
       pseudokey = refl;

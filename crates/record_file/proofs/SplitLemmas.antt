@@ -1,5 +1,5 @@
 -- The steps of a split, and the look after it.
-use Rattle.std.proofs.Common.{◌≡◌, refl, sym, ap, ◌∙◌, subst, ℕ, suc, ◌+◌, ◌<◌, true, false, not, List, length, arith, inl, inr}
+use Rattle.std.proofs.Common.{◌≡◌, refl, sym, ap, ◌∙◌, subst, ℕ, suc, ◌+◌, ◌<◌, true, false, List, length, arith, inl, inr}
 use Rattle.std.proofs.lemmas.Bool.{true≢false}
 use Rattle.directory.specs.declared.range.Range.{Range}
 use Rattle.split_merge.specs.file_pages.declared.fault.FileFault.{FileFault}
@@ -13,7 +13,7 @@ use Rattle.step_rules.specs.Turns.{DoesTied, TurnsAt}
 use Rattle.split_merge.specs.Splits.{FullMeans, IsWanted, KeepsAim, Progresses, locks_at as split_locks_at, facts_at as split_facts_at, split_turn}
 use Rattle.split_merge.specs.declared.place.SplitPlace.{SplitPlace}
 use Rattle.split_merge.specs.declared.place.SplitPlace.TheVariants.{SetCounts, Done, Full}
-use Rattle.record_file.specs.InsertWords.{RecordKey, Pair, pair, PoolState, Table, Lock, Change, range_at, next_at, row_of, with_row, store_of, OnlyWrites, Progress, Moved, Blocked, Fault, Ended, World, AllKnown, is_fault, EndsRow, HasNoFileLock, Stays, world, Sees, Step, SplitView, split_locks, split_facts, split_left, has_ended, Wanted, IsFull, SecondPlace, Look, Splitting, GiveBackDirectory}
+use Rattle.record_file.specs.InsertWords.{RecordKey, Pair, pair, PoolState, Table, Lock, Change, range_at, next_at, row_of, with_row, store_of, Progress, Moved, Blocked, Fault, Ended, World, AllKnown, is_fault, EndsRow, HasNoFileLock, Stays, WritesPages, world, Sees, Step, SplitView, split_locks, split_facts, split_left, has_ended, Wanted, IsFull, SecondPlace, Look, Splitting, GiveBackDirectory}
 use Rattle.record_file.specs.SecondTries.{IsSplitFor, splits_left, look_left, near_facts, locks_at, on_one}
 use Rattle.record_file.specs.SecondSteps.{KeepsSecondTry, NearsOrSpares}
 use Rattle.record_file.proofs.HomeLemmas.{look_at_depth}
@@ -40,7 +40,7 @@ stays_by Ended v v' old new aim same = same aim.goes
 module _ (hash : RecordKey → ℕ) (seat : ℕ) (key : RecordKey) (k bytes : ℕ) (value : List ℕ) (pool pool' : PoolState)
     (locks locks' : Table) (n : ℕ) (v v' : SplitView) (did : Progress FileFault)
     (for : IsSplitFor (record { key = key; pseudokey = k; bytes = bytes }) n v) (lent : length value ≡ bytes)
-    (writes : OnlyWrites (not (is_fault did)) pool pool') (aim : KeepsAim did v v')
+    (writes : WritesPages did pool pool') (aim : KeepsAim did v v')
     (row : (before : List Lock) → HasNoFileLock before → row_of locks seat ≡ split_locks v before →
     locks' ≡ with_row locks seat (split_locks v' before))
     (nears : (change : Change) → Sees hash seat (split_facts v) pool locks change → Progresses did v v' pool pool')
@@ -90,7 +90,8 @@ module _ (hash : RecordKey → ℕ) (seat : ℕ) (key : RecordKey) (k bytes : �
   -- it goes on
   pub goes_on : Arm (Splitting n v')
   goes_on = record {
-    writes = writes;
+    writes = writes.writes;
+    cause = writes.cause;
     aim = aim_to (Splitting n v') (λ same. ap (Splitting n) same);
     row = row;
     progress = λ change keyed sees. nears_by did v v' _ _ pool pool'
@@ -104,7 +105,8 @@ module _ (hash : RecordKey → ℕ) (seat : ℕ) (key : RecordKey) (k bytes : �
   -- no page was free
   pub is_full : v'.place ≡ Full → Arm (GiveBackDirectory IsFull)
   is_full is = record {
-    writes = writes;
+    writes = writes.writes;
+    cause = writes.cause;
     aim = aim_to (GiveBackDirectory IsFull) (λ same. absurd (not_there (ap has_ended is) same));
     row = λ before bare here. row before bare here
         ∙ ap (λ (p : SplitPlace). with_row locks seat (split_locks_at p v'.page before)) is;
@@ -169,7 +171,8 @@ module _ (hash : RecordKey → ℕ) (seat : ℕ) (key : RecordKey) (k bytes : �
   pub is_split : EndsRow (locks_at (Splitting n v)) 3 (row_of locks seat) → v'.place ≡ Done →
       Arm (Look v'.depth n)
   is_split here is = record {
-    writes = writes;
+    writes = writes.writes;
+    cause = writes.cause;
     aim = aim_to (Look v'.depth n) (λ same. absurd (not_there (ap has_ended is) same));
     row = λ before bare there. row before bare there
         ∙ ap (λ (p : SplitPlace). with_row locks seat (split_locks_at p v'.page before)) is

@@ -10,10 +10,11 @@ use Rattle.split_merge.specs.stale_search.Steps.{Advances, FollowsRow, MakesStep
 use Rattle.split_merge.specs.stale_search.declared.place.SearchPlace.{SearchPlace}
 use Rattle.split_merge.specs.stale_search.declared.place.SearchPlace.TheVariants.{Found}
 use Rattle.split_merge.proofs.MoveLemmas.{nothing_written, read_only}
+use Rattle.split_merge.proofs.of_stale_search.CauseLemmas.{told_cause}
 use Rattle.split_merge.proofs.of_stale_search.StayLemmas.{Stays-of}
 use Rattle.page_locks.proofs.ChangeLemmas.{with_row-own}
 use Rattle.step_rules.proofs.LockStepLemmas.{KeepsOthers-same}
-use Rattle.record_file.specs.Words.{RecordKey, Table, IsSeat, Lock, Selective, Page, Change, Store, IsDevicesFault, IsReady, OnlyReads, OnlyWrites, Progress, Moved, Fault, Ended, Release, WriteRecord, World, AllKnown, is_fault, row_of, with_row, without_lock, store_of, SearchView, search_facts, search_locks, found_at, steps_left, HasNoFileLock, Sees, Step, WritesOrSpares, on_page, world}
+use Rattle.record_file.specs.Words.{RecordKey, Table, IsSeat, Lock, Selective, Page, Change, Store, FileHasCause, IsDevicesFault, IsReady, OnlyReads, OnlyWrites, Progress, Moved, Fault, Ended, Release, WriteRecord, World, AllKnown, is_fault, row_of, with_row, without_lock, store_of, SearchView, search_facts, search_locks, found_at, steps_left, HasNoFileLock, ReadsPages, Sees, Step, StepHasCause, WritesOrSpares, on_page, world}
 use Rattle.record_file.specs.Writers.{LeavesSearch, Owns, TellsNone, seen_at, seen_of}
 use Rattle.record_file.specs.BucketAccesses.{BucketView, OwnsWritten, SuitsFile, SuitsKind, bucket_facts, bucket_left, bucket_locks, bucket_turn, found_of, has_ended, has_searched, seen_by, steps_behind}
 use Rattle.record_file.specs.BucketSteps.{GivesBack, MakesBucket, MayWritePages, Passes, TellsDue, WritesOnce}
@@ -123,9 +124,10 @@ faults_write_none deeds.Replace did failed wrote = true≢false (sym failed ∙ 
 faults_write_none deeds.Remove did failed wrote = true≢false (sym failed ∙ ap is_fault wrote)
 
 pub fault_spares : (deed : Deed) (did : Progress FileFault) (pool pool' : PoolState) → WritesOnce deed did pool pool' →
-    WritesOrSpares did pool pool'
-fault_spares deed did pool pool' once = record {
+    StepHasCause did pool pool' → WritesOrSpares did pool pool'
+fault_spares deed did pool pool' once cause = record {
   writes = once.writes;
+  cause = cause;
   spares = λ failed honest. once.spares (faults_write_none deed did failed) honest;
 }
 
@@ -137,7 +139,7 @@ module _ (deed : Deed) (seat : ℕ) (bytes : List ℕ) (pool pool' : PoolState) 
 
   -- its search goes on
   pub searches_on : (did : Progress FileFault) (v v' : SearchView) (locks' : Table) → found_at v.place ≡ None →
-      SuitsKind deed v.kind → OnlyReads (not (is_fault did)) pool pool' → KeepsAim did pool v v' →
+      SuitsKind deed v.kind → ReadsPages did pool pool' → KeepsAim did pool v v' →
       FollowsRow seat (search_locks v) (search_locks v') locks locks' →
       Advances seat (search_facts v) did (steps_left v (store_of pool.images)) (steps_left v' (store_of pool'.images))
       pool pool' locks →
@@ -145,9 +147,10 @@ module _ (deed : Deed) (seat : ℕ) (bytes : List ℕ) (pool pool' : PoolState) 
       GivesAnswer seat did v v' pool locks → Makes did (searching v) (searching v') locks'
   searches_on did v v' locks' none kind reads aim row near step answer = record {
     writes = record {
-      writes = read_only (not (is_fault did)) pool pool' reads;
-      spares = λ other honest. reads.images honest;
+      writes = read_only (not (is_fault did)) pool pool' reads.reads;
+      spares = λ other honest. reads.reads.images honest;
     };
+    cause = reads.cause;
     aim = record {
       key = aim.key;
       pseudokey = aim.pseudokey;
@@ -212,6 +215,7 @@ module _ (deed : Deed) (seat : ℕ) (bytes : List ℕ) (pool pool' : PoolState) 
       writes = read_only true pool pool' reads;
       spares = λ other honest. reads.images honest;
     };
+    cause = λ fault same. absurd cc;
     aim = record {
       key = refl;
       pseudokey = refl;
@@ -291,6 +295,7 @@ module _ (deed : Deed) (seat : ℕ) (bytes : List ℕ) (pool pool' : PoolState) 
           Makes (Moved WriteRecord) (searching v) (record { search = v; stage = Written page due }) locks
       has_written due kind writes wrote tells = record {
         writes = record { writes = writes; spares = λ other honest. absurd (other (writes_pages deed writer)) };
+        cause = λ fault same. absurd cc;
         aim = record {
           key = refl;
           pseudokey = refl;
@@ -320,12 +325,13 @@ module _ (deed : Deed) (seat : ℕ) (bytes : List ℕ) (pool pool' : PoolState) 
 
       -- it is not, for a fault of the device
       pub has_failed : (fault : FileFault) → OnlyWrites false pool pool' →
-          (IsTrue pool.honest → pool'.images ≡ pool.images) →
+          (IsTrue pool.honest → pool'.images ≡ pool.images) → FileHasCause pool pool' fault →
           ((hash : RecordKey → ℕ) (change : Change) → SuitsFile deed hash (store_of pool.images) v bytes →
           Sees hash seat (seen_at (Found page found) v.key v.pseudokey) pool locks change →
           IsDevicesFault pool pool' fault) → Makes (Fault fault) (searching v) (searching v) locks
-      has_failed fault writes spares devices = record {
+      has_failed fault writes spares cause devices = record {
         writes = record { writes = writes; spares = λ other honest. spares honest };
+        cause = told_cause fault pool pool' cause;
         aim = record {
           key = refl;
           pseudokey = refl;
@@ -350,6 +356,7 @@ pub is_over : (deed : Deed) (seat : ℕ) (bytes : List ℕ) (pool : PoolState) (
     (record { search = v; stage = HasEnded due }) pool pool locks locks
 is_over deed seat bytes pool locks v due ready answered = record {
   writes = record { writes = nothing_written pool ready; spares = λ other honest. refl };
+  cause = λ fault same. absurd cc;
   aim = record {
     key = refl;
     pseudokey = refl;

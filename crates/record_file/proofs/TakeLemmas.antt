@@ -1,13 +1,14 @@
 -- What an access takes from the page that answered, after the Look of its operation.
-use Rattle.std.proofs.Common.{◌≡◌, refl, sym, ap, ◌∙◌, subst, ℕ, ◌<◌, Bool, true, false, not, ◌&&◌, List, length, inl, inr, ◌⊎◌, Option, Some, None, IsSome, IsTrue, IsOk, Result, Ok, Err, is_ok, if◌then◌else◌, arith}
+use Rattle.std.proofs.Common.{◌≡◌, refl, sym, ap, ◌∙◌, subst, ℕ, ◌<◌, Bool, true, false, not, ◌&&◌, List, length, inl, inr, ◌⊎◌, Option, Some, None, IsSome, IsTrue, IfErr, IsOk, Result, Ok, Err, is_ok, if◌then◌else◌, arith}
 use Rattle.std.proofs.lemmas.Bool.{true≢false}
 use Rattle.std.specs.Option.{option_map}
 use Rattle.bucket_page.specs.Records.{lookup}
 use Rattle.file_pages.proofs.ReadLemmas.{devices_after}
-use Rattle.file_pages.specs.Fault.{IsDevicesFault}
+use Rattle.file_pages.specs.Fault.{FileHasCause, IsDevicesFault}
+use Rattle.record_file.proofs.of_stale_search.CauseLemmas.{cause_after, told_cause}
 use Rattle.hash_file.specs.Store.{has_bucket, records_at}
 use Rattle.record_file.specs.Machines.{FindsAt, IsFoundAtLook}
-use Rattle.record_file.specs.OperationSteps.{SparesPages}
+use Rattle.record_file.specs.OperationSteps.{SparesPages, TurnsAwayOf}
 use Rattle.record_file.specs.declared.operation.RecordOperation.TheVariants as operations
 use Rattle.file_pages.specs.Files.{IsFilePool}
 use Rattle.record_file.specs.step_rules.Does.{KeepsOthers}
@@ -202,7 +203,7 @@ module _ {X : Type 0} (hash : RecordKey → ℕ) (seat : ℕ) (did : Progress Fi
         by (inl was) (inl is) = inl (ap answer_in same_op ∙ is ∙ sym was)
 
     abbrev Tells : AccessView → Type 0
-    Tells b = TellsOf hash did p found a b (world pool.images locks change) (world pool'.images locks' change)
+    Tells b = TellsOf hash seat did p found a b (world pool.images locks change) (world pool'.images locks' change)
 
     lacks_new : new.written ≡ a.written → has_no_room a ≡ false → has_no_room new ≡ true →
         HasNoRoom hash (pair (access_key a) a.bytes) (world pool'.images locks' change)
@@ -248,6 +249,9 @@ module _ {X : Type 0} (hash : RecordKey → ℕ) (seat : ℕ) (did : Progress Fi
           sets_out = λ kind moved. ap set_out_in same_op
               ∙ past hash seat did a o' pool pool' locks locks' op p found change f fine kind moved;
           lacks = lacks_new t.written;
+          turns_away = subst (λ (o : RecordOperation). TurnsAwayOf hash seat a.operation o
+              (world pool'.images locks' change)) (sym same_op)
+              (told hash seat did a o' pool pool' locks locks' op p found change f fine).turns_away;
         }
       where
         well : (r : Result X FileFault) → IsOk r → TakesWell r p found pool' pool'' new →
@@ -297,6 +301,8 @@ module _ {X : Type 0} (hash : RecordKey → ℕ) (seat : ℕ) (did : Progress Fi
       file = λ honest done f. t.reads.file (honest_on honest) (subst IsTrue (sym well) refl)
           (op.writes.writes.file honest done f);
     };
+    cause = λ fault same. absurd
+        (let clash : ◌≡◌ {A = Progress FileFault} (Moved Look) (Fault fault) = sym looked ∙ same in cc);
     aim = record {
       key = ap operation_key same_op ∙ op.aim.key;
       pseudokey = ap operation_pseudokey same_op ∙ op.aim.pseudokey;
@@ -323,7 +329,7 @@ module _ {X : Type 0} (hash : RecordKey → ℕ) (seat : ℕ) (did : Progress Fi
         (step_on hash seat (access_turn a (store_of pool.images)) did (operation_facts o') pool pool' pool'' locks
         locks' change images (t.reads.file (honest_on f.sees.honest) (subst IsTrue (sym well) refl) s.file) s);
     answer = λ p found change f fine'.
-        subst (λ (images : List (List ℕ)). TellsOf hash did p found a new (world pool.images locks change)
+        subst (λ (images : List (List ℕ)). TellsOf hash seat did p found a new (world pool.images locks change)
         (world images locks' change)) (sym (images_on f.sees.honest)) (tells_new p found change f ok);
   }
 
@@ -339,6 +345,8 @@ module _ {X : Type 0} (hash : RecordKey → ℕ) (seat : ℕ) (did : Progress Fi
       stored = t.reads.stored ∙ op.writes.writes.stored;
       file = λ honest done f. absurd cc;
     };
+    cause = told_cause fault pool pool'' (cause_after pool pool' pool'' fault op.writes.writes.later
+        (subst (λ (r : Result X FileFault). IfErr r (FileHasCause pool' pool'')) is t.cause));
     aim = record {
       key = ap operation_key same_op ∙ op.aim.key;
       pseudokey = ap operation_pseudokey same_op ∙ op.aim.pseudokey;

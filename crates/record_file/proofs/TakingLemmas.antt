@@ -2,7 +2,7 @@
 use Rattle.std.proofs.Common.{◌≡◌, refl, sym, ap, ◌∙◌, subst, ℕ, ◌<◌, ◌≤◌, Bool, true, false, List, length, Option, Some, None, IfSome, IsTrue, Ok, Err, arith}
 use Rattle.std.specs.Option.{option_map}
 use Rattle.file_pages.specs.Reads.{OnlyReads}
-use Rattle.file_pages.specs.Fault.{IsDevicesFault}
+use Rattle.file_pages.specs.Fault.{FileHasCause, IsDevicesFault}
 use Rattle.queue_records.proofs.RelinkLaws.{links_within}
 use Rattle.record_file.specs.declared.operation.RecordOperation.TheVariants as operations
 use Rattle.record_file.proofs.AccessNames.{FileFault}
@@ -79,6 +79,7 @@ module _ (o : RecordOperation) (links : Option Links) (old_bytes bytes : List �
       Takes (Ok x) pool pool' old new
   value_takes x reads long ok = record {
     reads = reads;
+    cause = tt;
     operation = refl;
     written = refl;
     serves = serves_find;
@@ -103,12 +104,13 @@ module _ (o : RecordOperation) (links : Option Links) (old_bytes bytes : List �
         );
   }
 
-  pub value_fails : {X : Type 0} (fault : FileFault) → OnlyReads false pool pool' →
+  pub value_fails : {X : Type 0} (fault : FileFault) → OnlyReads false pool pool' → FileHasCause pool pool' fault →
       ((r : Record) → SeesBucket page pool → value_on pool page (operation_key o) ≡ Some (value_of r) →
       len ≡ length (value_of r) → SpellsRecord r (operation_key o) (value_of r) → IsDevicesFault pool pool' fault) →
       Takes {X = X} (Err fault) pool pool' old new
-  value_fails fault reads why = record {
+  value_fails fault reads cause why = record {
     reads = reads;
+    cause = cause;
     operation = refl;
     written = refl;
     serves = serves_find;
@@ -173,6 +175,7 @@ module _ (o : RecordOperation) (links : Links) (old_bytes : List ℕ) (written :
       Takes (Ok x) pool pool' (relink_of old_bytes) (relink_of bytes)
   front_takes x bytes reads size within ok = record {
     reads = reads;
+    cause = tt;
     operation = refl;
     written = refl;
     serves = serves_relink bytes;
@@ -195,12 +198,14 @@ module _ (o : RecordOperation) (links : Links) (old_bytes : List ℕ) (written :
   }
 
   pub front_fails : {X : Type 0} (fault : FileFault) (bytes : List ℕ) → OnlyReads false pool pool' →
+      FileHasCause pool pool' fault →
       ((r : Record) → SeesBucket page pool → HasSuch links (Some r) →
       value_on pool page (operation_key o) ≡ Some (value_of r) → len ≡ length (value_of r) →
       IsDevicesFault pool pool' fault) →
       Takes {X = X} (Err fault) pool pool' (relink_of old_bytes) (relink_of bytes)
-  front_fails fault bytes reads why = record {
+  front_fails fault bytes reads cause why = record {
     reads = reads;
+    cause = cause;
     operation = refl;
     written = refl;
     serves = serves_relink bytes;

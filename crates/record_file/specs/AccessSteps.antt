@@ -3,7 +3,8 @@ use Rattle.std.specs.Prelude.{ℕ, ◌≡◌, ◌≤◌, ◌↔◌, ◌⊎◌, B
 use Rattle.record_file.specs.declared.operation.RecordOperation.TheVariants as operations
 use Rattle.record_file.specs.step_rules.declared.kind.Kind.{Kind}
 use Rattle.file_pages.specs.declared.fault.FileFault.{FileFault}
-use Rattle.record_file.specs.AccessWords.{RecordKey, pair, PoolState, Table, Lock, Change, row_of, store_of, Progress, Moved, Blocked, Ended, Look, OnlyWrites, FollowsRow, World, is_fault, HasNoFileLock, Sees, Step, world, NearsOrSpares, RecordOperation, HasEnded, IsKeyed, OwnsWritten, operation_found, HasNoRoom, Links, Record, linked_bytes}
+use Rattle.record_file.specs.AccessWords.{RecordKey, pair, PoolState, Table, Lock, Change, row_of, store_of, Progress, Moved, Blocked, Ended, Look, OnlyWrites, FollowsRow, World, is_fault, HasNoFileLock, Sees, Step, StepHasCause, world, NearsOrSpares, RecordOperation, HasEnded, IsKeyed, OwnsWritten, operation_found, HasNoRoom, Links, Record, linked_bytes}
+use Rattle.record_file.specs.OperationSteps.{TurnsAwayOf}
 use Rattle.record_file.specs.Purposes.{Purpose, StandsAt, is_write, left_by}
 use Rattle.record_file.specs.Accesses.{AccessView, Allows, HasFound, Serves, access_answer, access_facts, access_key, access_left, access_locks, access_pseudokey, access_turn, has_no_room, has_set_out}
 
@@ -72,8 +73,8 @@ FindsRecord did old new found =
     ⊎ ((did ≡ Moved Look) × (access_answer old ≡ None) × HasFound new found)
 
 -- what the step leaves at the key and tells, from one world to the other
-pub record TellsOf {F : Type 0} (hash : RecordKey → ℕ) (did : Progress F) (p : Purpose) (found : Option Record)
-    (old new : AccessView) (w w' : World) : Type 0 where
+pub record TellsOf {F : Type 0} (hash : RecordKey → ℕ) (seat : ℕ) (did : Progress F) (p : Purpose)
+    (found : Option Record) (old new : AccessView) (w w' : World) : Type 0 where
   -- there stands what stood there, or what the WriteRecord made of it
   pub stands : StandsAt w'.store (access_key old) (left_by did p found)
   pub allows : Allows p new (left_by did p found)
@@ -82,12 +83,15 @@ pub record TellsOf {F : Type 0} (hash : RecordKey → ℕ) (did : Progress F) (p
   pub sets_out : (kind : Kind) → did ≡ Moved kind → has_set_out new ≡ true
   -- an insert turns to having no room only where there is none
   pub lacks : has_no_room old ≡ false → has_no_room new ≡ true → HasNoRoom hash (pair (access_key old) old.bytes) w'
+  -- a delete turns away from its merge only at a step after which no merge can be made
+  pub turns_away : TurnsAwayOf hash seat old.operation new.operation w'
 
 -- one step at the pseudokeys that this function gives
 pub record MakesAccess (hash : RecordKey → ℕ) (seat : ℕ) (did : Progress FileFault) (old new : AccessView)
     (pool pool' : PoolState) (locks locks' : Table) : Type 0 where
   -- whatever the device gives
   pub writes : OnlyWrites (not (is_fault did)) pool pool'
+  pub cause : StepHasCause did pool pool'
   pub aim : KeepsAccess did old new
   pub row : FollowsRow seat (access_locks old) (access_locks new) locks locks'
   -- on an honest device, in a sound world
@@ -99,4 +103,4 @@ pub record MakesAccess (hash : RecordKey → ℕ) (seat : ℕ) (did : Progress F
       Step hash seat (access_turn old (store_of pool.images)) did (access_facts new) pool pool' locks locks' change
   pub answer : (p : Purpose) (found : Option Record) (change : Change) →
       Faces hash seat p found old pool locks change → is_fault did ≡ false →
-      TellsOf hash did p found old new (world pool.images locks change) (world pool'.images locks' change)
+      TellsOf hash seat did p found old new (world pool.images locks change) (world pool'.images locks' change)

@@ -5,7 +5,7 @@ use Rattle.step_rules.specs.Rooms.{TurnsAway}
 use Rattle.split_merge.specs.file_pages.declared.fault.FileFault.{FileFault}
 use Rattle.split_merge.specs.stale_search.Searches.{KeepsAim}
 use Rattle.split_merge.specs.stale_search.Steps.{FollowsRow}
-use Rattle.record_file.specs.Words.{RecordKey, pair, PoolState, Table, Lock, Change, row_of, store_of, OnlyWrites, Progress, Moved, Ended, WriteRecord, World, is_fault, HasNoFileLock, Nears, Sees, Stays, Step, world}
+use Rattle.record_file.specs.Words.{RecordKey, pair, PoolState, Table, Lock, Change, row_of, store_of, OnlyWrites, Progress, Moved, Ended, WriteRecord, World, is_fault, HasNoFileLock, Nears, Sees, Stays, Step, StepHasCause, world}
 use Rattle.record_file.specs.Machines.{FindsAt}
 use Rattle.record_file.specs.Writers.{TellsNone, TellsSome}
 use Rattle.record_file.specs.BucketAccesses.{BucketView, OwnsWritten, SuitsFile, bucket_facts, bucket_left, bucket_locks, bucket_turn, found_of, has_ended}
@@ -79,6 +79,7 @@ pub record MakesBucket (deed : Deed) (seat : ℕ) (bytes : List ℕ) (did : Prog
     (pool pool' : PoolState) (locks locks' : Table) : Type 0 where
   -- whatever the device gives
   pub writes : WritesOnce deed did pool pool'
+  pub cause : StepHasCause did pool pool'
   pub aim : KeepsBucket deed did pool old new
   pub row : FollowsRow seat (bucket_locks old) (bucket_locks new) locks locks'
   -- on an honest device, in a sound world

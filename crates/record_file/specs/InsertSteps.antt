@@ -1,7 +1,7 @@
 -- What a step of an insert does. docs/STEPS.md, "Insert, Replace, Delete".
 use Rattle.std.specs.Prelude.{ℕ, ◌≡◌, ◌↔◌, false, not, List, length, ⊤}
 use Rattle.split_merge.specs.file_pages.declared.fault.FileFault.{FileFault}
-use Rattle.record_file.specs.InsertWords.{RecordKey, pair, PoolState, Table, Lock, Change, Progress, Ended, is_fault, HasNoFileLock, row_of, store_of, OnlyWrites, Owns, FollowsRow, Stays, world, Sees, Step}
+use Rattle.record_file.specs.InsertWords.{RecordKey, pair, PoolState, Table, Lock, Change, Progress, Ended, is_fault, HasNoFileLock, row_of, store_of, OnlyWrites, Owns, FollowsRow, Stays, world, Sees, Step, StepHasCause}
 use Rattle.record_file.specs.SecondSteps.{KeepsSecondTry, NearsOrSpares, SaysAt}
 use Rattle.record_file.specs.Inserts.{InsertView, IsLent, IsOver, insert_facts, insert_left, insert_locks, insert_turn, said_of}
 use Rattle.record_file.specs.declared.insert.InsertStage.{InsertStage}
@@ -28,6 +28,7 @@ pub record MakesInsert (hash : RecordKey → ℕ) (seat : ℕ) (value : List ℕ
     (old new : InsertView) (pool pool' : PoolState) (locks locks' : Table) : Type 0 where
   -- whatever the device gives
   pub writes : OnlyWrites (not (is_fault did)) pool pool'
+  pub cause : StepHasCause did pool pool'
   pub aim : KeepsInsert (length value) did old new
   pub row : FollowsRow seat (insert_locks old) (insert_locks new) locks locks'
   -- on an honest device, in a sound world

@@ -2,7 +2,7 @@
 use Rattle.std.specs.Prelude.{ℕ, ◌≡◌, ◌↔◌, true, false, not, IsTrue, List, length, ⊤}
 use Rattle.record_file.specs.file_pages.declared.fault.FileFault.{FileFault}
 use Rattle.record_file.specs.declared.bucket_access.Deed.TheVariants as deeds
-use Rattle.record_file.specs.OperationWords.{RecordKey, pair, PoolState, Table, Lock, Change, Progress, Moved, Ended, WriteRecord, World, is_fault, HasNoFileLock, LeavesSearch, row_of, store_of, OnlyWrites, Stays, Sees, Step, FollowsRow, NearsOrSpares, world, FindsAt, SaysAt, TurnsAwayAt, TurnsAwayIn, KeepsBucket, KeepsInsert, KeepsDelete, RecordOperation, Find, Insert, Replace, Delete}
+use Rattle.record_file.specs.OperationWords.{RecordKey, pair, PoolState, Table, Lock, Change, Progress, Moved, Ended, WriteRecord, World, is_fault, HasNoFileLock, LeavesSearch, row_of, store_of, OnlyWrites, Stays, Sees, Step, StepHasCause, FollowsRow, NearsOrSpares, world, FindsAt, SaysAt, TurnsAwayAt, TurnsAwayIn, KeepsBucket, KeepsInsert, KeepsDelete, RecordOperation, Find, Insert, Replace, Delete}
 use Rattle.record_file.specs.Operations.{HasEnded, IsKeyed, MayBeLent, OwnsWritten, SuitsFile, has_searched, operation_facts, operation_found, operation_key, operation_left, operation_locks, operation_pseudokey, operation_tried, operation_turn}
 
 -- ---- whatever the device gives
@@ -62,6 +62,7 @@ pub record MakesOperation (hash : RecordKey → ℕ) (seat : ℕ) (bytes : List 
     (old new : RecordOperation) (pool pool' : PoolState) (locks locks' : Table) : Type 0 where
   -- whatever the device gives
   pub writes : LeavesPages did old pool pool'
+  pub cause : StepHasCause did pool pool'
   pub aim : KeepsOperation (length bytes) did pool old new
   pub row : FollowsRow seat (operation_locks old) (operation_locks new) locks locks'
   -- on an honest device, in a sound world

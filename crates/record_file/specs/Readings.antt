@@ -1,8 +1,8 @@
 -- What is read of the page that answered, and what an access takes of it.
-use Rattle.std.specs.Prelude.{ℕ, ◌≡◌, false, List, length, Option, Some, None, IfSome, IsSome, IsTrue, IsOk, Result, Ok, Err, is_ok, ⊤}
+use Rattle.std.specs.Prelude.{ℕ, ◌≡◌, false, List, length, Option, Some, None, IfErr, IfSome, IsSome, IsTrue, IsOk, Result, Ok, Err, is_ok, ⊤}
 use Rattle.std.specs.Option.{option_map}
 use Rattle.bucket_page.specs.Records.{lookup}
-use Rattle.file_pages.specs.Fault.{IsDevicesFault}
+use Rattle.file_pages.specs.Fault.{FileHasCause, IsDevicesFault}
 use Rattle.file_pages.specs.declared.fault.FileFault.{FileFault}
 use Rattle.file_pages.specs.Files.{IsFilePool}
 use Rattle.file_pages.specs.Reads.{OnlyReads}
@@ -71,6 +71,7 @@ TakesWell (Err fault) p found pool pool' a = IsReader p × IsDevicesFault pool p
 pub record Takes {X : Type 0} (result : Result X FileFault) (pool pool' : PoolState) (old new : AccessView) : Type 0
   where
     pub reads : OnlyReads (is_ok result) pool pool'
+    pub cause : IfErr result (FileHasCause pool pool')
     pub operation : new.operation ≡ old.operation
     pub written : new.written ≡ old.written
     pub serves : (p : Purpose) → Serves p old → Serves p new

@@ -1,7 +1,7 @@
 -- What a step of the second try of an Insert does. docs/STEPS.md, "Insert, Replace, Delete".
 use Rattle.std.specs.Prelude.{ℕ, ◌≡◌, ◌↔◌, ◌<◌, false, not, List, Option, Some, None, IsSome, ⊤}
 use Rattle.step_rules.specs.declared.kind.Kind.TheVariants as kinds
-use Rattle.record_file.specs.InsertWords.{RecordKey, Pair, pair, PoolState, Table, Lock, Change, Progress, Moved, Fault, Ended, World, is_fault, HasNoFileLock, row_of, store_of, OnlyWrites, HasNoRoom, Tells, Owns, IsSparingFault, FollowsRow, Stays, world, Sees, Step, Tried, IsPut, IsThere, IsFull}
+use Rattle.record_file.specs.InsertWords.{RecordKey, Pair, pair, PoolState, Table, Lock, Change, Progress, Moved, Fault, Ended, World, is_fault, HasNoFileLock, row_of, store_of, OnlyWrites, HasNoRoom, Tells, Owns, IsSparingFault, FollowsRow, Stays, world, Sees, Step, StepHasCause, Tried, IsPut, IsThere, IsFull}
 use Rattle.split_merge.specs.file_pages.declared.fault.FileFault.{FileFault}
 use Rattle.record_file.specs.SecondTries.{SecondTryView, second_locks, second_facts, second_turn, second_left, tried_at, said_at}
 
@@ -42,6 +42,7 @@ pub record MakesStep (hash : RecordKey → ℕ) (seat : ℕ) (value : List ℕ) 
     (old new : SecondTryView) (pool pool' : PoolState) (locks locks' : Table) : Type 0 where
   -- whatever the device gives
   pub writes : OnlyWrites (not (is_fault did)) pool pool'
+  pub cause : StepHasCause did pool pool'
   pub aim : KeepsSecondTry did old new
   pub row : FollowsRow seat (second_locks old) (second_locks new) locks locks'
   -- on an honest device, in a sound world

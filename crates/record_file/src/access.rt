@@ -4,10 +4,10 @@ ghost use Rattle.std.specs.Prelude.{◌≡◌, ◌≢◌, ◌≤◌, ◌↔◌, 
 ghost use Rattle.queue_records.specs.declared.layout.TheConstants.{MAX_VALUE_BYTES};
 ghost use Rattle.queue_records.specs.Range.{IsInRange};
 ghost use Rattle.xsi_inquiry.specs.Writing.{HasRange};
-ghost use Rattle.record_file.specs.AccessWords.{Change, FollowsRow, HasEnded, IsReady, IsSeat, EndsRow, Look, MayBeLent, Moved, NearsOrSpares, OnlyWrites, Record, RecordKey, Step, Write, is_fault, operation_found, operation_key, row_of, store_of, world};
-ghost use Rattle.record_file.specs.Purposes.{Purpose, ToFind, ToInsert, ToWrite, is_write};
-ghost use Rattle.record_file.specs.Accesses.{Allows, HasFound, Serves, access_answer, access_facts, access_left, access_locks, access_turn, begun, has_no_room};
-ghost use Rattle.record_file.specs.AccessSteps.{Faces, KeepsAccess, MakesAccess, TellsOf};
+ghost use Rattle.record_file.specs.AccessWords.{HasEnded, IsReady, IsSeat, EndsRow, Look, MayBeLent, Moved, Record, RecordKey, Write, operation_found, operation_key, row_of};
+ghost use Rattle.record_file.specs.Purposes.{ToFind, ToInsert, ToWrite, is_write};
+ghost use Rattle.record_file.specs.Accesses.{Allows, HasFound, Serves, access_answer, access_locks, begun, has_no_room};
+ghost use Rattle.record_file.specs.AccessSteps.{MakesAccess};
 ghost use Rattle.record_file.specs.Readings.{IsReplace, Takes};
 
 mod ahead;
@@ -229,46 +229,10 @@ impl Access {
         self.operation.has_ended()
     }
 
-    /// One step. It stands in whoever steps the access, which would else wait for what it tells to
-    /// pass through memory.
+    /// One step of its operation; where a page answers by it, that page is read. It stands in
+    /// whoever steps the access, which would else wait for what it tells to pass through memory.
     #[inline(always)]
     pub fn step<D: PageDevice, K: PseudoKey>(
-        &mut self,
-        pool: &mut Pool<D>,
-        locks: &mut LockTable,
-        keys: &K,
-        seat: u8,
-    ) -> Progress<FileFault>
-        requires seat { IsSeat locks.old seat }
-        requires ready { IsReady pool.old }
-        requires row { EndsRow (access_locks self.old) 3 (row_of locks.old seat) }
-        // whatever the device gives
-        ensures writes { OnlyWrites (not (is_fault result)) pool.old pool.new }
-        ensures aim { KeepsAccess result self.old self.new }
-        ensures row { FollowsRow seat (access_locks self.old) (access_locks self.new)
-            locks.old locks.new }
-        // on an honest device, in a sound world
-        ensures progress { (p : Purpose) (found : Option Record) (change : Change) →
-            Faces (K.of_key keys.now) seat p found self.old pool.old locks.old change →
-            NearsOrSpares result (access_left self.old (store_of pool.old.images))
-            (access_left self.new (store_of pool.new.images)) pool.old pool.new }
-        ensures step { (p : Purpose) (found : Option Record) (change : Change) →
-            Faces (K.of_key keys.now) seat p found self.old pool.old locks.old change →
-            is_fault result ≡ false → Step (K.of_key keys.now) seat
-            (access_turn self.old (store_of pool.old.images)) result (access_facts self.new)
-            pool.old pool.new locks.old locks.new change }
-        ensures answer { (p : Purpose) (found : Option Record) (change : Change) →
-            Faces (K.of_key keys.now) seat p found self.old pool.old locks.old change →
-            is_fault result ≡ false →
-            TellsOf (K.of_key keys.now) result p found self.old self.new
-            (world pool.old.images locks.old change) (world pool.new.images locks.new change) }
-    {
-        self.make(pool, locks, keys, seat)
-    }
-
-    /// One step of its operation; where a page answers by it, that page is read.
-    #[inline(always)]
-    fn make<D: PageDevice, K: PseudoKey>(
         &mut self,
         pool: &mut Pool<D>,
         locks: &mut LockTable,

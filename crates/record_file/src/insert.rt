@@ -1,12 +1,11 @@
 //! A record that is inserted.
 
-ghost use Rattle.std.specs.Prelude.{◌≡◌, ◌↔◌, ℕ, List, IsSome, None, true, false, length, not};
+ghost use Rattle.std.specs.Prelude.{◌≡◌, ◌↔◌, IsSome, None, true, length};
 ghost use Rattle.record_file.specs.declared.bucket_access.Deed.{Deed};
 ghost use Rattle.record_file.specs.BucketAccesses.{begun_access};
-ghost use Rattle.record_file.specs.InsertWords.{RecordKey, pair, Lock, Change, IsReady, IsSeat, row_of, store_of, OnlyWrites, is_fault, EndsRow, HasNoFileLock, Owns, FollowsRow, Sees, Step, world};
-ghost use Rattle.record_file.specs.SecondSteps.{NearsOrSpares, SaysAt};
-ghost use Rattle.record_file.specs.Inserts.{IsLent, IsOver, insert_facts, insert_left, insert_locks, insert_turn, is_there, said_of};
-ghost use Rattle.record_file.specs.InsertSteps.{KeepsInsert, MakesInsert};
+ghost use Rattle.record_file.specs.InsertWords.{IsReady, IsSeat, row_of, EndsRow};
+ghost use Rattle.record_file.specs.Inserts.{IsLent, IsOver, insert_locks, is_there, said_of};
+ghost use Rattle.record_file.specs.InsertSteps.{MakesInsert};
 
 use crate::bucket_access::{BucketAccess, Deed};
 use crate::second_try::SecondTry;
@@ -87,49 +86,9 @@ impl Insert {
         }
     }
 
-    /// One step. The value that is to be put is lent to it, in the second try one as long as at the
-    /// end of the first.
+    /// One step, by the try. The value that is to be put is lent to it, in the second try one as
+    /// long as at the end of the first.
     pub fn step<D: PageDevice, K: PseudoKey>(
-        &mut self,
-        pool: &mut Pool<D>,
-        locks: &mut LockTable,
-        keys: &K,
-        seat: u8,
-        value: &[u8],
-    ) -> Progress<FileFault>
-        requires seat { IsSeat locks.old seat }
-        requires ready { IsReady pool.old }
-        requires row { EndsRow (insert_locks self.old) 3 (row_of locks.old seat) }
-        requires lent { IsLent (length value.now) self.old.stage }
-        // whatever the device gives
-        ensures writes { OnlyWrites (not (is_fault result)) pool.old pool.new }
-        ensures aim { KeepsInsert (length value.now) result self.old self.new }
-        ensures row { FollowsRow seat (insert_locks self.old) (insert_locks self.new)
-            locks.old locks.new }
-        // on an honest device, in a sound world
-        ensures progress { (change : Change) → K.of_key keys.now self.old.key ≡ self.old.pseudokey →
-            Sees (K.of_key keys.now) seat (insert_facts self.old) pool.old locks.old change →
-            NearsOrSpares result (insert_left self.old (store_of pool.old.images))
-            (insert_left self.new (store_of pool.new.images)) pool.old pool.new }
-        ensures step { (change : Change) (before : List Lock) → HasNoFileLock before →
-            Owns before self.old.key → row_of locks.old seat ≡ insert_locks self.old before →
-            K.of_key keys.now self.old.key ≡ self.old.pseudokey →
-            Sees (K.of_key keys.now) seat (insert_facts self.old) pool.old locks.old change →
-            is_fault result ≡ false →
-            Step (K.of_key keys.now) seat (insert_turn self.old value.now) result
-            (insert_facts self.new) pool.old pool.new locks.old locks.new change }
-        ensures answer { (change : Change) → K.of_key keys.now self.old.key ≡ self.old.pseudokey →
-            Sees (K.of_key keys.now) seat (insert_facts self.old) pool.old locks.old change →
-            is_fault result ≡ false →
-            SaysAt (K.of_key keys.now) seat result (pair self.old.key value.now)
-            (said_of self.old.stage) (said_of self.new.stage)
-            (world pool.old.images locks.old change) (world pool.new.images locks.new change) }
-    {
-        self.make(pool, locks, keys, seat, value)
-    }
-
-    /// One step, by the try.
-    fn make<D: PageDevice, K: PseudoKey>(
         &mut self,
         pool: &mut Pool<D>,
         locks: &mut LockTable,

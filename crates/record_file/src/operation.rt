@@ -1,14 +1,12 @@
 //! The operation.
 
-ghost use Rattle.std.specs.Prelude.{◌≡◌, ◌↔◌, ℕ, List, true, false, length, IfSome, IsSome};
+ghost use Rattle.std.specs.Prelude.{◌≡◌, ◌↔◌, true, length, IfSome, IsSome};
 ghost use Rattle.record_file.specs.stale_search.SearchRuns.{HasNoLock, at};
-ghost use Rattle.record_file.specs.stale_search.Steps.{FollowsRow};
 ghost use Rattle.record_file.specs.step_rules.Runs.{MovesAlong};
-ghost use Rattle.record_file.specs.SecondSteps.{NearsOrSpares};
-ghost use Rattle.record_file.specs.OperationWords.{RecordKey, Lock, Change, IsReady, IsSeat, row_of, store_of, is_fault, EndsRow, HasNoFileLock, Sees, Step, world};
-ghost use Rattle.record_file.specs.Operations.{FoundAtEnd, HasEnded, IsKeyed, MayBeLent, OwnsWritten, SuitsFile, TriedAtEnd, begun_delete, begun_find, begun_insert, begun_replace, operation_facts, operation_found, operation_left, operation_locks, operation_tried, operation_turn};
+ghost use Rattle.record_file.specs.OperationWords.{IsReady, IsSeat, row_of, EndsRow};
+ghost use Rattle.record_file.specs.Operations.{FoundAtEnd, HasEnded, MayBeLent, TriedAtEnd, begun_delete, begun_find, begun_insert, begun_replace, operation_found, operation_locks, operation_tried};
 ghost use Rattle.record_file.specs.OperationRuns.{IsFind, OperationStep, operation_done, operation_stops};
-ghost use Rattle.record_file.specs.OperationSteps.{KeepsOperation, LeavesPages, MakesOperation, TellsOf};
+ghost use Rattle.record_file.specs.OperationSteps.{MakesOperation};
 
 use crate::bucket_access::{BucketAccess, Deed};
 use crate::buffer_pool::Pool;
@@ -105,8 +103,8 @@ impl RecordOperation {
         }
     }
 
-    /// One step. The value that an insert puts is lent to it, or the bytes that a replace writes;
-    /// of a find or a delete nothing is read of them.
+    /// One step, by the operation. The value that an insert puts is lent to it, or the bytes that a
+    /// replace writes; of a find or a delete nothing is read of them.
     pub fn step<D: PageDevice, K: PseudoKey>(
         &mut self,
         pool: &mut Pool<D>,
@@ -119,33 +117,17 @@ impl RecordOperation {
         requires ready { IsReady pool.old }
         requires row { EndsRow (operation_locks self.old) 3 (row_of locks.old seat) }
         requires lent { MayBeLent (length bytes.now) self.old }
-        // whatever the device gives
-        ensures writes { LeavesPages result self.old pool.old pool.new }
-        ensures aim { KeepsOperation (length bytes.now) result pool.old self.old self.new }
-        ensures row { FollowsRow seat (operation_locks self.old) (operation_locks self.new)
-            locks.old locks.new }
-        // on an honest device, in a sound world
-        ensures progress { (change : Change) → IsKeyed (K.of_key keys.now) self.old →
-            SuitsFile (store_of pool.old.images) self.old bytes.now →
-            Sees (K.of_key keys.now) seat (operation_facts self.old) pool.old locks.old change →
-            NearsOrSpares result (operation_left self.old (store_of pool.old.images))
-            (operation_left self.new (store_of pool.new.images)) pool.old pool.new }
-        ensures step { (change : Change) (before : List Lock) → HasNoFileLock before →
-            OwnsWritten before self.old → row_of locks.old seat ≡ operation_locks self.old before →
-            IsKeyed (K.of_key keys.now) self.old →
-            SuitsFile (store_of pool.old.images) self.old bytes.now →
-            Sees (K.of_key keys.now) seat (operation_facts self.old) pool.old locks.old change →
-            is_fault result ≡ false →
-            Step (K.of_key keys.now) seat
-            (operation_turn self.old bytes.now (store_of pool.old.images)) result
-            (operation_facts self.new) pool.old pool.new locks.old locks.new change }
-        ensures answer { (change : Change) → IsKeyed (K.of_key keys.now) self.old →
-            Sees (K.of_key keys.now) seat (operation_facts self.old) pool.old locks.old change →
-            is_fault result ≡ false →
-            TellsOf (K.of_key keys.now) seat result bytes.now self.old self.new
-            (world pool.old.images locks.old change) (world pool.new.images locks.new change) }
+        ensures { MakesOperation (K.of_key keys.now) seat bytes.now result self.old self.new
+            pool.old pool.new locks.old locks.new }
     {
-        self.make(pool, locks, keys, seat, bytes)
+        match self {
+            RecordOperation::Find(find) => find.step(Deed::Find, pool, locks, seat, bytes),
+            RecordOperation::Insert(insert) => insert.step(pool, locks, keys, seat, bytes),
+            RecordOperation::Replace(replace) => {
+                replace.step(Deed::Replace, pool, locks, seat, bytes)
+            }
+            RecordOperation::Delete(delete) => delete.step(pool, locks, seat),
+        }
     }
 
     /// Where a find arrives that has not begun and goes straight to the page that the directory
@@ -178,32 +160,6 @@ impl RecordOperation {
     {
         if let RecordOperation::Find(find) = self {
             find.arrive(page, found);
-        }
-    }
-
-    /// One step, by the operation.
-    fn make<D: PageDevice, K: PseudoKey>(
-        &mut self,
-        pool: &mut Pool<D>,
-        locks: &mut LockTable,
-        keys: &K,
-        seat: u8,
-        bytes: &[u8],
-    ) -> Progress<FileFault>
-        requires seat { IsSeat locks.old seat }
-        requires ready { IsReady pool.old }
-        requires row { EndsRow (operation_locks self.old) 3 (row_of locks.old seat) }
-        requires lent { MayBeLent (length bytes.now) self.old }
-        ensures { MakesOperation (K.of_key keys.now) seat bytes.now result self.old self.new
-            pool.old pool.new locks.old locks.new }
-    {
-        match self {
-            RecordOperation::Find(find) => find.step(Deed::Find, pool, locks, seat, bytes),
-            RecordOperation::Insert(insert) => insert.step(pool, locks, keys, seat, bytes),
-            RecordOperation::Replace(replace) => {
-                replace.step(Deed::Replace, pool, locks, seat, bytes)
-            }
-            RecordOperation::Delete(delete) => delete.step(pool, locks, seat),
         }
     }
 }

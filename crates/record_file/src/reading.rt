@@ -1,7 +1,7 @@
 //! What is read of the page that answered.
 
 ghost use Rattle.std.specs.Prelude.{◌≡◌, ◌≤◌, Some, IsTrue, IfErr, IfOk, OnOk, is_ok, length, take};
-ghost use Rattle.file_pages.specs.Fault.{IsDevicesFault};
+ghost use Rattle.file_pages.specs.Fault.{FileHasCause, IsDevicesFault};
 ghost use Rattle.file_pages.specs.Reads.{OnlyReads};
 ghost use Rattle.queue_records.specs.declared.layout.TheConstants.{MAX_VALUE_BYTES};
 ghost use Rattle.record_file.specs.AccessWords.{IsReady, Record, SpellsRecord, HasSuch, linked_bytes, value_of};
@@ -25,14 +25,15 @@ pub(crate) fn read_value<D: PageDevice>(
 ) -> Result<(), FileFault>
     requires ready { IsReady pool.old }
     ensures reads { OnlyReads (is_ok result) pool.old pool.new }
-    ensures within { OnOk result (len ≤ MAX_VALUE_BYTES) }
     ensures len { length room.new ≡ MAX_VALUE_BYTES }
     ensures ok { IsTrue pool.old.honest →
         OnOk result (value_on pool.old page key.now ≡ Some (take len room.new)) }
-    ensures spelled { OnOk result ((r : Record) × SpellsRecord r key.now (take len room.new)) }
+    ensures spelled { OnOk result ((len ≤ MAX_VALUE_BYTES)
+        × (r : Record) × SpellsRecord r key.now (take len room.new)) }
     ensures fault { (r : Record) → SeesBucket page pool.old →
         value_on pool.old page key.now ≡ Some (value_of r) → len ≡ length (value_of r) →
         SpellsRecord r key.now (value_of r) → IfErr result (IsDevicesFault pool.old pool.new) }
+    ensures cause { IfErr result (FileHasCause pool.old pool.new) }
 {
     let found = copy_value(pool, page, key, room)?;
     if found != Some(len) {
@@ -65,6 +66,7 @@ pub(crate) fn read_front<D: PageDevice>(
     ensures fault { (r : Record) → SeesBucket page pool.old →
         value_on pool.old page key.now ≡ Some (value_of r) →
         IfErr result (IsDevicesFault pool.old pool.new) }
+    ensures cause { IfErr result (FileHasCause pool.old pool.new) }
 {
     let Some(_) = copy_value(pool, page, key, front)? else {
         return Err(FileFault::Failed);

@@ -1,11 +1,11 @@
 //! The second try of an Insert.
 
-ghost use Rattle.std.specs.Prelude.{◌≡◌, ℕ, List, false, length, not};
+ghost use Rattle.std.specs.Prelude.{◌≡◌, ℕ, List, length};
 ghost use Rattle.split_merge.specs.stale_search.declared.place.ApproachPlace.{ApproachPlace};
 ghost use Rattle.record_file.specs.declared.second_place.SecondPlace.TheVariants as places;
-ghost use Rattle.record_file.specs.InsertWords.{RecordKey, pair, Lock, Change, IsReady, IsSeat, row_of, store_of, OnlyWrites, is_fault, HasNoFileLock, Owns, FollowsRow, Sees, Step, world};
-ghost use Rattle.record_file.specs.SecondTries.{HasSecondRow, said_at, second_facts, second_left, second_locks, second_turn, tried_at};
-ghost use Rattle.record_file.specs.SecondSteps.{KeepsSecondTry, MakesStep, MakesStepHere, NearsOrSpares, SaysAt};
+ghost use Rattle.record_file.specs.InsertWords.{RecordKey, IsReady, IsSeat, row_of};
+ghost use Rattle.record_file.specs.SecondTries.{HasSecondRow, said_at, tried_at};
+ghost use Rattle.record_file.specs.SecondSteps.{MakesStep, MakesStepHere};
 
 use crate::bucket_access::has_room;
 use crate::second_place::SecondPlace;
@@ -93,50 +93,10 @@ impl SecondTry {
         }
     }
 
-    /// One step. The value that is to be put is lent to it. It stands apart, since each step of an
-    /// insert would make room for the pages of a split.
+    /// One step, by the place. The value that is to be put is lent to it. It stands apart, since
+    /// each step of an insert would make room for the pages of a split.
     #[inline(never)]
     pub fn step<D: PageDevice, K: PseudoKey>(
-        &mut self,
-        pool: &mut Pool<D>,
-        locks: &mut LockTable,
-        keys: &K,
-        seat: u8,
-        value: &[u8],
-    ) -> Progress<FileFault>
-        requires seat { IsSeat locks.old seat }
-        requires ready { IsReady pool.old }
-        requires row { HasSecondRow self.old (row_of locks.old seat) }
-        requires lent { length value.now ≡ self.old.bytes }
-        // whatever the device gives
-        ensures writes { OnlyWrites (not (is_fault result)) pool.old pool.new }
-        ensures aim { KeepsSecondTry result self.old self.new }
-        ensures row { FollowsRow seat (second_locks self.old) (second_locks self.new)
-            locks.old locks.new }
-        // on an honest device, in a sound world
-        ensures progress { (change : Change) → K.of_key keys.now self.old.key ≡ self.old.pseudokey →
-            Sees (K.of_key keys.now) seat (second_facts self.old) pool.old locks.old change →
-            NearsOrSpares result (second_left self.old (store_of pool.old.images))
-            (second_left self.new (store_of pool.new.images)) pool.old pool.new }
-        ensures step { (change : Change) (before : List Lock) → HasNoFileLock before →
-            Owns before self.old.key → row_of locks.old seat ≡ second_locks self.old before →
-            K.of_key keys.now self.old.key ≡ self.old.pseudokey →
-            Sees (K.of_key keys.now) seat (second_facts self.old) pool.old locks.old change →
-            is_fault result ≡ false →
-            Step (K.of_key keys.now) seat (second_turn self.old value.now) result
-            (second_facts self.new) pool.old pool.new locks.old locks.new change }
-        ensures answer { (change : Change) → K.of_key keys.now self.old.key ≡ self.old.pseudokey →
-            Sees (K.of_key keys.now) seat (second_facts self.old) pool.old locks.old change →
-            is_fault result ≡ false →
-            SaysAt (K.of_key keys.now) seat result (pair self.old.key value.now)
-            (said_at self.old.place) (said_at self.new.place)
-            (world pool.old.images locks.old change) (world pool.new.images locks.new change) }
-    {
-        self.make(pool, locks, keys, seat, value)
-    }
-
-    /// One step, by the place.
-    fn make<D: PageDevice, K: PseudoKey>(
         &mut self,
         pool: &mut Pool<D>,
         locks: &mut LockTable,

@@ -2,7 +2,6 @@
 use Rattle.std.proofs.Common.{◌≡◌, refl, sym, subst, ℕ, ◌+◌, false, not, List, None, Some, Option, IsSome, arith}
 use Rattle.std.proofs.lemmas.Bool.{true≢false}
 use Rattle.stale_search.specs.file_pages.declared.fault.FileFault.{FileFault}
-use Rattle.stale_search.specs.file_pages.Reads.{OnlyReads}
 use Rattle.hash_file.specs.Changes.{RecordWrite, Remove}
 use Rattle.hash_file.specs.Kept.{KeepsContents}
 use Rattle.step_rules.specs.declared.kind.Kind.{Kind}
@@ -12,6 +11,7 @@ use Rattle.step_rules.proofs.KindLemmas.{kind_keeps_contents}
 use Rattle.step_rules.proofs.TurnLemmas.{is_of_its_kind}
 use Rattle.stale_search.specs.Approaches.{KeepsGoal, reached_at}
 use Rattle.stale_search.proofs.StayLemmas.{Stays-of}
+use Rattle.stale_search.specs.Steps.{ReadsPages}
 use Rattle.stale_search.specs.declared.place.ApproachPlace.{ApproachPlace}
 use Rattle.stale_search.specs.declared.place.ApproachPlace.TheVariants.{GrantDirectory, ReadDepth, ReadEntry, GrantPage, At}
 use Rattle.split_merge.specs.MergeWords.{RecordKey, Lock, store_of, World, world, Table, row_of, with_row, PoolState, Change, Progress, Moved, Blocked, Fault, Ended, ApproachView, approach_locks, approach_facts, approach_turn, approach_left, HasNoFileLock, Sees, Step, Nears, Approaching}
@@ -56,7 +56,7 @@ module _ (seat : ℕ) (key : RecordKey) (a a' : ApproachView) (pool pool' : Pool
       by Ended fine old new sound does =
           subst (λ (w : World). KeepsContents old.store w.store) (sym does) (λ k. refl)
 
-  pub approaches : reached_at a.place ≡ None → OnlyReads (not (is_fault did)) pool pool' → KeepsGoal did a a' →
+  pub approaches : reached_at a.place ≡ None → ReadsPages did pool pool' → KeepsGoal did a a' →
       ((before : List Lock) → HasNoFileLock before → row_of locks seat ≡ approach_locks a before →
       locks' ≡ with_row locks seat (approach_locks a' before)) →
       ((hash : RecordKey → ℕ) (change : Change) → Sees hash seat (approach_facts a) pool locks change →
@@ -69,8 +69,9 @@ module _ (seat : ℕ) (key : RecordKey) (a a' : ApproachView) (pool pool' : Pool
       pool pool' locks locks'
   approaches on_way reads goal row nears step = record {
     writes = record {
-      writes = read_only (not (is_fault did)) pool pool' reads;
-      spares = λ f honest. reads.images honest;
+      writes = read_only (not (is_fault did)) pool pool' reads.reads;
+      cause = reads.cause;
+      spares = λ f honest. reads.reads.images honest;
     };
     aim = record {
       key = refl;

@@ -1,6 +1,6 @@
 -- The steps of a merge by what its parts answer.
 use Rattle.std.proofs.Common.{◌≡◌, refl, sym, ap, ◌∙◌, subst, ℕ, ◌<◌, true, false, List, [], ◌∷◌, ◌++◌, Some, None, length, arith}
-use Rattle.split_merge.proofs.MergeNames.{AllAnchored, AllKnown, AllKnown-relocked, Contains, Converts, Err, FileFault, IfErr, IsDevicesFault, IsDone, IsFree-unopposed, IsReached, IsReady, IsSeat, IsTrue, Kind, MAX_LOCKS, MayBeGranted, Ok, OnErr, OnOk, OnlyReads, OnlyWrites, Result, busy, converted, held, is_ok, kind_keeps, kind_of, lock_of, may_write, row_of-same, without_lock}
+use Rattle.split_merge.proofs.MergeNames.{AllAnchored, AllKnown, AllKnown-relocked, Contains, Converts, Err, FileFault, FileHasCause, IfErr, IsDevicesFault, IsDone, IsFree-unopposed, IsReached, IsReady, IsSeat, IsTrue, Kind, MAX_LOCKS, MayBeGranted, Ok, OnErr, OnOk, OnlyReads, OnlyWrites, Result, busy, converted, held, is_ok, kind_keeps, kind_of, lock_of, may_write, row_of-same, without_lock}
 use Rattle.step_rules.specs.declared.kind.Kind.TheVariants as kinds
 use Rattle.split_merge.specs.MergeWords.{RecordKey, Lock, LockKind, Selective, Exclusive, LockName, Directory, Page, Table, row_of, with_row, PoolState, store_of, Store, Change, Progress, Moved, Blocked, Fault, Ended, World, ForLock, ToExclusive, HasNoFileLock, in_directory, world, Joint, MergePlace, Convert, GrantAlone}
 use Rattle.split_merge.specs.Places.{MergeView, at, locks_at, is_done, is_given_up}
@@ -57,7 +57,8 @@ module _ (seat : ℕ) (pool : PoolState) (locks : Table) (v : MergeView) where
   -- a page is written, or could not be
   pub goes_on : (r : Result Unit FileFault) (did : Progress FileFault) (place place' : MergePlace) (kind : Kind)
       (pool' : PoolState) (t : Store) (new : MergeView) → v.place ≡ place → GoesOn r did kind v (at place' v) new →
-      OnlyWrites (is_ok r) pool pool' → (IsTrue pool.honest → OnOk r (store_of pool'.images ≡ t)) →
+      OnlyWrites (is_ok r) pool pool' → IfErr r (FileHasCause pool pool') →
+      (IsTrue pool.honest → OnOk r (store_of pool'.images ≡ t)) →
       (IsTrue pool.honest → OnErr r (pool'.images ≡ pool.images)) → (kind ≡ kinds.WriteRecord → ⊥) →
       is_done place ≡ false → is_given_up place' ≡ false →
       ((before : List Lock) → locks_at place' v.approach before ≡ locks_at place v.approach before) →
@@ -67,18 +68,18 @@ module _ (seat : ℕ) (pool : PoolState) (locks : Table) (v : MergeView) where
       seen place (λ hash change. hash v.key ≡ v.approach.pseudokey →
       IsWritten seat v.key v.approach pool locks hash change place place' kind t)) →
       MakesStep seat did v new pool pool' locks locks
-  goes_on (Ok x) did place place' kind pool' t new is (moved, is_new) writes becomes spares other going on same
+  goes_on (Ok x) did place place' kind pool' t new is (moved, is_new) writes cause becomes spares other going on same
       risen falls
       written =
       here place is (λ u. MakesStep seat did u new pool pool' locks locks)
       (rw (moved, is_new) (wrote seat v.key v.approach pool locks place place' kind pool' t writes becomes other
       going on same
       falls written))
-  goes_on (Err fault) did place place' kind pool' t new is (failed, is_old) writes becomes spares other going on
+  goes_on (Err fault) did place place' kind pool' t new is (failed, is_old) writes cause becomes spares other going on
       same risen
       falls written =
       rw (failed, is_old) (here place is (λ u. MakesStep seat (Fault fault) u u pool pool' locks locks)
-      (faulted seat v.key v.approach pool locks place fault pool' writes spares going risen))
+      (faulted seat v.key v.approach pool locks place fault pool' writes spares cause going risen))
 
   -- the last lock is given back
   pub releases : (did : Progress FileFault) (place place' : MergePlace) (name : LockName) (kind : LockKind)
@@ -111,7 +112,11 @@ module _ (seat : ℕ) (pool : PoolState) (locks : Table) (v : MergeView) where
   converts (Moved k) j new locks' is (moved, is_new, nobody, is_locks) ready seated =
       here (Convert j) is (λ u. MakesStep seat (Moved k) u new pool pool locks locks')
       (rw (moved, is_new) (record {
-        writes = record { writes = nothing_written pool ready; spares = λ f. absurd cc };
+        writes = record {
+          writes = nothing_written pool ready;
+          cause = λ f same. absurd cc;
+          spares = λ f. absurd cc;
+        };
         aim = record {
           key = refl;
           pseudokey = refl;

@@ -3,7 +3,7 @@ use Rattle.std.proofs.Common.{◌≡◌, ◌≢◌, ◌⊎◌, refl, sym, ap, �
 use Rattle.std.proofs.lemmas.Bool.{cases_lt}
 use Rattle.std.specs.Prelude.{IsTrue}
 use Rattle.std.specs.List.{Contains}
-use Rattle.stale_search.specs.file_pages.Fault.{IsDevicesFault}
+use Rattle.stale_search.specs.file_pages.Fault.{FileHasCause, IsDevicesFault}
 use Rattle.page_locks.specs.Locks.{kind_of}
 use Rattle.page_locks.specs.Writers.{may_write}
 use Rattle.stale_search.specs.file_pages.declared.fault.FileFault.{FileFault}
@@ -43,12 +43,13 @@ module _ (seat : ℕ) (key : RecordKey) (a : ApproachView) (pool pool' : PoolSta
 
   -- a page that could not be read
   pub side_not_read : (place : MergePlace) (page : ℕ) (fault : FileFault) → OnlyReads false pool pool' →
+      FileHasCause pool pool' fault →
       (IsTrue pool.honest → IsFilePool pool → IsLivePage pool.images page → IsDevicesFault pool pool' fault) →
       ((hash : RecordKey → ℕ) (change : Change) → Sees hash seat (facts_at place a) pool locks change →
       Contains (chain store) page) → is_done place ≡ false →
       MakesStep seat (Fault fault) (at_place place) (at_place place) pool pool' locks locks
-  side_not_read place page fault reads risen on going = faulted seat key a pool locks place fault pool'
-      (read_only false pool pool' reads) reads.images going
+  side_not_read place page fault reads cause risen on going = faulted seat key a pool locks place fault pool'
+      (read_only false pool pool' reads) reads.images cause going
       (λ hash change sees. risen sees.honest sees.file
       (live_page hash pool.images locks change page sees.sound (on hash change sees)))
 

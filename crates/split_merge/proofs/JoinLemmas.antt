@@ -1,6 +1,6 @@
 -- The steps of a merge that write pages: up to the counts.
 use Rattle.std.proofs.Common.{◌≡◌, ◌⊎◌, refl, sym, ap, ◌∙◌, subst, ℕ, suc, ◌+◌, ◌-◌, ◌*◌, ◌^◌, ◌<◌, ◌≤◌, nat_lt, Bool, true, false, List, [], ◌∷◌, length, slice_index_or, if◌then◌else◌, arith, inl, inr}
-use Rattle.split_merge.proofs.MergeNames.{All, All-head, All-tail, AllKnown, AreHalvesOf, AreJoinable, Bucket, Contains, FileFault, IfErr, IsBucketOf, IsDevicesFault, IsFilePool, IsPlaced, IsRetargetedBefore, IsSoundFile, IsThere, IsTrue, MayJoin, MayRetarget, OnErr, OnOk, OnlyWrites, PSEUDOKEY_BITS, Pair, Result, Retargets, ShareNoKey, Store, World, WritesLeft, WritesTombstone, absent_elsewhere, bucket_at, cases_Bool, chain, contains_head, halves_apart, is_ok, kind_of, layout_is, ltb-false, may_write, numbered, owned, pages_are, parent_valid, pow_mono, range_of, record_bytes, retarget, retargets_on, target_of, used_on, write_left, write_tombstone}
+use Rattle.split_merge.proofs.MergeNames.{All, All-head, All-tail, AllKnown, AreHalvesOf, AreJoinable, Bucket, Contains, FileFault, FileHasCause, IfErr, IsBucketOf, IsDevicesFault, IsFilePool, IsPlaced, IsRetargetedBefore, IsSoundFile, IsThere, IsTrue, MayJoin, MayRetarget, OnErr, OnOk, OnlyWrites, PSEUDOKEY_BITS, Pair, Result, Retargets, ShareNoKey, Store, World, WritesLeft, WritesTombstone, absent_elsewhere, bucket_at, cases_Bool, chain, contains_head, halves_apart, is_ok, kind_of, layout_is, ltb-false, may_write, numbered, owned, pages_are, parent_valid, pow_mono, range_of, record_bytes, retarget, retargets_on, target_of, used_on, write_left, write_tombstone}
 use Rattle.step_rules.specs.declared.kind.Kind.TheVariants as kinds
 use Rattle.split_merge.specs.MergeWords.{RecordKey, Range, Covers, IsRange, is_lower, parent_of, upper_half_of, MERGED_BYTES, ROOT_PAGE, page_of, Lock, Directory, Page, Table, row_of, PoolState, store_of, Change, Absorbed, Buried, Progress, ApproachView, Sees, world, Seen, Buddies, Joint, MergePlace, WriteLeft, Tombstone, Retarget, SetCounts}
 use Rattle.split_merge.specs.Places.{MergeView, AreBuddies, IsJoint, HasEntry, at, own_of, joint_of, first_entry, entry_behind, stride_of, retargets_from, locks_at, on_both, is_given_up}
@@ -101,6 +101,7 @@ far_apart j = elim (cases_Bool (nat_lt (2 * 2 ^ j.whole.depth) 512)) [
 
 module _ (seat : ℕ) (pool : PoolState) (locks : Table) (v : MergeView) (r : Result Unit FileFault)
     (did : Progress FileFault) (pool' : PoolState) (new : MergeView) (writes : OnlyWrites (is_ok r) pool pool')
+    (cause : IfErr r (FileHasCause pool pool'))
     (spares : IsTrue pool.honest → OnErr r (pool'.images ≡ pool.images)) where
   abbrev s : Store
   s = store_of pool.images
@@ -188,7 +189,7 @@ module _ (seat : ℕ) (pool : PoolState) (locks : Table) (v : MergeView) (r : Re
         MakesStep seat did v new pool pool' locks locks
     joins is given becomes fault = goes_on seat pool locks v r did here_at (Tombstone (joint_of b))
         kinds.WriteLeft pool'
-        joined_store new is given writes becomes spares (λ e. absurd cc) refl refl (λ before. refl)
+        joined_store new is given writes cause becomes spares (λ e. absurd cc) refl refl (λ before. refl)
         (λ hash change sees. fault sees.honest sees.file (may_join hash change sees))
         (λ hash change sees. omega arith)
         (λ before bare row hash change sees keyed. writes_both hash change sees keyed)
@@ -206,7 +207,7 @@ module _ (seat : ℕ) (pool : PoolState) (locks : Table) (v : MergeView) (r : Re
         (IsTrue pool.honest → IsFilePool pool → IsThere j.right s → IfErr r (IsDevicesFault pool pool')) →
         MakesStep seat did v new pool pool' locks locks
     buries is given becomes fault = goes_on seat pool locks v r did (Tombstone j) (retargets_from j (first_entry j))
-        kinds.Tombstone pool' buried_store new is given writes becomes spares (λ e. absurd cc) refl
+        kinds.Tombstone pool' buried_store new is given writes cause becomes spares (λ e. absurd cc) refl
         (onward_not_up j (first_entry j) v.approach) (onward_locks j (first_entry j) v.approach)
         (λ hash change sees. fault sees.honest sees.file
         (owned_there hash pool.images (Absorbed j.left j.right j.whole) j.right
@@ -287,7 +288,7 @@ module _ (seat : ℕ) (pool : PoolState) (locks : Table) (v : MergeView) (r : Re
       names_left is given becomes fault =
           let within : page_of entry < 257 = page_within entry j.depth is_joint.depth has.below in
           goes_on seat pool locks v r did (Retarget j entry) (retargets_from j (entry_behind j entry))
-          kinds.Retarget pool' named_store new is given writes becomes spares (λ e. absurd cc) refl
+          kinds.Retarget pool' named_store new is given writes cause becomes spares (λ e. absurd cc) refl
           (onward_not_up j (entry_behind j entry) v.approach) (onward_locks j (entry_behind j entry) v.approach)
           (λ hash change sees.
           let file = subst (IsSoundFile hash s) sees.known.0.1 sees.sound.file in

@@ -1,6 +1,7 @@
 -- The steps that read the two buckets.
 use Rattle.std.proofs.Common.{◌≡◌, refl, sym, ap, ◌∙◌, subst, ℕ, ◌%◌, ◌^◌, ◌≤◌, true, false, List, [], Some, arith}
-use Rattle.split_merge.proofs.MergeNames.{AllKnown, ApproachPlace, At, BucketSight, FileFault, HasShape, IsBucketOf, IsDevicesFault, IsFilePool, IsHeld-some, IsKnown, IsSeen, IsSoundWorld, IsTrue, IsWhole, OnlyReads, approach_facts_at, approach_locks_at, buddy_is_other_half, chain_valid, entry_at, entry_is_bucket, kind_of, lower_buddies, may_write, page_at}
+use Rattle.split_merge.proofs.MergeNames.{AllKnown, ApproachPlace, At, BucketSight, FileFault, FileHasCause, HasShape, IsBucketOf, IsDevicesFault, IsFilePool, IsHeld-some, IsKnown, IsSeen, IsSoundWorld, IsTrue, IsWhole, OnlyReads, approach_facts_at, approach_locks_at, buddy_is_other_half, chain_valid, entry_at, entry_is_bucket, kind_of, lower_buddies, may_write, page_at}
+use Rattle.stale_search.specs.file_pages.declared.fault.FileFault.TheVariants.{Failed}
 use Rattle.step_rules.specs.declared.kind.Kind.TheVariants as kinds
 use Rattle.split_merge.specs.MergeWords.{RecordKey, Range, IsRange, is_lower, buddy_of, lower_half_of, parent_of, Lock, Selective, Directory, Page, Table, row_of, PoolState, store_of, Change, Moved, Fault, Built, BucketOf, ApproachView, HasNoFileLock, EndsRow, world, Own, MergePlace, Approaching, ReadBuddy, GrantRight, GiveBack, GiveUp}
 use Rattle.split_merge.specs.Places.{MergeView, IsOwn, HasMergeRow, beside, locks_at, on_one}
@@ -35,19 +36,19 @@ module _ (seat : ℕ) (key : RecordKey) (a : ApproachView) (pool pool' : PoolSta
     held_there before bare row = ap (λ (xs : List Lock). kind_of xs (Page page)) (row ∙ sym (on_bucket before))
         ∙ page_held before bare Selective Selective page
 
-    pub own_not_read : (fault : FileFault) → OnlyReads false pool pool' →
+    pub own_not_read : (fault : FileFault) → OnlyReads false pool pool' → FileHasCause pool pool' fault →
         (IsTrue pool.honest → IsFilePool pool → IsLivePage pool.images page → IsDevicesFault pool pool' fault) →
         MakesStep seat (Fault fault) (at_place Approaching) (at_place Approaching) pool pool' locks locks
-    own_not_read fault reads risen = faulted seat key a pool locks Approaching fault pool'
-        (read_only false pool pool' reads) reads.images refl
+    own_not_read fault reads cause risen = faulted seat key a pool locks Approaching fault pool'
+        (read_only false pool pool' reads) reads.images cause refl
         (λ hash change sees. risen sees.honest sees.file (live_page hash pool.images locks change page sees.sound
         (at_bucket change sees.known).1.1.0.1.0))
 
     module _ (sight : BucketSight) (reads : OnlyReads true pool pool')
         (ok : IsTrue pool.honest → IsSeen sight (page_at (store_of pool.images) page)) where
-      pub own_not_valid : (fault : FileFault) → (IsRange (seen_range sight) → ⊥) →
-          MakesStep seat (Fault fault) (at_place Approaching) (at_place Approaching) pool pool' locks locks
-      own_not_valid fault wrong = faulted seat key a pool locks Approaching fault pool'
+      pub own_not_valid : (IsRange (seen_range sight) → ⊥) →
+          MakesStep seat (Fault Failed) (at_place Approaching) (at_place Approaching) pool pool' locks locks
+      own_not_valid wrong = faulted seat key a pool locks Approaching Failed pool'
           (record {
             ready = reads.ready;
             honest = reads.honest;
@@ -55,7 +56,7 @@ module _ (seat : ℕ) (key : RecordKey) (a : ApproachView) (pool pool' : PoolSta
             stored = reads.stored;
             file = λ honest fine. absurd cc;
           })
-          reads.images refl
+          reads.images (λ same. absurd cc) refl
           (λ hash change sees. absurd (wrong (subst IsRange
           (seen_shape (store_of pool.images) page sight (ok sees.honest)).range_is
           (chain_valid (store_of pool.images) _ page sees.sound.file.chained
@@ -130,11 +131,11 @@ module _ (seat : ℕ) (key : RecordKey) (a : ApproachView) (pool pool' : PoolSta
     in_it before bare row = ap (λ (xs : List Lock). kind_of xs Directory) row
         ∙ directory_beside before bare Selective Selective o.page
 
-    pub buddy_not_read : (fault : FileFault) → OnlyReads false pool pool' →
+    pub buddy_not_read : (fault : FileFault) → OnlyReads false pool pool' → FileHasCause pool pool' fault →
         (IsTrue pool.honest → IsFilePool pool → IsDevicesFault pool pool' fault) →
         MakesStep seat (Fault fault) (at_place (ReadBuddy o)) (at_place (ReadBuddy o)) pool pool' locks locks
-    buddy_not_read fault reads risen = faulted seat key a pool locks (ReadBuddy o) fault pool'
-        (read_only false pool pool' reads) reads.images refl (λ hash change sees. risen sees.honest sees.file)
+    buddy_not_read fault reads cause risen = faulted seat key a pool locks (ReadBuddy o) fault pool'
+        (read_only false pool pool' reads) reads.images cause refl (λ hash change sees. risen sees.honest sees.file)
 
     module _ (buddy : ℕ) (reads : OnlyReads true pool pool')
         (ok : IsTrue pool.honest →
@@ -156,9 +157,9 @@ module _ (seat : ℕ) (key : RecordKey) (a : ApproachView) (pool pool' : PoolSta
             (subst (λ (r : Range). IsBucketOf (store_of pool.images) (buddy_of r).pattern buddy)
             (sym known.1.1.1.0.1.range_is) found.1)).apart same
 
-      pub buddy_is_itself : (fault : FileFault) → buddy ≡ o.page →
-          MakesStep seat (Fault fault) (at_place (ReadBuddy o)) (at_place (ReadBuddy o)) pool pool' locks locks
-      buddy_is_itself fault same = faulted seat key a pool locks (ReadBuddy o) fault pool'
+      pub buddy_is_itself : buddy ≡ o.page →
+          MakesStep seat (Fault Failed) (at_place (ReadBuddy o)) (at_place (ReadBuddy o)) pool pool' locks locks
+      buddy_is_itself same = faulted seat key a pool locks (ReadBuddy o) Failed pool'
           (record {
             ready = reads.ready;
             honest = reads.honest;
@@ -166,7 +167,7 @@ module _ (seat : ℕ) (key : RecordKey) (a : ApproachView) (pool pool' : PoolSta
             stored = reads.stored;
             file = λ honest fine. absurd cc;
           })
-          reads.images refl
+          reads.images (λ same. absurd cc) refl
           (λ hash change sees. absurd (not_itself hash change sees.honest sees.sound sees.known same))
 
       pub own_is_left : is_lower o.range ≡ true →

@@ -1,6 +1,6 @@
 -- The steps of a merge that write pages: from the counts on.
 use Rattle.std.proofs.Common.{◌≡◌, ◌≢◌, refl, sym, ap, ◌∙◌, subst, ℕ, suc, ◌+◌, ◌^◌, ◌<◌, ◌≤◌, Bool, true, false, List, [], ◌∷◌, Some, length, arith, eq-eqb, ne_eqb, if◌then◌else◌, inr, ◌==◌}
-use Rattle.split_merge.proofs.MergeNames.{Err, FileFault, Header, IfErr, IsDevicesFault, IsFilePool, IsSoundFile, IsThere, IsTrue, Layout, LinksFree, LowersDepth, MAX_PAGES, MayMergeCount, Ok, OnErr, OnOk, OnlyReads, OnlyWrites, Result, SetsCounts, SpellsFile, Store, WritesFree, bucket_at, chain, contains_head, count_at, header_is, held, how_many, is_ok, kind_of, layout_is, link_free, lower_depth, merge_counts, set_counts, ways_are_short, write_free}
+use Rattle.split_merge.proofs.MergeNames.{Err, FileFault, FileHasCause, Header, IfErr, IsDevicesFault, IsFilePool, IsSoundFile, IsThere, IsTrue, Layout, LinksFree, LowersDepth, MAX_PAGES, MayMergeCount, Ok, OnErr, OnOk, OnlyReads, OnlyWrites, Result, SetsCounts, SpellsFile, Store, WritesFree, bucket_at, chain, contains_head, count_at, header_is, held, how_many, is_ok, kind_of, layout_is, link_free, lower_depth, merge_counts, set_counts, ways_are_short, write_free}
 use Rattle.step_rules.specs.declared.kind.Kind.TheVariants as kinds
 use Rattle.split_merge.specs.MergeWords.{RecordKey, Range, Lock, Exclusive, Directory, Page, Table, row_of, PoolState, store_of, Quiet, Buried, Drained, Freed, Progress, HasNoFileLock, world, Joint, SetCounts, ReleaseRight, WriteFree, LinkFree, LowerDepth}
 use Rattle.split_merge.specs.Places.{MergeView, IsJoint, at, alone_on}
@@ -50,6 +50,7 @@ may_merge_count hash images left right whole h file =
 
 module _ (seat : ℕ) (pool : PoolState) (locks : Table) (v : MergeView) (r : Result Unit FileFault)
     (did : Progress FileFault) (pool' : PoolState) (new : MergeView) (writes : OnlyWrites (is_ok r) pool pool')
+    (cause : IfErr r (FileHasCause pool pool'))
     (spares : IsTrue pool.honest → OnErr r (pool'.images ≡ pool.images)) where
   abbrev s : Store
   s = store_of pool.images
@@ -65,7 +66,7 @@ module _ (seat : ℕ) (pool : PoolState) (locks : Table) (v : MergeView) (r : Re
       IfErr r (IsDevicesFault pool pool')) →
       MakesStep seat did v new pool pool' locks locks
   counts j is_joint is given becomes fault = goes_on seat pool locks v r did (SetCounts j) (ReleaseRight j)
-      kinds.SetCounts pool' (counted_store j) new is given writes becomes spares (λ e. absurd cc) refl refl
+      kinds.SetCounts pool' (counted_store j) new is given writes cause becomes spares (λ e. absurd cc) refl refl
       (λ before. refl)
       (λ hash change sees. fault sees.honest sees.file
       (may_merge_count hash pool.images j.left j.right j.whole
@@ -100,7 +101,7 @@ module _ (seat : ℕ) (pool : PoolState) (locks : Table) (v : MergeView) (r : Re
       (IsTrue pool.honest → IsFilePool pool → IsThere j.right s → IfErr r (IsDevicesFault pool pool')) →
       MakesStep seat did v new pool pool' locks locks
   frees j is given becomes fault = goes_on seat pool locks v r did (WriteFree j) (LinkFree j.right)
-      kinds.WriteFree pool' (write_free j.right s) new is given writes becomes spares (λ e. absurd cc) refl refl
+      kinds.WriteFree pool' (write_free j.right s) new is given writes cause becomes spares (λ e. absurd cc) refl refl
       (λ before. refl)
       (λ hash change sees. fault sees.honest sees.file
       (owned_there hash pool.images (Drained j.left j.right) j.right
@@ -123,7 +124,7 @@ module _ (seat : ℕ) (pool : PoolState) (locks : Table) (v : MergeView) (r : Re
       (IsTrue pool.honest → IsFilePool pool → IfErr r (IsDevicesFault pool pool')) →
       MakesStep seat did v new pool pool' locks locks
   links page is given becomes fault = goes_on seat pool locks v r did (LinkFree page) (LowerDepth page)
-      kinds.LinkFree pool' (link_free page s) new is given writes becomes spares (λ e. absurd cc) refl refl
+      kinds.LinkFree pool' (link_free page s) new is given writes cause becomes spares (λ e. absurd cc) refl refl
       (λ before. refl)
       (λ hash change sees. fault sees.honest sees.file)
       (λ hash change sees.
@@ -147,7 +148,7 @@ module _ (seat : ℕ) (pool : PoolState) (locks : Table) (v : MergeView) (r : Re
       (IsTrue pool.honest → IsFilePool pool → IfErr r (IsDevicesFault pool pool')) →
       MakesStep seat did v new pool pool' locks locks
   lowers page depth is given deep some none becomes fault = goes_on seat pool locks v r did (LowerDepth page)
-      (LowerDepth page) kinds.LowerDepth pool' (lower_depth s) new is given writes becomes spares (λ e. absurd cc)
+      (LowerDepth page) kinds.LowerDepth pool' (lower_depth s) new is given writes cause becomes spares (λ e. absurd cc)
       refl refl
       (λ before. refl)
       (λ hash change sees. fault sees.honest sees.file)

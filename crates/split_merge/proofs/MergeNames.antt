@@ -6,7 +6,7 @@ pub use Rattle.directory.specs.declared.header.Header.{Header}
 pub use Rattle.stale_search.proofs.of_file_pages.StoreLemmas.{header_is, layout_is, pages_are}
 pub use Rattle.stale_search.specs.file_pages.Buckets.{AreJoinable, IsThere, MayJoin}
 pub use Rattle.stale_search.specs.file_pages.Entries.{MayRetarget}
-pub use Rattle.stale_search.specs.file_pages.Fault.{IsDevicesFault}
+pub use Rattle.stale_search.specs.file_pages.Fault.{FileHasCause, IsDevicesFault}
 pub use Rattle.stale_search.specs.file_pages.Files.{IsFilePool, IsReady, SpellsFile}
 pub use Rattle.stale_search.specs.file_pages.Headers.{MayMergeCount}
 pub use Rattle.stale_search.specs.file_pages.Reads.{IsSeen, OnlyReads}

@@ -1,7 +1,8 @@
 -- The steps of a merge, one lemma for each way in which a place is left.
 use Rattle.std.proofs.Common.{◌≡◌, refl, sym, ap, ◌∙◌, subst, ℕ, ◌<◌, Bool, true, false, List, [], ◌∷◌, ◌++◌, Option, Some, None, length, arith}
-use Rattle.split_merge.proofs.MergeNames.{AllAnchored, AllKnown, AllKnown-relocked, Contains, DoesTied, FileFault, IsDevicesFault, IsDone, IsHeld-some, IsOpposed, IsReached, IsReady, IsSeat, IsTrue, KeepsContents, KeepsOthers, KeepsOthers-same, Kind, MAX_LOCKS, MayBeGranted, OnlyReads, OnlyWrites, Releases, Remove, StandsInWay, busy, held, is_of_its_kind, kind_keeps, kind_keeps_contents, kind_of, lock_of, row_of-same, true≢false, turn_keeps, with_lock, with_row-own, without, without_lock}
+use Rattle.split_merge.proofs.MergeNames.{AllAnchored, AllKnown, AllKnown-relocked, Contains, DoesTied, FileFault, FileHasCause, IsDevicesFault, IsDone, IsHeld-some, IsOpposed, IsReached, IsReady, IsSeat, IsTrue, KeepsContents, KeepsOthers, KeepsOthers-same, Kind, MAX_LOCKS, MayBeGranted, OnlyReads, OnlyWrites, Releases, Remove, StandsInWay, busy, held, is_of_its_kind, kind_keeps, kind_keeps_contents, kind_of, lock_of, row_of-same, true≢false, turn_keeps, with_lock, with_row-own, without, without_lock}
 use Rattle.step_rules.specs.declared.kind.Kind.TheVariants as kinds
+use Rattle.stale_search.proofs.CauseLemmas.{told_cause}
 use Rattle.stale_search.proofs.StepLemmas.{granted as granted_lock, read as read_page}
 use Rattle.split_merge.specs.MergeWords.{RecordKey, Lock, LockKind, LockName, Directory, Page, Table, row_of, with_row, PoolState, store_of, Store, Change, Progress, Moved, Blocked, Fault, Ended, World, Ask, ForLock, ApproachView, HasNoFileLock, Sees, world, MergePlace}
 use Rattle.split_merge.specs.Places.{MergeView, locks_at, is_done, is_given_up}
@@ -88,7 +89,7 @@ module _ (seat : ℕ) (key : RecordKey) (a : ApproachView) (pool : PoolState) (l
       IsReady pool → ((change : Change) → StandsInWay (Some ask) seat other (was change)) →
       MakesStep seat (Blocked other) (view_at place) (view_at place) pool pool locks locks
   blocked place ask other asked going ready stands = record {
-    writes = record { writes = nothing_written pool ready; spares = λ f. absurd cc };
+    writes = record { writes = nothing_written pool ready; cause = λ f same. absurd cc; spares = λ f. absurd cc };
     aim = record {
       key = refl;
       pseudokey = refl;
@@ -125,7 +126,7 @@ module _ (seat : ℕ) (key : RecordKey) (a : ApproachView) (pool : PoolState) (l
       MakesStep seat (Moved kinds.Grant) (view_at place) (view_at place') pool pool locks locks'
   granted place place' page kind locks' asked going on facts ends ready seated room fresh nobody is reached may
       falls = record {
-        writes = record { writes = nothing_written pool ready; spares = λ f. absurd cc };
+        writes = record { writes = nothing_written pool ready; cause = λ f same. absurd cc; spares = λ f. absurd cc };
         aim = moved_aim place place' kinds.Grant going;
         row = λ before bare row. is
             ∙ ap (λ (xs : List Lock). with_row locks seat (xs ++ lock_of (Page page) kind ∷ [])) row
@@ -157,7 +158,7 @@ module _ (seat : ℕ) (key : RecordKey) (a : ApproachView) (pool : PoolState) (l
       TurnsAwayAt hash seat (view_at place) (view_at place') (was change)) →
       MakesStep seat (Moved kind) (view_at place) (view_at place') pool pool' locks locks
   read place place' kind pool' reads going same known does falls turns = record {
-    writes = record { writes = read_only true pool pool' reads; spares = λ f. absurd cc };
+    writes = record { writes = read_only true pool pool' reads; cause = λ f same. absurd cc; spares = λ f. absurd cc };
     aim = moved_aim place place' kind going;
     row = same_row place place' same;
     progress = λ hash change sees. falls (store_of pool.images) (store_of pool'.images);
@@ -174,11 +175,15 @@ module _ (seat : ℕ) (key : RecordKey) (a : ApproachView) (pool : PoolState) (l
 
   -- the device failed
   pub faulted : (place : MergePlace) (fault : FileFault) (pool' : PoolState) → OnlyWrites false pool pool' →
-      (IsTrue pool.honest → pool'.images ≡ pool.images) → is_done place ≡ false →
+      (IsTrue pool.honest → pool'.images ≡ pool.images) → FileHasCause pool pool' fault → is_done place ≡ false →
       IfSeen place (λ hash change. IsDevicesFault pool pool' fault) →
       MakesStep seat (Fault fault) (view_at place) (view_at place) pool pool' locks locks
-  faulted place fault pool' writes spares going risen = record {
-    writes = record { writes = writes; spares = λ f honest. spares honest };
+  faulted place fault pool' writes spares cause going risen = record {
+    writes = record {
+      writes = writes;
+      cause = told_cause fault pool pool' cause;
+      spares = λ f honest. spares honest;
+    };
     aim = record {
       key = refl;
       pseudokey = refl;
@@ -209,7 +214,7 @@ module _ (seat : ℕ) (key : RecordKey) (a : ApproachView) (pool : PoolState) (l
       IfSeen place (λ hash change. hash key ≡ a.pseudokey → IsWritten hash change place place' kind t)) →
       MakesStep seat (Moved kind) (view_at place) (view_at place') pool pool' locks locks
   wrote place place' kind pool' t writes becomes other going on same falls written = record {
-    writes = record { writes = writes; spares = λ f. absurd cc };
+    writes = record { writes = writes; cause = λ f same. absurd cc; spares = λ f. absurd cc };
     aim = moved_aim place place' kind going;
     row = same_row place place' same;
     progress = λ hash change sees. subst (λ (s : Store). left_at place' a s < left_at place a (store_of pool.images))
@@ -251,7 +256,11 @@ module _ (seat : ℕ) (key : RecordKey) (a : ApproachView) (pool : PoolState) (l
       MakesStep seat (Moved kinds.Release) (view_at place) (view_at place') pool pool' locks locks'
   released place place' name kind pool' locks' reads going up ends fresh seated is idle done known anchored falls
       = record {
-        writes = record { writes = read_only true pool pool' reads; spares = λ f. absurd cc };
+        writes = record {
+          writes = read_only true pool pool' reads;
+          cause = λ f same. absurd cc;
+          spares = λ f. absurd cc;
+        };
         aim = moved_aim place place' kinds.Release going;
         row = given_back;
         progress = falls;
@@ -298,7 +307,7 @@ module _ (seat : ℕ) (key : RecordKey) (a : ApproachView) (pool : PoolState) (l
   pub ended : (place : MergePlace) → is_done place ≡ true → IsReady pool →
       MakesStep seat Ended (view_at place) (view_at place) pool pool locks locks
   ended place done ready = record {
-    writes = record { writes = nothing_written pool ready; spares = λ f. absurd cc };
+    writes = record { writes = nothing_written pool ready; cause = λ f same. absurd cc; spares = λ f. absurd cc };
     aim = record { key = refl; pseudokey = refl; ended = (λ e. done, λ d. refl); stays = refl };
     row = same_row place place (λ before. refl);
     progress = λ hash change sees. tt;

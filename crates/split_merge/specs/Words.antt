@@ -25,6 +25,6 @@ pub use Rattle.step_rules.specs.Structure.{InPhase, HasDepth, Copied, Retargeted
 pub use Rattle.step_rules.specs.Pages.{Lacking, Using}
 pub use Rattle.step_rules.specs.Turns.{is_fault}
 pub use Rattle.stale_search.specs.Searches.{HasNoFileLock}
-pub use Rattle.stale_search.specs.Steps.{Sees, Step, world}
+pub use Rattle.stale_search.specs.Steps.{Sees, Step, WritesPages, world}
 pub use Rattle.split_merge.specs.declared.place.SplitPlace.{SplitPlace}
 pub use Rattle.split_merge.specs.declared.place.SplitPlace.TheVariants.{TakePage, CopyDirectory, RaiseDepth, WriteNew, WriteOld, Retarget, SetCounts, Done, Full}

@@ -1,18 +1,11 @@
 //! The machine.
 
-ghost use Rattle.std.specs.Prelude.{◌≡◌, ◌<◌, ℕ, List, None, IsSome, length, false};
-ghost use Rattle.bucket_page.specs.declared.record_key.RecordKey.{RecordKey};
-ghost use Rattle.page_locks.specs.declared.lock.Lock.{Lock};
+ghost use Rattle.std.specs.Prelude.{◌≡◌, ◌<◌, None, IsSome, length};
 ghost use Rattle.page_locks.specs.declared.row.TheConstants.{MAX_LOCKS};
-ghost use Rattle.page_locks.specs.Table.{IsSeat, row_of, with_row, without_lock, held};
+ghost use Rattle.page_locks.specs.Table.{IsSeat, row_of, without_lock, held};
 ghost use Rattle.stale_search.specs.file_pages.Files.{IsReady};
-ghost use Rattle.hash_file.specs.Change.{Change};
-ghost use Rattle.step_rules.specs.Turns.{is_fault};
-ghost use Rattle.stale_search.specs.Rows.{HasNoFileLock};
-ghost use Rattle.stale_search.specs.Steps.{Sees, WritesOrSpares, world};
-ghost use Rattle.split_merge.specs.Places.{HasMergeRow, IsMergePlace, at, merge_locks};
-ghost use Rattle.split_merge.specs.Facts.{merge_facts};
-ghost use Rattle.split_merge.specs.Steps.{GoesOn, IsConverted, IsGranted, KeepsAim, MakesStep, MergeStep, Progresses, TurnsAwayAt};
+ghost use Rattle.split_merge.specs.Places.{HasMergeRow, IsMergePlace, at};
+ghost use Rattle.split_merge.specs.Steps.{GoesOn, IsConverted, IsGranted, MakesStep};
 
 use crate::merge_place::MergePlace;
 use bucket_page::RecordKey;
@@ -73,44 +66,8 @@ impl Merge {
         self.place
     }
 
-    /// One step.
-    pub fn step<D: PageDevice>(
-        &mut self,
-        pool: &mut Pool<D>,
-        locks: &mut LockTable,
-        seat: u8,
-    ) -> Progress<FileFault>
-        requires seat { IsSeat locks.old seat }
-        requires ready { IsReady pool.old }
-        requires row { HasMergeRow self.old (row_of locks.old seat) }
-        // whatever the device gives
-        ensures writes { WritesOrSpares result pool.old pool.new }
-        ensures aim { KeepsAim result self.old self.new }
-        ensures row { (before : List Lock) → HasNoFileLock before →
-            row_of locks.old seat ≡ merge_locks self.old before →
-            locks.new ≡ with_row locks.old seat (merge_locks self.new before) }
-        // on an honest device, in a sound world
-        ensures progress { (hash : RecordKey → ℕ) (change : Change) →
-            Sees hash seat (merge_facts self.old) pool.old locks.old change →
-            Progresses result self.old self.new pool.old pool.new }
-        ensures step { (hash : RecordKey → ℕ) (change : Change) (before : List Lock) →
-            hash self.old.key ≡ self.old.approach.pseudokey → HasNoFileLock before →
-            row_of locks.old seat ≡ merge_locks self.old before →
-            Sees hash seat (merge_facts self.old) pool.old locks.old change →
-            is_fault result ≡ false →
-            MergeStep hash seat result self.old self.new
-            pool.old pool.new locks.old locks.new change }
-        ensures answer { (hash : RecordKey → ℕ) (change : Change) →
-            hash self.old.key ≡ self.old.approach.pseudokey →
-            Sees hash seat (merge_facts self.old) pool.old locks.old change →
-            is_fault result ≡ false →
-            TurnsAwayAt hash seat self.old self.new (world pool.new.images locks.new change) }
-    {
-        self.make(pool, locks, seat)
-    }
-
     /// One step, by the place.
-    fn make<D: PageDevice>(
+    pub fn step<D: PageDevice>(
         &mut self,
         pool: &mut Pool<D>,
         locks: &mut LockTable,

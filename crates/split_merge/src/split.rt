@@ -1,7 +1,7 @@
 //! The machine.
 
-ghost use Rattle.std.specs.Prelude.{◌≡◌, ◌<◌, ◌≤◌, ◌+◌, ◌%◌, ◌^◌, ℕ, List, false, not};
-ghost use Rattle.split_merge.specs.Words.{RECORD_HEAD_BYTES, ROOM_BYTES, Pair, GREATEST_DEPTH, Lock, IsSeat, row_of, with_row, IsReady, OnlyWrites, Change, is_fault, HasNoFileLock, Sees, Step, world};
+ghost use Rattle.std.specs.Prelude.{◌≡◌, ◌<◌, ◌≤◌, ◌+◌, ◌%◌, ◌^◌, ℕ, List, false};
+ghost use Rattle.split_merge.specs.Words.{RECORD_HEAD_BYTES, ROOM_BYTES, Pair, GREATEST_DEPTH, Lock, IsSeat, row_of, with_row, IsReady, WritesPages, Change, is_fault, HasNoFileLock, Sees, Step, world};
 ghost use Rattle.split_merge.specs.Splits.{FullMeans, IsWanted, KeepsAim, Progresses, split_facts, split_locks, split_turn};
 
 use crate::free_page::take_free;
@@ -118,7 +118,7 @@ impl Split {
         requires seat { IsSeat locks.old seat }
         requires ready { IsReady pool.old }
         // whatever the device gives
-        ensures writes { OnlyWrites (not (is_fault result)) pool.old pool.new }
+        ensures writes { WritesPages result pool.old pool.new }
         ensures aim { KeepsAim result self.old self.new }
         ensures row { (before : List Lock) → HasNoFileLock before →
             row_of locks.old seat ≡ split_locks self.old before →

@@ -10,6 +10,7 @@ use Rattle.page_locks.specs.Locks.{is_against}
 use Rattle.page_locks.proofs.TableLemmas.{row_of-same, held-other}
 use Rattle.page_locks.proofs.ChangeLemmas.{IsSeat-with_row, with_row-own, with_row-twice}
 use Rattle.step_rules.specs.Words.{Lock, LockKind, Directory, Page, Read, Store, entry_at, distance}
+use Rattle.step_rules.specs.declared.kind.Kind.{Kind}
 use Rattle.step_rules.specs.declared.kind.Kind.TheVariants as kinds
 use Rattle.step_rules.specs.Searching.{ByEntry}
 use Rattle.step_rules.specs.Ways.{hops_between}
@@ -19,7 +20,7 @@ use Rattle.step_rules.proofs.MachineLemmas.{directory_may, page_may}
 use Rattle.step_rules.proofs.BoundLemmas.{depth_is_exact, entry_is_near}
 use Rattle.stale_search.specs.Words.{RecordKey, PoolState, MAX_LOCKS, Table, IsSeat, IsOpposed, kind_of, lock_of, without, row_of, with_row, store_of, OnlyReads, IsReached, Moved, Deep, LeadsTo, ForEntry, SearchPlace, GrantDirectory, ReadDepth, ReadEntry, GrantPage, ReleaseDirectory, Look, Found}
 use Rattle.stale_search.specs.Rows.{HasNoFileLock, in_directory, on_page}
-use Rattle.stale_search.specs.Steps.{world}
+use Rattle.stale_search.specs.Steps.{ReadsPages, world}
 use Rattle.stale_search.specs.Searches.{SearchView, IsShared}
 use Rattle.step_rules.specs.Runs.{MovesAlong, Stop, stop}
 use Rattle.stale_search.specs.SearchRuns.{At, SearchStep, at, search_stops}
@@ -38,6 +39,10 @@ same_pool pool ready = record {
   file = λ _ _ f. f;
 }
 
+-- and tells no fault
+looks_only : (pool : PoolState) → IsReady pool → (kind : Kind) → ReadsPages (Moved kind) pool pool
+looks_only pool ready kind = record { reads = same_pool pool ready; cause = λ fault same. absurd cc }
+
 module _ (seat k hops : ℕ) (key : RecordKey) (kind : LockKind) (pool : PoolState) (ready : IsReady pool)
     (before : List Lock) (bare : HasNoFileLock before) (room : length before + 2 ≤ MAX_LOCKS)
     (shared : IsShared kind) where
@@ -51,7 +56,7 @@ module _ (seat k hops : ℕ) (key : RecordKey) (kind : LockKind) (pool : PoolSta
         SearchStep seat (Moved kinds.Grant) (at (v GrantDirectory) pool t)
         (at (v ReadDepth) pool (with_row t seat (in_directory Read before)))
     by_directory begun is nobody = record {
-      reads = same_pool pool ready;
+      reads = looks_only pool ready _;
       aim = record {
         key = refl;
         pseudokey = refl;
@@ -81,7 +86,7 @@ module _ (seat k hops : ℕ) (key : RecordKey) (kind : LockKind) (pool : PoolSta
       pub by_depth : (depth : ℕ) → depth ≡ (store_of pool.images).header.depth →
           SearchStep seat (Moved kinds.ReadDepth) (at (v ReadDepth) pool t) (at (v (ReadEntry depth)) pool t)
       by_depth depth deep = record {
-        reads = same_pool pool ready;
+        reads = looks_only pool ready _;
         aim = record {
           key = refl;
           pseudokey = refl;
@@ -110,7 +115,7 @@ module _ (seat k hops : ℕ) (key : RecordKey) (kind : LockKind) (pool : PoolSta
       pub by_entry : (depth n : ℕ) → n ≡ entry_at (store_of pool.images) (k % 2 ^ depth) →
           SearchStep seat (Moved kinds.ReadEntry) (at (v (ReadEntry depth)) pool t) (at (v (GrantPage n)) pool t)
       by_entry depth n named = record {
-        reads = same_pool pool ready;
+        reads = looks_only pool ready _;
         aim = record {
           key = refl;
           pseudokey = refl;
@@ -141,7 +146,7 @@ module _ (seat k hops : ℕ) (key : RecordKey) (kind : LockKind) (pool : PoolSta
           SearchStep seat (Moved kinds.Grant) (at (v (GrantPage n)) pool t)
           (at (v (ReleaseDirectory n)) pool (with_row t seat (on_page n kind (in_directory Read before))))
       by_page n nobody = record {
-        reads = same_pool pool ready;
+        reads = looks_only pool ready _;
         aim = record {
           key = refl;
           pseudokey = refl;
@@ -173,7 +178,7 @@ module _ (seat k hops : ℕ) (key : RecordKey) (kind : LockKind) (pool : PoolSta
           SearchStep seat (Moved kinds.Release) (at (v (ReleaseDirectory n)) pool t)
           (at (v (Look n)) pool (with_row t seat (on_page n kind before)))
       by_release is = record {
-        reads = same_pool pool ready;
+        reads = looks_only pool ready _;
         aim = record {
           key = refl;
           pseudokey = refl;
@@ -203,7 +208,7 @@ module _ (seat k hops : ℕ) (key : RecordKey) (kind : LockKind) (pool : PoolSta
           found ≡ option_map length (lookup key (records_at (store_of pool.images) n)) →
           SearchStep seat (Moved kinds.Look) (at (v (Look n)) pool t) (at (v (Found n found)) pool t)
       by_look found is covers found_is = record {
-        reads = same_pool pool ready;
+        reads = looks_only pool ready _;
         aim = record {
           key = refl;
           pseudokey = refl;

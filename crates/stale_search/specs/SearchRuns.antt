@@ -1,12 +1,11 @@
 -- A search that goes straight to the page that answers: its states on the way. docs/STEPS.md, "Search".
-use Rattle.std.specs.Prelude.{ℕ, ◌≡◌, not, List, [], ◌∷◌, ◌++◌, Option}
+use Rattle.std.specs.Prelude.{ℕ, ◌≡◌, List, [], ◌∷◌, ◌++◌, Option}
 use Rattle.file_pages.specs.declared.fault.FileFault.{FileFault}
 use Rattle.step_rules.specs.Runs.{Stop, stop, stops_in}
-use Rattle.step_rules.specs.Turns.{is_fault}
 use Rattle.step_rules.specs.Words.{Lock}
 use Rattle.step_rules.specs.declared.kind.Kind.TheVariants as kinds
-use Rattle.stale_search.specs.Words.{PoolState, Table, row_of, with_row, store_of, OnlyReads, Progress, SearchPlace, ReadDepth, ReadEntry, GrantPage, ReleaseDirectory, Look, Found}
-use Rattle.stale_search.specs.Steps.{Advances, FollowsRow, MakesStep}
+use Rattle.stale_search.specs.Words.{PoolState, Table, row_of, with_row, store_of, Progress, SearchPlace, ReadDepth, ReadEntry, GrantPage, ReleaseDirectory, Look, Found}
+use Rattle.stale_search.specs.Steps.{Advances, FollowsRow, MakesStep, ReadsPages}
 use Rattle.stale_search.specs.Searches.{SearchView, GivesAnswer, KeepsAim, search_facts, search_locks, search_turn, left_in}
 
 -- a machine between two steps, with the pool and the locks
@@ -30,7 +29,7 @@ HasNoLock locks = (before : List Lock) → locks before ≡ before
 
 -- a step, and all that is promised of it
 pub record SearchStep (seat : ℕ) (did : Progress FileFault) (old new : At SearchView) : Type 0 where
-  pub reads : OnlyReads (not (is_fault did)) old.pool new.pool
+  pub reads : ReadsPages did old.pool new.pool
   pub aim : KeepsAim did old.pool old.machine new.machine
   pub row : FollowsRow seat (search_locks old.machine) (search_locks new.machine) old.locks new.locks
   pub progress : Advances seat (search_facts old.machine) did (left_in old.machine old.pool)

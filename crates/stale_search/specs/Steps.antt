@@ -1,6 +1,7 @@
 -- What every machine promises of its step.
 use Rattle.std.specs.Prelude.{ℕ, ◌≡◌, ◌<◌, true, false, not, List, Option, IsTrue, ⊤}
-use Rattle.file_pages.specs.Fault.{IsDevicesFault}
+use Rattle.file_pages.specs.Fault.{FileHasCause, IsDevicesFault}
+use Rattle.file_pages.specs.Reads.{OnlyReads}
 use Rattle.file_pages.specs.Writes.{OnlyWrites}
 use Rattle.file_pages.specs.declared.fault.FileFault.{FileFault}
 use Rattle.step_rules.specs.Words.{Lock, Change}
@@ -41,9 +42,24 @@ Nears did left left' pool pool' = ⊤
 
 -- ---- the clauses of a step
 
--- what is written is a page of the file; after a fault no page has changed
-pub record WritesOrSpares {F : Type 0} (did : Progress F) (old new : PoolState) : Type 0 where
+-- the fault of a transfer of the device comes only where one has failed in the step, whatever the device gives
+abbrev pub StepHasCause : Progress FileFault → (old new : PoolState) → Type 0
+StepHasCause did old new = (fault : FileFault) → did ≡ Fault fault → FileHasCause old new fault
+
+-- only frames have changed
+pub record ReadsPages (did : Progress FileFault) (old new : PoolState) : Type 0 where
+  pub reads : OnlyReads (not (is_fault did)) old new
+  pub cause : StepHasCause did old new
+
+-- what is written is a page of the file
+pub record WritesPages (did : Progress FileFault) (old new : PoolState) : Type 0 where
   pub writes : OnlyWrites (not (is_fault did)) old new
+  pub cause : StepHasCause did old new
+
+-- and after a fault no page has changed
+pub record WritesOrSpares (did : Progress FileFault) (old new : PoolState) : Type 0 where
+  pub writes : OnlyWrites (not (is_fault did)) old new
+  pub cause : StepHasCause did old new
   pub spares : is_fault did ≡ true → IsTrue old.honest → new.images ≡ old.images
 
 -- where a step did not move, also after a fault, the machine is what it was

@@ -1,11 +1,9 @@
 //! How a seat that is to change the structure comes to a bucket.
 
-ghost use Rattle.std.specs.Prelude.{◌≡◌, not};
+ghost use Rattle.std.specs.Prelude.{◌≡◌};
 ghost use Rattle.page_locks.specs.Table.{IsSeat, row_of};
 ghost use Rattle.file_pages.specs.Files.{IsReady};
-ghost use Rattle.file_pages.specs.Reads.{OnlyReads};
-ghost use Rattle.step_rules.specs.Turns.{is_fault};
-ghost use Rattle.stale_search.specs.Steps.{Advances, FollowsRow, MakesStep};
+ghost use Rattle.stale_search.specs.Steps.{Advances, FollowsRow, MakesStep, ReadsPages};
 ghost use Rattle.stale_search.specs.Approaches.{HasApproachRow, IsShallow, KeepsGoal};
 ghost use Rattle.stale_search.specs.Approaches.{approach_facts, approach_left, approach_locks, approach_turn};
 
@@ -73,7 +71,7 @@ impl Approach {
         requires ready { IsReady pool.old }
         requires row { HasApproachRow self.old (row_of locks.old seat) }
         // whatever the device gives
-        ensures reads { OnlyReads (not (is_fault result)) pool.old pool.new }
+        ensures reads { ReadsPages result pool.old pool.new }
         ensures goal { KeepsGoal result self.old self.new }
         ensures row { FollowsRow seat (approach_locks self.old) (approach_locks self.new)
             locks.old locks.new }

@@ -3,13 +3,11 @@
 //! What is done at a page promises what `step` does, at the place of that page: so `step` is a
 //! match on the places, and each of them is proved by itself.
 
-ghost use Rattle.std.specs.Prelude.{◌≡◌, not, IfSome, IsSome};
+ghost use Rattle.std.specs.Prelude.{◌≡◌, IfSome, IsSome};
 ghost use Rattle.page_locks.specs.Table.{IsSeat, row_of};
 ghost use Rattle.file_pages.specs.Files.{IsReady};
-ghost use Rattle.file_pages.specs.Reads.{OnlyReads};
 ghost use Rattle.step_rules.specs.Runs.{MovesAlong};
-ghost use Rattle.step_rules.specs.Turns.{is_fault};
-ghost use Rattle.stale_search.specs.Steps.{Advances, FollowsRow, MakesStep};
+ghost use Rattle.stale_search.specs.Steps.{Advances, FollowsRow, MakesStep, ReadsPages};
 ghost use Rattle.stale_search.specs.Searches.{GivesAnswer, HasRow, IsShared, KeepsAim};
 ghost use Rattle.stale_search.specs.SearchRuns.{HasNoLock, SearchStep, at, search_at, search_stops};
 ghost use Rattle.stale_search.specs.Searches.{search_facts, search_locks, search_turn, left_in};
@@ -100,7 +98,7 @@ impl Search {
         requires ready { IsReady pool.old }
         requires row { HasRow self.old (row_of locks.old seat) }
         // whatever the device gives
-        ensures reads { OnlyReads (not (is_fault result)) pool.old pool.new }
+        ensures reads { ReadsPages result pool.old pool.new }
         ensures aim { KeepsAim result pool.old self.old self.new }
         ensures row { FollowsRow seat (search_locks self.old) (search_locks self.new)
             locks.old locks.new }
@@ -211,7 +209,7 @@ impl Search {
         requires ready { IsReady pool.old }
         requires row { HasRow self.old (row_of locks.now seat) }
         // whatever the device gives
-        ensures reads { OnlyReads (not (is_fault result)) pool.old pool.new }
+        ensures reads { ReadsPages result pool.old pool.new }
         ensures aim { KeepsAim result pool.old self.old self.new }
         ensures row { FollowsRow seat (search_locks self.old) (search_locks self.new)
             locks.now locks.now }
@@ -249,7 +247,7 @@ impl Search {
         requires ready { IsReady pool.old }
         requires row { HasRow self.old (row_of locks.old seat) }
         // whatever the device gives
-        ensures reads { OnlyReads (not (is_fault result)) pool.old pool.new }
+        ensures reads { ReadsPages result pool.old pool.new }
         ensures aim { KeepsAim result pool.old self.old self.new }
         ensures row { FollowsRow seat (search_locks self.old) (search_locks self.new)
             locks.old locks.new }

@@ -177,7 +177,7 @@ module _ (hash : RecordKey → ℕ) (seat : ℕ) (names : List Lock) (did : Prog
         change
     stepped = step.step (purpose_of d) (records (access_key a)) change faces fine
 
-    pub tells : TellsOf hash did (purpose_of d) (records (access_key a)) a a' (world pool.images locks change)
+    pub tells : TellsOf hash seat did (purpose_of d) (records (access_key a)) a a' (world pool.images locks change)
         (world pool'.images locks' change)
     tells = step.answer (purpose_of d) (records (access_key a)) change faces fine
 

@@ -17,5 +17,6 @@ returns-then-len-front_bytes g c =
     (record { operation = a.operation; links = links; bytes = a.bytes; written = a.written })) (sym c.requires.links)
     (front_fails a.operation c.args.links.now a.bytes a.written c.args.page c.args.len c.requires.answered
     c.requires.replaces c.args.pool.now c.args.pool.now Failed a.bytes (unread c.args.pool.now c.requires.ready)
+    (λ same. absurd cc)
     (λ r sees such value long. too_short a.operation c.args.links.now a.bytes a.written c.args.page c.args.len
     c.requires.answered c.requires.replaces c.args.pool.now c.args.pool.now (omega (arith, less, size)) r such long))

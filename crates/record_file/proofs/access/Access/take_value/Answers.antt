@@ -13,5 +13,5 @@ returns g c =
     rw (← c.self.view_is) (value_takes c.self.inside.operation c.self.inside.links
     (take c.self.inside.len c.self.inside.bytes) (take c.args.len c.read_value.new.room) c.self.inside.written
     c.args.page c.args.len finds c.args.pool.now c.read_value.new.pool tt e.reads
-    (length-take-le c.args.len c.read_value.new.room (omega (arith, e.within, size)))
+    (length-take-le c.args.len c.read_value.new.room (omega (arith, e.spelled.0, size)))
     (λ honest. ap (value_on c.args.pool.now c.args.page) c.self.invariant.key_is ∙ e.ok honest))

@@ -3,6 +3,7 @@ use Rattle.std.proofs.Common.{◌≡◌, sym, ap, ◌∙◌, subst, ℕ, ◌+◌
 use Rattle.bucket_page.specs.declared.layout.TheConstants.{RECORD_HEAD_BYTES, ROOM_BYTES}
 use Rattle.split_merge.specs.file_pages.declared.sight.BucketSight.{BucketSight}
 use Rattle.split_merge.proofs.MoveLemmas.{read_only}
+use Rattle.split_merge.proofs.of_stale_search.CauseLemmas.{cause_after}
 use Rattle.hash_file.specs.Changes.{write_record}
 use Rattle.record_file.specs.Words.{Put, pair, found_at}
 use Rattle.record_file.specs.declared.bucket_access.Deed.TheVariants as deeds
@@ -20,7 +21,7 @@ returns-in-Err g c =
     let reads = c.in-Err.ensures.reads in
     rw (as_searching c.args.self.now c.requires.stage) (has_failed deeds.Put c.args.seat c.args.value.now c.args.pool.now
     c.read_bucket.new.pool c.args.locks.now v c.args.page None at tt _
-    (read_only false c.args.pool.now c.read_bucket.new.pool reads) reads.images
+    (read_only false c.args.pool.now c.read_bucket.new.pool reads) reads.images c.in-Err.ensures.cause
     (λ hash change suits sees. read_fails hash c.args.seat _ c.args.pool.now c.args.locks.now change sees c.args.page
     v.pseudokey sees.known.0 sees.known.1.0 (c.in-Err.ensures.fault sees.honest sees.file)))
 
@@ -82,6 +83,8 @@ returns-in-Err-put_record g c =
     (writes_behind false c.args.pool.now c.read_bucket.new.pool c.put_record.new.pool reads
     c.in-Err-put_record.ensures.writes)
     (λ honest. c.in-Err-put_record.ensures.err (reads.honest ∙ honest) ∙ reads.images honest)
+    (cause_after c.args.pool.now c.read_bucket.new.pool c.put_record.new.pool _ reads.later
+    c.in-Err-put_record.ensures.cause)
     (λ hash change suits sees.
     let used = ap (λ (x : BucketSight). x.used) (c.in-Ok.ensures.ok sees.honest).says in
     put_fails hash c.args.seat c.args.pool.now c.args.locks.now change v c.args.page sees c.read_bucket.new.pool

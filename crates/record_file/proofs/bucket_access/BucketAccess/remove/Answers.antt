@@ -2,6 +2,7 @@
 use Rattle.std.proofs.Common.{◌≡◌, sym, ap, ◌∙◌, subst, ℕ, true, false, refl, Some}
 use Rattle.split_merge.specs.file_pages.declared.sight.BucketSight.{BucketSight}
 use Rattle.split_merge.proofs.MoveLemmas.{read_only}
+use Rattle.split_merge.proofs.of_stale_search.CauseLemmas.{cause_after}
 use Rattle.hash_file.specs.Chain.{IsBucketOf}
 use Rattle.hash_file.specs.Changes.{write_record}
 use Rattle.record_file.specs.Words.{Remove, Selective, found_at, store_of, world}
@@ -22,7 +23,7 @@ returns-in-Err g c = λ bytes.
     let reads = c.in-Err.ensures.reads in
     rw (as_searching c.args.self.now c.requires.stage) (has_failed deeds.Remove c.args.seat bytes c.args.pool.now
     c.read_bucket.new.pool c.args.locks.now v c.args.page (Some c.args.len) at tt _
-    (read_only false c.args.pool.now c.read_bucket.new.pool reads) reads.images
+    (read_only false c.args.pool.now c.read_bucket.new.pool reads) reads.images c.in-Err.ensures.cause
     (λ hash change suits sees. read_fails hash c.args.seat _ c.args.pool.now c.args.locks.now change sees c.args.page
     v.pseudokey sees.known.0 sees.known.1.0 (c.in-Err.ensures.fault sees.honest sees.file)))
 
@@ -72,6 +73,8 @@ returns-in-Err-remove_record g c = λ bytes.
     (writes_behind false c.args.pool.now c.read_bucket.new.pool c.remove_record.new.pool reads
     c.in-Err-remove_record.ensures.writes)
     (λ honest. c.in-Err-remove_record.ensures.err (reads.honest ∙ honest) ∙ reads.images honest)
+    (cause_after c.args.pool.now c.read_bucket.new.pool c.remove_record.new.pool _ reads.later
+    c.in-Err-remove_record.ensures.cause)
     (λ hash change suits sees. removal_fails hash c.args.seat c.args.pool.now c.args.locks.now change v c.args.page
     c.args.len sees c.read_bucket.new.pool c.remove_record.new.pool _ reads
     (fault (reads.honest ∙ sees.honest) (reads.file sees.honest refl sees.file))))

@@ -28,5 +28,6 @@ returns-in-Err g c =
     let fault = rw (← c.self.invariant.key_is) at c.in-Err.ensures.fault in
     rw (← c.self.view_is, stage) (has_failed deeds.Replace c.args.seat c.args.front.now c.args.pool.now
     c.replace_front.new.pool c.args.locks.now v c.args.page (Some c.args.len) at tt _ c.in-Err.ensures.writes
-    c.in-Err.ensures.err (λ hash change suits sees. fronting_fails hash c.args.seat c.args.pool.now c.args.locks.now
+    c.in-Err.ensures.err c.in-Err.ensures.cause
+    (λ hash change suits sees. fronting_fails hash c.args.seat c.args.pool.now c.args.locks.now
     change v c.args.page c.args.len sees suits.0 c.args.front.now suits.1 (fault sees.honest sees.file)))

@@ -30,7 +30,7 @@ step-requires-clause-row g c =
 
 pub returns-in-None-clause-writes : goal.returns-in-None-clause-writes
 returns-in-None-clause-writes g c =
-    fault_spares deeds.Remove c.step.result c.args.pool.now c.step.new.pool c.step.ensures.writes
+    fault_spares deeds.Remove c.step.result c.args.pool.now c.step.new.pool c.step.ensures.writes c.step.ensures.cause
 
 pub returns-in-None-clause-row : goal.returns-in-None-clause-row
 returns-in-None-clause-row g c = λ before bare row.

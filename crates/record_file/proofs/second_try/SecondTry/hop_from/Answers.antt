@@ -1,6 +1,5 @@
 use Rattle.std.proofs.Common.{ap, ◌∙◌, []}
 use Rattle.page_locks.specs.Table.{Table, without_lock}
-use Rattle.split_merge.specs.file_pages.declared.fault.FileFault.TheVariants.{Failed}
 use Rattle.record_file.specs.InsertWords.{Page}
 use Rattle.record_file.proofs.HopLemmas.{not_looked, hopped_back, is_itself, is_fresh, is_kept_from, moves_on}
 use Rattle.record_file.proofs.second_try.SecondTry.hop_from.Goals as goal
@@ -11,7 +10,7 @@ returns-then-next-page g c = λ hash value.
     let v = c.self.inside in
     rw (← c.self.view_is, is) (is_itself hash c.args.seat v.key v.pseudokey v.bytes value c.args.pool.now
     c.args.locks.now c.args.depth c.args.page c.look.new.pool c.in-Ok-Naming.ensures.reads c.in-Ok-Naming.next
-    (λ honest. rw c.in-Ok-Naming.field-0-is at (c.in-Ok-Naming.ensures.ok honest)) Failed c.if-next-page.true)
+    (λ honest. rw c.in-Ok-Naming.field-0-is at (c.in-Ok-Naming.ensures.ok honest)) c.if-next-page.true)
 
 pub try_grant-requires-clause-fresh : goal.try_grant-requires-clause-fresh
 try_grant-requires-clause-fresh g c =
@@ -57,4 +56,4 @@ returns-in-Err g c = λ hash value.
     let v = c.self.inside in
     rw (← c.self.view_is, is) (not_looked hash c.args.seat v.key v.pseudokey v.bytes value c.args.pool.now
     c.args.locks.now c.args.depth c.args.page c.look.new.pool c.in-Err.fault c.in-Err.ensures.reads
-    c.in-Err.ensures.fault)
+    c.in-Err.ensures.cause c.in-Err.ensures.fault)

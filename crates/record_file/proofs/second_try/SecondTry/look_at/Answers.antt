@@ -1,5 +1,4 @@
 use Rattle.std.proofs.Common.{sym, ◌∙◌}
-use Rattle.split_merge.specs.file_pages.declared.fault.FileFault.TheVariants.{Failed}
 use Rattle.record_file.proofs.RoomLemmas.{no_room_is}
 use Rattle.record_file.proofs.LookLemmas.{not_looked, is_named, is_there, not_read, fits, is_full, is_too_deep, splits, no_length}
 use Rattle.record_file.proofs.second_try.SecondTry.look_at.Goals as goal
@@ -17,7 +16,7 @@ returns-in-Err g c = λ value lent hash seat locks.
     let is = rw (← c.self.view_is) at c.requires.place in
     let v = c.self.inside in
     rw (← c.self.view_is, is) (not_looked hash seat v.key v.pseudokey v.bytes value c.args.pool.now locks c.args.depth
-    c.args.page c.in-Err.fault c.look.new.pool c.in-Err.ensures.reads
+    c.args.page c.in-Err.fault c.look.new.pool c.in-Err.ensures.reads c.in-Err.ensures.cause
     c.in-Err.ensures.fault)
 
 pub returns-then-is_some : goal.returns-then-is_some
@@ -37,7 +36,7 @@ returns-in-Err-read_bucket g c = λ value lent hash seat locks.
     rw (← c.self.view_is, is) (not_read hash seat v.key v.pseudokey v.bytes value c.args.pool.now locks c.args.depth
     c.args.page c.look.new.pool c.read_bucket.new.pool c.in-Ok-Covering.ensures.reads
     (λ honest. rw (c.in-Ok-Covering.field-0-is, none) at (c.in-Ok-Covering.ensures.ok honest))
-    c.in-Err-read_bucket.fault c.in-Err-read_bucket.ensures.reads
+    c.in-Err-read_bucket.fault c.in-Err-read_bucket.ensures.reads c.in-Err-read_bucket.ensures.cause
     c.in-Err-read_bucket.ensures.fault)
 
 pub returns-then-has_room : goal.returns-then-has_room
@@ -74,7 +73,7 @@ returns-then-depth-gt-GREATEST_DEPTH g c = λ value lent hash seat locks.
     (λ honest. rw (c.in-Ok-Covering.field-0-is, none) at (c.in-Ok-Covering.ensures.ok honest))
     c.in-Ok.ensures.reads c.in-Ok.sight c.in-Ok.ensures.ok lent'
     (no_room_is c.in-Ok.sight.used v.bytes (sym c.has_room.ensures ∙ c.if-has_room.false))
-    Failed c.if-depth-gt-GREATEST_DEPTH.true)
+    c.if-depth-gt-GREATEST_DEPTH.true)
 
 pub returns : goal.returns
 returns g c = λ value lent hash seat locks.

@@ -18,4 +18,4 @@ returns-in-Err g c = λ hash seat locks.
     let room = rw is at c.self.invariant in
     rw (← c.self.view_is, is) (not_put hash seat v.key v.pseudokey v.bytes c.args.value.now c.args.pool.now locks
     c.args.page c.args.used c.put_record.new.pool lent room c.in-Err.fault c.in-Err.ensures.writes
-    c.in-Err.ensures.err c.in-Err.ensures.fault)
+    c.in-Err.ensures.err c.in-Err.ensures.cause c.in-Err.ensures.fault)

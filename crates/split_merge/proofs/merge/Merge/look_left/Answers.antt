@@ -10,6 +10,7 @@ returns-in-Err g c = λ seat locks row.
     c.requires.place
     (side_not_read seat c.args.self.now.key c.args.self.now.approach c.args.pool.now c.read_bucket.new.pool locks
     c.args.b c.requires.buddies (LookLeft c.args.b) c.args.b.left c.in-Err.fault c.in-Err.ensures.reads
+    c.in-Err.ensures.cause
     (λ honest file live. c.in-Err.ensures.fault honest file live.behind live.within live.bucket)
     (λ hash change sees. (on_chain seat c.args.self.now.key c.args.self.now.approach c.args.pool.now
     c.read_bucket.new.pool locks c.args.b c.requires.buddies [] hash change sees.known).0) refl)

@@ -9,6 +9,7 @@ returns-in-Err g c = λ seat locks row.
     stays seat c.args.pool.now locks c.args.self.now Approaching c.in-Err.fault c.read_bucket.new.pool c.requires.place
     (own_not_read seat c.args.self.now.key c.args.self.now.approach c.args.pool.now c.read_bucket.new.pool locks
     c.args.depth c.args.page c.requires.reached c.in-Err.fault c.in-Err.ensures.reads
+    c.in-Err.ensures.cause
     (λ honest file live. c.in-Err.ensures.fault honest file live.behind live.within live.bucket))
 
 -- the range of a live bucket is one
@@ -16,7 +17,7 @@ pub returns-then-not-is_valid : goal.returns-then-not-is_valid
 returns-then-not-is_valid g c = λ seat locks row.
     stays seat c.args.pool.now locks c.args.self.now Approaching Failed c.read_bucket.new.pool c.requires.place
     (own_not_valid seat c.args.self.now.key c.args.self.now.approach c.args.pool.now c.read_bucket.new.pool locks
-    c.args.depth c.args.page c.requires.reached c.in-Ok.sight c.in-Ok.ensures.reads c.in-Ok.ensures.ok Failed
+    c.args.depth c.args.page c.requires.reached c.in-Ok.sight c.in-Ok.ensures.reads c.in-Ok.ensures.ok
     (λ valid. absurd (let fine = c.is_valid.ensures.1 valid in let off = c.if-not-is_valid.true in cc)))
 
 -- a bucket of depth 0 has no buddy

@@ -12,6 +12,7 @@ returns-in-Err g c = λ seat locks row.
     c.requires.place
     (side_not_read seat c.args.self.now.key c.args.self.now.approach c.args.pool.now c.read_bucket.new.pool locks
     c.args.b c.requires.buddies (LookRight c.args.b c.args.left) c.args.b.right c.in-Err.fault c.in-Err.ensures.reads
+    c.in-Err.ensures.cause
     (λ honest file live. c.in-Err.ensures.fault honest file live.behind live.within live.bucket)
     (λ hash change sees. (on_chain seat c.args.self.now.key c.args.self.now.approach c.args.pool.now
     c.read_bucket.new.pool locks c.args.b c.requires.buddies (left_facts c.args.b c.args.left []) hash change

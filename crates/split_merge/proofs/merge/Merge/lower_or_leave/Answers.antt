@@ -1,6 +1,7 @@
 use Rattle.std.proofs.Common.{sym, ap, subst, is_ok, ◌∙◌, ◌≤◌, ℕ, List, slice_index_or}
 use Rattle.directory.specs.declared.header.Header.{Header}
 use Rattle.split_merge.specs.MergeWords.{store_of}
+use Rattle.stale_search.proofs.CauseLemmas.{causes_after}
 use Rattle.stale_search.proofs.of_file_pages.ReadLemmas.{fails_after}
 use Rattle.hash_file.specs.Changes.{lower_depth}
 use Rattle.split_merge.proofs.LockArms.{leave_page}
@@ -15,6 +16,8 @@ returns-then-count-eq0 g c =
     (read_then_written (is_ok c.lower_depth-done.result) c.args.pool.now c.read_header.new.pool
     c.lower_depth-done.new.pool reads
     c.lower_depth-done.ensures.writes)
+    (causes_after c.lower_depth-done.result c.args.pool.now c.read_header.new.pool c.lower_depth-done.new.pool
+    reads.later c.lower_depth-done.ensures.cause)
     (λ honest. err_through c.lower_depth-done.result _ _ (λ same. same ∙ reads.images honest)
     (c.lower_depth-done.ensures.err (reads.honest ∙ honest)))
     c.args.page c.in-Ok.header.depth c.requires.place c.go_on.ensures

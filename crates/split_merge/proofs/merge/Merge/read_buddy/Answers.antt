@@ -17,7 +17,7 @@ returns-in-Err g c = λ seat locks row.
     c.requires.place
     (buddy_not_read seat c.args.self.now.key c.args.self.now.approach c.args.pool.now c.read_entry.new.pool locks
     c.args.own c.requires.own c.in-Err.fault c.in-Err.ensures.reads
-    c.in-Err.ensures.fault)
+    c.in-Err.ensures.cause c.in-Err.ensures.fault)
 
 -- no bucket is its own buddy
 pub returns-then-buddy-own : goal.returns-then-buddy-own
@@ -28,7 +28,7 @@ returns-then-buddy-own g c = λ seat locks row.
     c.args.own c.requires.own c.in-Ok.buddy c.in-Ok.ensures.reads
     (λ honest. c.in-Ok.ensures.ok honest ∙ ap (entry_at (store_of c.args.pool.now.images))
     (c.index.ensures ∙ ap (λ (r : Range). r.pattern % 2 ^ c.args.own.depth) c.buddy.ensures))
-    Failed c.if-buddy-own.true)
+    c.if-buddy-own.true)
 
 pub returns-then-is_lower_half : goal.returns-then-is_lower_half
 returns-then-is_lower_half g c = λ seat locks row.

@@ -1,6 +1,6 @@
 -- Each machine's step is that of its operation.
 use Rattle.record_file.proofs.KindLemmas.{delete_makes, find_makes, insert_makes, replace_makes}
-use Rattle.record_file.proofs.operation.RecordOperation.make.Goals as goal
+use Rattle.record_file.proofs.operation.RecordOperation.step.Goals as goal
 
 pub returns-in-Find : goal.returns-in-Find
 returns-in-Find g c =
@@ -9,10 +9,9 @@ returns-in-Find g c =
 
 pub returns-in-Insert : goal.returns-in-Insert
 returns-in-Insert g c =
-    let e = c.step-in-Insert.ensures in
     rw (c.in-Insert.is) (insert_makes _ c.args.seat c.args.bytes.now c.step-in-Insert.result c.args.pool.now
     c.step-in-Insert.new.pool c.args.locks.now c.step-in-Insert.new.locks c.in-Insert.insert c.step-in-Insert.new.self
-    e.writes e.aim e.row e.progress e.step e.answer)
+    c.step-in-Insert.ensures)
 
 pub step-requires-in-Replace-clause-kind : goal.step-requires-in-Replace-clause-kind
 step-requires-in-Replace-clause-kind g c = rw c.in-Replace.is at c.requires.lent

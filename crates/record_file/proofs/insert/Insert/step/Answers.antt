@@ -3,7 +3,7 @@ use Rattle.step_rules.specs.declared.kind.Kind.{Kind}
 use Rattle.step_rules.specs.declared.kind.Kind.TheVariants as kinds
 use Rattle.record_file.specs.InsertWords.{Moved}
 use Rattle.record_file.proofs.InsertLemmas.{none_said, says_on, has_put, has_seen, passes_on, second_goes_on}
-use Rattle.record_file.proofs.insert.Insert.make.Goals as goal
+use Rattle.record_file.proofs.insert.Insert.step.Goals as goal
 
 -- ---- the first try
 
@@ -68,14 +68,6 @@ pub returns-in-Second : goal.returns-in-Second
 returns-in-Second g c =
     let i = c.self.inside in
     let inv = rw c.in-Second.is at c.self.invariant in
-    let e = c.step.ensures in
     rw (← c.self.view_is, c.in-Second.is) (second_goes_on _ c.args.seat i.key i.pseudokey c.args.value.now
     c.args.pool.now c.step.new.pool c.args.locks.now c.step.new.locks c.step.result c.in-Second.second c.step.new.self
-    inv (record {
-      writes = e.writes;
-      aim = e.aim;
-      row = e.row;
-      progress = e.progress;
-      step = e.step;
-      answer = e.answer;
-    }))
+    inv c.step.ensures)

@@ -2,7 +2,7 @@ use Rattle.std.proofs.Common.{sym, ◌∙◌}
 use Rattle.record_file.proofs.ApproachLemmas.{arrives, goes_on as way_goes_on}
 use Rattle.record_file.proofs.InsertReleaseLemmas.{gives_page_back, gives_directory_back}
 use Rattle.record_file.proofs.SplitLemmas.{goes_on, is_full, is_split}
-use Rattle.record_file.proofs.second_try.SecondTry.make.Goals as goal
+use Rattle.record_file.proofs.second_try.SecondTry.step.Goals as goal
 
 -- ---- on the way to the bucket
 

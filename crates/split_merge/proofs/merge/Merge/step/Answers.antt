@@ -10,7 +10,7 @@ use Rattle.split_merge.proofs.LockArms.{grant_right, grant_left, grant_right_aga
 use Rattle.split_merge.proofs.JoinLemmas.{joins, buries, names_left}
 use Rattle.split_merge.proofs.MergeFreeLemmas.{counts, frees, links}
 use Rattle.split_merge.proofs.ApproachLemmas.{not_reached, approaches}
-use Rattle.split_merge.proofs.merge.Merge.make.Goals as goal
+use Rattle.split_merge.proofs.merge.Merge.step.Goals as goal
 
 -- ---- on the way to the bucket
 pub returns-in_default : goal.returns-in_default
@@ -180,7 +180,8 @@ pub returns-in-WriteLeft : goal.returns-in-WriteLeft
 returns-in-WriteLeft g c =
     let is = ap (λ (v : MergeView). v.place) (sym c.self.view_is) ∙ c.in-WriteLeft.is in
     joins c.args.seat c.args.pool.now c.args.locks.now c.args.self.now c.write_left-done.result c.go_on.result
-    c.write_left-done.new.pool c.go_on.new.self c.write_left-done.ensures.writes c.write_left-done.ensures.err
+    c.write_left-done.new.pool c.go_on.new.self c.write_left-done.ensures.writes
+    c.write_left-done.ensures.cause c.write_left-done.ensures.err
     c.in-WriteLeft.b (let h = rw c.in-WriteLeft.is at c.self.invariant in h.0)
     c.in-WriteLeft.field-1 c.in-WriteLeft.field-2 (let h = rw c.in-WriteLeft.is at c.self.invariant in h.1) is
     (rw c.joint.ensures.value at c.go_on.ensures)
@@ -192,6 +193,7 @@ returns-in-Tombstone g c =
     buries c.args.seat c.args.pool.now c.args.locks.now c.args.self.now c.write_tombstone-done.result
     c.go_on-in-Tombstone.result
     c.write_tombstone-done.new.pool c.go_on-in-Tombstone.new.self c.write_tombstone-done.ensures.writes
+    c.write_tombstone-done.ensures.cause
     c.write_tombstone-done.ensures.err
     c.in-Tombstone.j (rw c.in-Tombstone.is at c.self.invariant) is
     (rw c.behind_tombstone.ensures.value at c.go_on-in-Tombstone.ensures)
@@ -202,7 +204,8 @@ returns-in-Retarget g c =
     let is = ap (λ (v : MergeView). v.place) (sym c.self.view_is) ∙ c.in-Retarget.is in
     names_left c.args.seat c.args.pool.now c.args.locks.now c.args.self.now c.retarget-done.result
     c.go_on-in-Retarget.result
-    c.retarget-done.new.pool c.go_on-in-Retarget.new.self c.retarget-done.ensures.writes c.retarget-done.ensures.err
+    c.retarget-done.new.pool c.go_on-in-Retarget.new.self c.retarget-done.ensures.writes
+    c.retarget-done.ensures.cause c.retarget-done.ensures.err
     c.in-Retarget.j (let h = rw c.in-Retarget.is at c.self.invariant in h.joint) c.in-Retarget.entry
     (rw c.in-Retarget.is at c.self.invariant) is (rw c.behind_entry.ensures.value at c.go_on-in-Retarget.ensures)
     (rw (c.page_of.ensures.value, c.upper_half.ensures) at c.retarget-done.ensures.ok)
@@ -214,6 +217,7 @@ returns-in-SetCounts g c =
     counts c.args.seat c.args.pool.now c.args.locks.now c.args.self.now c.count_merge-done.result
     c.go_on-in-SetCounts.result
     c.count_merge-done.new.pool c.go_on-in-SetCounts.new.self c.count_merge-done.ensures.writes
+    c.count_merge-done.ensures.cause
     c.count_merge-done.ensures.err
     c.in-SetCounts.j (rw c.in-SetCounts.is at c.self.invariant) is c.go_on-in-SetCounts.ensures
     c.count_merge-done.ensures.ok c.count_merge-done.ensures.fault
@@ -224,6 +228,7 @@ returns-in-WriteFree g c =
     frees c.args.seat c.args.pool.now c.args.locks.now c.args.self.now c.write_free-done.result
     c.go_on-in-WriteFree.result
     c.write_free-done.new.pool c.go_on-in-WriteFree.new.self c.write_free-done.ensures.writes
+    c.write_free-done.ensures.cause
     c.write_free-done.ensures.err
     c.in-WriteFree.j is c.go_on-in-WriteFree.ensures
     c.write_free-done.ensures.ok c.write_free-done.ensures.fault
@@ -233,6 +238,7 @@ returns-in-LinkFree g c =
     let is = ap (λ (v : MergeView). v.place) (sym c.self.view_is) ∙ c.in-LinkFree.is in
     links c.args.seat c.args.pool.now c.args.locks.now c.args.self.now c.link_free-done.result
     c.go_on-in-LinkFree.result
-    c.link_free-done.new.pool c.go_on-in-LinkFree.new.self c.link_free-done.ensures.writes c.link_free-done.ensures.err
+    c.link_free-done.new.pool c.go_on-in-LinkFree.new.self c.link_free-done.ensures.writes
+    c.link_free-done.ensures.cause c.link_free-done.ensures.err
     c.in-LinkFree.page is c.go_on-in-LinkFree.ensures
     c.link_free-done.ensures.ok c.link_free-done.ensures.fault
