@@ -12,7 +12,9 @@ use Rattle.xsi_calls.proofs.PlanLemmas.{plans_have_one_counter}
 use Rattle.xsi_calls.proofs.CounterLemmas.{paid_counter}
 use Rattle.xsi_calls.proofs.GoLemmas.{at_end, not_end, with_stage}
 use Rattle.xsi_calls.specs.Words.{AreNames, Blocked, Call, Caller, Change, Ended, Fault, IsPaid, IsPaying, IsSeat, Known, Lock, MakesPayment, Moved, NearsOrSpares, OnlyWrites, PaymentStage, Pays, Plan, PoolState, Progress, QuestionsView, RecordKey, Records, Sees, State, Store, Table, Turn, UndecidedCall, World, is_fault, its_plan, TrialLacksRoom, trials_of, payment_facts, payment_left, payment_locks, payment_turn, row_of, store_of, with_row, world}
-use Rattle.xsi_calls.specs.Machine.{CallView, call_facts, call_left, call_locks}
+use Rattle.xsi_calls.specs.Payments.{payment_access}
+use Rattle.xsi_remove.specs.UnderWay.{StepsUnderWay}
+use Rattle.xsi_calls.specs.Machine.{CallView, call_access, call_facts, call_left, call_locks}
 use Rattle.xsi_calls.specs.Calling.{IsPayingCall, IsReleasing}
 use Rattle.xsi_calls.specs.CallSteps.{MakesCall, MakesRelease, StepsCall, is_end}
 
@@ -21,6 +23,10 @@ use Rattle.xsi_calls.specs.CallSteps.{MakesCall, MakesRelease, StepsCall, is_end
 pub paid_locks : (p : Plan) (v : PaymentStage) (names : List Lock) → IsPaid p v → payment_locks v names ≡ names
 paid_locks p (stages.Sweeping v) names paid = absurd paid
 paid_locks p (stages.Writing w) names paid = ap (λ (o : Option AccessView). locks_under o names) paid.rests
+
+paid_access : (p : Plan) (v : PaymentStage) → IsPaid p v → payment_access v ≡ None
+paid_access p (stages.Sweeping v) paid = absurd paid
+paid_access p (stages.Writing w) paid = paid.rests
 
 paid_facts : (p : Plan) (v : PaymentStage) → IsPaid p v → payment_facts v ≡ []
 paid_facts p (stages.Sweeping v) paid = absurd paid
@@ -75,6 +81,7 @@ module _ (hash : RecordKey → ℕ) (seat : ℕ) (caller : Caller) (call : Call)
         MakesCall hash seat stopped did (paying v) (paying v') pool pool' locks locks'
     pays_on more stopped = record {
       writes = made.writes;
+      cause = made.cause;
       aim = record {
         caller = refl;
         call = refl;
@@ -104,6 +111,7 @@ module _ (hash : RecordKey → ℕ) (seat : ℕ) (caller : Caller) (call : Call)
             behind = record { names = is.names; pays = on.pays };
             full = λ before full. absurd (true≢false (sym full ∙ before));
           };
+      turns_away = λ s records change is mark fine. made.turns_away names records change is.pays fine;
     }
 
     -- ---- it has ended
@@ -189,6 +197,7 @@ module _ (hash : RecordKey → ℕ) (seat : ℕ) (caller : Caller) (call : Call)
               stored = first.stored;
               file = λ honest done file. first.file honest refl file;
             };
+            cause = λ fault is. absurd (true≢false (sym (ap is_fault is) ∙ released.fine));
             aim = record {
               caller = r.aim.caller;
               call = r.aim.call;
@@ -209,6 +218,9 @@ module _ (hash : RecordKey → ℕ) (seat : ℕ) (caller : Caller) (call : Call)
             step = λ s records change y mark fine.
                 both records change y s did2 m locks2
                 (r.step s records (on records change y).step.after (releasing records change y) mark fine);
+            turns_away = λ s records change y mark fine.
+                subst (λ (o : Option AccessView). StepsUnderWay hash seat did2 o (call_access m) pool pool' locks locks2
+                change) (sym (paid_access p v all_paid)) tt;
           }
 
 -- ---- from its place

@@ -2,6 +2,8 @@
 use Rattle.std.specs.Prelude.{ℕ, ◌≡◌, Bool, true, false, not, ◌&&◌, List, Option, Some, None, Result, Ok, Err}
 use Rattle.record_file.specs.file_pages.declared.fault.FileFault.{FileFault}
 use Rattle.record_file.specs.file_pages.declared.fault.FileFault.TheVariants.{Failed}
+use Rattle.xsi_remove.specs.Words.{StepHasCause}
+use Rattle.xsi_remove.specs.UnderWay.{StepsUnderWay}
 use Rattle.xsi_calls.specs.declared.writes.CallWrites.{CallWrites}
 use Rattle.xsi_calls.specs.WriteWords.{RecordKey, Record, Records, Plan, PoolState, Table, Lock, Change, store_of, OnlyWrites, FollowsRow, NearsOrSpares, Progress, Ended, Fault, is_fault, HasEnded, ToInsert, Allows, Serves, AccessView, MakesAccess, has_no_room, Deed, Due, Trying, Full}
 use Rattle.xsi_calls.specs.Dues.{IsBehind, IsDeedInRange, next_deed, purpose_of}
@@ -23,6 +25,7 @@ pub record IsRefused (p : Plan) (fault : FileFault) (old : CallWrites) : Type 0 
   pub deed : Deed
   pub next : next_deed p old.due ≡ Some deed
   pub out : IsDeedInRange deed → ⊥
+  pub failed : fault ≡ Failed
 
 abbrev pub SetsOut : (RecordKey → ℕ) → Plan → Result Bool FileFault → (old new : CallWrites) → Type 0
 SetsOut hash p (Ok true) old new = IsSetOut hash p old new
@@ -102,6 +105,7 @@ pub record MakesWrites (hash : RecordKey → ℕ) (seat : ℕ) (p : Plan) (did :
   pub takes : TakesStep hash seat p did old new pool pool' locks locks'
   -- whatever the device gives
   pub writes : OnlyWrites (not (is_fault did)) pool pool'
+  pub cause : StepHasCause did pool pool'
   pub aim : KeepsPlan p did old new
   pub row : FollowsRow seat (writes_locks old) (writes_locks new) locks locks'
   -- on an honest device, in a sound world
@@ -112,3 +116,6 @@ pub record MakesWrites (hash : RecordKey → ℕ) (seat : ℕ) (p : Plan) (did :
   pub step : (names : List Lock) (records : Records) (change : Change) →
       IsCarrying hash seat names p old records pool locks change → is_fault did ≡ false →
       Carries hash seat names p did old new records pool pool' locks locks' change
+  pub turns_away : (names : List Lock) (records : Records) (change : Change) →
+      IsCarrying hash seat names p old records pool locks change → is_fault did ≡ false →
+      StepsUnderWay hash seat did old.access new.access pool pool' locks locks' change

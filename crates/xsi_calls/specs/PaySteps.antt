@@ -5,11 +5,13 @@ use Rattle.file_pages.specs.declared.fault.FileFault.TheVariants.{Failed}
 use Rattle.xsi_calls.specs.CarrySteps.{Advances, Leaves}
 use Rattle.xsi_calls.specs.MakeSteps.{MakesWrites}
 use Rattle.call_decisions.specs.Owing.{is_swept}
+use Rattle.xsi_remove.specs.Words.{StepHasCause}
+use Rattle.xsi_remove.specs.UnderWay.{StepsUnderWay}
 use Rattle.xsi_remove.specs.SweepSteps.{IsOf, IsOver, MakesSweep}
 use Rattle.xsi_calls.specs.declared.payment.Stage.{Stage}
 use Rattle.xsi_calls.specs.declared.payment.Stage.TheVariants as stages
 use Rattle.xsi_calls.specs.PaymentWords.{RecordKey, PoolState, Table, Lock, Change, store_of, OnlyWrites, FollowsRow, NearsOrSpares, Progress, Ended, Fault, is_fault, is_write, Step, Owns, Plan, Records, overlaid, CallWrites, Work, is_move}
-use Rattle.xsi_calls.specs.Payments.{IsPaid, owes_now, payment_facts, payment_left, payment_locks, payment_turn, unwritten}
+use Rattle.xsi_calls.specs.Payments.{IsPaid, owes_now, payment_access, payment_facts, payment_left, payment_locks, payment_turn, unwritten}
 use Rattle.xsi_calls.specs.Paying.{IsPaying}
 
 -- ---- whatever the device gives
@@ -94,6 +96,7 @@ pub record MakesPayment (hash : RecordKey → ℕ) (seat : ℕ) (p : Plan) (did 
   pub part : StepsPart hash seat p did old new pool pool' locks locks'
   -- whatever the device gives
   pub writes : OnlyWrites (not (is_fault did)) pool pool'
+  pub cause : StepHasCause did pool pool'
   pub aim : KeepsPayment p did old new
   pub row : FollowsRow seat (payment_locks old) (payment_locks new) locks locks'
   -- on an honest device, in a sound world
@@ -104,3 +107,6 @@ pub record MakesPayment (hash : RecordKey → ℕ) (seat : ℕ) (p : Plan) (did 
   pub step : (names : List Lock) (records : Records) (change : Change) →
       IsPaying hash seat names p old records pool locks change → is_fault did ≡ false →
       Pays hash seat names p did old new records pool pool' locks locks' change
+  pub turns_away : (names : List Lock) (records : Records) (change : Change) →
+      IsPaying hash seat names p old records pool locks change → is_fault did ≡ false →
+      StepsUnderWay hash seat did (payment_access old) (payment_access new) pool pool' locks locks' change

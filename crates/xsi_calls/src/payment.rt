@@ -70,14 +70,17 @@ impl Payment {
         self.stage = Stage::Sweeping(SweepTurns::begin(sweep, keys));
     }
 
-    /// Begins with the writes, in the place of the last ones if there were any.
+    /// Begins with the writes, in the place of the last ones where these are at rest.
     fn begin_writes(&mut self, due: Due)
         ensures { self.new ≡ Stage.Writing (decided due) }
     {
-        match &mut self.stage {
-            Stage::Writing(writes) => decide_at(writes, due),
-            Stage::Sweeping(_) => self.stage = Stage::Writing(decided(due)),
+        if let Stage::Writing(writes) = &mut self.stage {
+            if !writes.is_under_way() {
+                decide_at(writes, due);
+                return;
+            }
         }
+        self.stage = Stage::Writing(decided(due));
     }
 
     /// One step, of the sweep or else of the writes, which begin in the step after that by which the
@@ -129,6 +132,7 @@ fn sweep_of(settled: Option<Settled>) -> Option<Sweep>
 
 /// Takes the place of trials of which this was due when their call decided.
 fn decide_at(writes: &mut CallWrites, due: Due)
+    requires rests { writes.old.access ≡ None }
     ensures { writes.new ≡ decided due }
 {
     writes.begin_at(due);

@@ -1,6 +1,7 @@
 //! The writing half of a call.
 
 ghost use Rattle.std.specs.Prelude.{◌≡◌, ◌≢◌, None};
+ghost use Rattle.std.specs.Option.{is_some};
 ghost use Rattle.xsi_calls.specs.WriteWords.{EndsRow, IsReady, IsSeat, is_fault, row_of};
 ghost use Rattle.xsi_calls.specs.MakeSteps.{MakesDeed, MakesWrites, SetsOut, Settles};
 ghost use Rattle.xsi_calls.specs.Views.{decided_at, is_full, writes_locks};
@@ -36,11 +37,18 @@ impl CallWrites {
 
     /// Is at rest, with this due, in the place of one that is at rest.
     pub fn begin_at(&mut self, due: Due)
+        requires rests { self.old.access ≡ None }
         ensures due { self.new.due ≡ due }
         ensures rests { self.new.access ≡ None }
     {
         self.due = due;
-        self.access.close();
+    }
+
+    /// Whether an access is under way.
+    pub fn is_under_way(&self) -> bool
+        ensures { result ≡ is_some self.now.access }
+    {
+        self.access.is_under_way()
     }
 
     /// What is due.
