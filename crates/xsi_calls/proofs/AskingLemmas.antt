@@ -83,6 +83,7 @@ module _ (hash : RecordKey → ℕ) (seat : ℕ) (call : Call) (i : AnyInquiry) 
         MakesQuestions hash seat call did before new pool pool' locks locks'
     first_step did new pool' locks' made free = record {
       writes = made.writes;
+      cause = made.cause;
       aim = record {
         caller = made.aim.caller;
         ended = (λ e. absurd (true≢false (sym (made.aim.ended.0 e))), λ d. absurd (true≢false (sym d ∙ not_done)));
@@ -120,6 +121,7 @@ module _ (hash : RecordKey → ℕ) (seat : ℕ) (call : Call) (i : AnyInquiry) 
         subst (λ (v : QuestionsView). MakesQuestions hash seat call (Blocked other) before v pool pool' locks locks')
         (sym back) (record {
           writes = made.writes;
+          cause = λ fault is. absurd cc;
           aim = record {
             caller = refl;
             ended = (λ e. absurd cc, λ d. absurd (true≢false (sym d ∙ not_done)));

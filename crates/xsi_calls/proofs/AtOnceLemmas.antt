@@ -13,8 +13,7 @@ module _ (hash : RecordKey → ℕ) (seat : ℕ) (caller : Caller) (call : Call)
       MakesUndecided hash seat call (Moved kind) u u' pool pool' locks locks' →
       MakesCall hash seat stopped (Moved kind) (asking caller call u) (asking caller call u') pool pool' locks locks'
   moves stopped kind u u' pool pool' locks locks' makes =
-      goes_on hash seat stopped caller call u u' (Moved kind) pool pool' locks locks' (λ e. absurd cc) makes.aim.most
-      makes.aim.finds makes.writes makes.row makes.progress makes.step
+      goes_on hash seat stopped caller call u u' (Moved kind) pool pool' locks locks' (λ e. absurd cc) makes
 
   module _ (u u' : UndecidedCall) (pool : PoolState) (locks : Table)
       (asks : AsksAtOnce (MakesUndecided hash seat call) seat u u' pool locks) where

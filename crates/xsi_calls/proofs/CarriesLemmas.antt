@@ -1,5 +1,5 @@
 -- A step in a sound world carries the plan out further.
-use Rattle.std.proofs.Common.{◌≡◌, refl, sym, ap, ◌∙◌, subst, ℕ, ◌+◌, ◌≤◌, Bool, true, false, not, ◌&&◌, List, length, Option, Some, None, if◌then◌else◌, arith}
+use Rattle.std.proofs.Common.{◌≡◌, refl, sym, ap, ◌∙◌, subst, ℕ, ◌+◌, ◌≤◌, Bool, true, false, not, ◌&&◌, List, length, Option, Some, None, if◌then◌else◌, arith, inl, inr, ◌⊎◌}
 use Rattle.std.specs.Prelude.{slice_get, option_map}
 use Rattle.std.proofs.lemmas.Bool.{true≢false}
 use Rattle.std.proofs.lemmas.Option.{slice_get_within}
@@ -13,9 +13,10 @@ use Rattle.record_file.proofs.OperationLemmas.{ended_free}
 use Rattle.xsi_calls.proofs.WriteNames.{FileFault, Turn}
 use Rattle.xsi_calls.proofs.SortLemmas.{Anew, EndsAs, Fails, Fills, Goes, Idles, IsIdle, IsSorted, LetsGo, Over, Refused, StartsAs, Stepping, Steps, Stuck, Under}
 use Rattle.xsi_calls.proofs.WriteStepLemmas.{full_unwritten, unpaid}
+use Rattle.xsi_remove.specs.UnderWay.{StepsAccess, StepsUnderWay}
 use Rattle.xsi_calls.specs.declared.deed.Deed.TheVariants as deeds
 use Rattle.xsi_calls.specs.declared.writes.CallWrites.{CallWrites}
-use Rattle.xsi_calls.specs.WriteWords.{RecordKey, Record, value_of, Plan, Records, overlaid, Due, Trying, Full, Undoing, Writing, Deed, PoolState, Table, Lock, Change, Store, store_of, pair, IsSeat, Progress, Ended, is_fault, is_write, HasEnded, HasNoRoom, Step, world, AccessView, access_key, access_locks, access_turn, has_no_room}
+use Rattle.xsi_calls.specs.WriteWords.{MakesAccess, RecordKey, Record, value_of, Plan, Records, overlaid, Due, Trying, Full, Undoing, Writing, Deed, PoolState, Table, Lock, Change, Store, store_of, pair, IsSeat, Progress, Ended, is_fault, is_write, HasEnded, HasNoRoom, Step, world, AccessView, access_key, access_locks, access_turn, has_no_room}
 use Rattle.xsi_calls.specs.Carrying.{IsCarrying, IsDoing, IsGoingOn, IsUnderWay}
 use Rattle.xsi_calls.specs.CarrySteps.{AsTheyWere, Carries, Leaves, TrialLacksRoom}
 use Rattle.xsi_calls.specs.Dues.{CanGoOn, IsBehind, next_deed, owes}
@@ -284,3 +285,45 @@ module _ (hash : RecordKey → ℕ) (seat : ℕ) (p : Plan) (did : Progress File
   carries fine (Steps s) =
       let both = doing_start hash seat names p old records pool locks change c s.a s.starts in
       ends s both.0 both.1 fine s.ends
+
+  -- ---- the access that was under way
+
+  ends_access : (s : Stepping hash seat p did old new pool pool' locks locks') → is_fault did ≡ false →
+      EndsAs s.made did s.due' s.a' new →
+      (did ≡ s.made) × ((new.access ≡ Some s.a') ⊎ HasEnded s.a'.operation)
+  ends_access s fine (Goes going same kept) = (same, inl (ap (λ (w : CallWrites). w.access) kept))
+  ends_access s fine (LetsGo ended written same kept) = (same, inr ended)
+  ends_access s fine (Fills standing ended full due same kept) = (same, inr ended)
+  ends_access s fine (Fails ended unwritten fine' untried fault kept) =
+      absurd (true≢false (sym (ap is_fault fault) ∙ fine))
+
+  steps_access : (s : Stepping hash seat p did old new pool pool' locks locks') → is_fault did ≡ false →
+      StepsAccess hash seat did s.a new.access pool pool' locks locks' change
+  steps_access s fine =
+      let both = doing_start hash seat names p old records pool locks change c s.a s.starts in
+      let ends = ends_access s fine s.ends in
+      record {
+        come = s.a';
+        makes = subst (λ (x : Progress FileFault). MakesAccess hash seat x s.a s.a' pool pool' locks locks')
+            (sym ends.0) s.step;
+        turns_away = (m s both.0 both.1 (sym (ap is_fault ends.0) ∙ fine)).turns_away;
+        stays = ends.1;
+      }
+
+  abbrev StepsFrom : Option AccessView → Type 0
+  StepsFrom o = StepsUnderWay hash seat did o new.access pool pool' locks locks' change
+
+  started : (a : AccessView) → StartsAs hash p old a →
+      StepsAccess hash seat did a new.access pool pool' locks locks' change → StepsFrom old.access
+  started a (Under was) steps = subst StepsFrom (sym was) steps
+  started a (Anew d rests next serves same) steps = subst StepsFrom (sym rests) tt
+
+  idle : is_fault did ≡ false → IsIdle p did old → StepsFrom old.access
+  idle fine (Refused fault refused same) = absurd (true≢false (sym (ap is_fault same) ∙ fine))
+  idle fine (Over over same) = subst StepsFrom (sym over.rests) tt
+  idle fine (Stuck a was ended fault) = absurd (true≢false (sym (ap is_fault fault) ∙ fine))
+
+  pub turns_away : is_fault did ≡ false → IsSorted hash seat p did old new pool pool' locks locks' →
+      StepsUnderWay hash seat did old.access new.access pool pool' locks locks' change
+  turns_away fine (Idles why kept pools tables) = idle fine why
+  turns_away fine (Steps s) = started s.a s.starts (steps_access s fine)

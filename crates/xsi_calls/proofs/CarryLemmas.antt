@@ -11,6 +11,7 @@ use Rattle.queue_records.specs.declared.links.Links.TheVariants as kinds
 use Rattle.queue_records.specs.declared.record.Record.TheVariants as entries
 use Rattle.queue_records.specs.Relinking.{HasSuch, linked, relinked}
 use Rattle.record_file.proofs.OperationLemmas.{owns_any}
+use Rattle.record_file.specs.OperationSteps.{TurnsAwayOf}
 use Rattle.xsi_inquiry.proofs.LeadLemmas.{same_keys}
 use Rattle.xsi_calls.proofs.WriteNames.{Faces, FileFault, IsKnown, Stepped, TellsOf, Told, contents, keeps_told, left_by, operation_aside, tells_written, wrote_not, wrote_of}
 use Rattle.xsi_calls.specs.declared.deed.Deed.TheVariants as deeds
@@ -141,6 +142,7 @@ pub record IsMade (hash : RecordKey → ℕ) (seat : ℕ) (names : List Lock) (p
   pub doing : IsDoing hash names p due' after d a'
   pub lacks : has_no_room a ≡ false → has_no_room a' ≡ true →
       HasNoRoom hash (pair (access_key a) a.bytes) (world pool'.images locks' change)
+  pub turns_away : TurnsAwayOf hash seat a.operation a'.operation (world pool'.images locks' change)
 
 module _ (hash : RecordKey → ℕ) (seat : ℕ) (names : List Lock) (did : Progress FileFault) (a a' : AccessView)
     (pool pool' : PoolState) (locks locks' : Table) (seated : IsSeat locks seat)
@@ -177,7 +179,7 @@ module _ (hash : RecordKey → ℕ) (seat : ℕ) (names : List Lock) (did : Prog
         change
     stepped = step.step (purpose_of d) (records (access_key a)) change faces fine
 
-    pub tells : TellsOf hash did (purpose_of d) (records (access_key a)) a a' (world pool.images locks change)
+    pub tells : TellsOf hash seat did (purpose_of d) (records (access_key a)) a a' (world pool.images locks change)
         (world pool'.images locks' change)
     tells = step.answer (purpose_of d) (records (access_key a)) change faces fine
 
@@ -293,4 +295,5 @@ module _ (hash : RecordKey → ℕ) (seat : ℕ) (names : List Lock) (did : Prog
       stands = stands_on;
       doing = doing_on;
       lacks = tells.lacks;
+      turns_away = tells.turns_away;
     }

@@ -6,6 +6,7 @@ use Rattle.step_rules.specs.Known.{AllKnown}
 use Rattle.step_rules.specs.Searching.{WalksTo}
 use Rattle.step_rules.specs.Sound.{IsSoundWorld}
 use Rattle.file_pages.specs.declared.fault.FileFault.TheVariants.{Failed}
+use Rattle.xsi_remove.proofs.FreshLemmas.{failed_cause}
 use Rattle.xsi_calls.proofs.UndecidedFewLemmas.{undecided_names}
 use Rattle.xsi_calls.proofs.ReadyLemmas.{no_question}
 use Rattle.xsi_calls.proofs.Names.{Due, Question, begun_at, locks_behind, locks_under, names_in, questions_facts, AccessView, FileFault, IsDecidedIn, IsFiled, IsTrying, IsUndecidedIn, Trials, MOST_PAYMENT_STEPS, has_few, is_full, locks_in, owes, owes_in, trials_in, CanDecideIn, IsCalmIn}
@@ -219,6 +220,7 @@ module _ (hash : RecordKey → ℕ) (seat : ℕ) (stopped : Bool) (caller : Call
     pub decides : MakesCall hash seat stopped (Moved Decide) (asking caller call u) concluded pool pool' locks locks'
     decides = record {
       writes = writes;
+      cause = λ fault is. absurd cc;
       aim = record {
         caller = refl;
         call = refl;
@@ -236,6 +238,7 @@ module _ (hash : RecordKey → ℕ) (seat : ℕ) (stopped : Bool) (caller : Call
           let names = ordered.few in
           omega (arith, few, names);
       step = λ s records change is mark fine. steps s records change is mark;
+      turns_away = λ s records change is mark fine. tt;
     }
 
   -- ---- it was told what no system has
@@ -252,6 +255,7 @@ module _ (hash : RecordKey → ℕ) (seat : ℕ) (stopped : Bool) (caller : Call
       stored = writes.stored;
       file = λ honest done file. absurd cc;
     };
+    cause = failed_cause pool pool';
     aim = record {
       caller = refl;
       call = refl;
@@ -267,6 +271,7 @@ module _ (hash : RecordKey → ℕ) (seat : ℕ) (stopped : Bool) (caller : Call
         (no_question_there call q u.trials can calm));
     progress = λ s records change is mark. absurd (never s records change is mark);
     step = λ s records change is mark fine. absurd (never s records change is mark);
+    turns_away = λ s records change is mark fine. tt;
   }
 
 -- ---- from its place

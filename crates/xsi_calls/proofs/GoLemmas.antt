@@ -1,12 +1,13 @@
 -- A step of what a call asks and tries.
-use Rattle.std.proofs.Common.{◌≡◌, refl, sym, ap, ◌∙◌, subst, ℕ, Bool, true, false, not, Option, Some, None, arith}
+use Rattle.std.proofs.Common.{◌≡◌, refl, sym, ap, ◌∙◌, subst, ℕ, Bool, true, false, Option, Some, None, arith}
 use Rattle.std.proofs.lemmas.Bool.{true≢false}
 use Rattle.xsi_calls.proofs.UndecidedCounterLemmas.{undecided_none}
 use Rattle.xsi_calls.proofs.Names.{FileFault, nears_with}
 use Rattle.xsi_calls.specs.Stages.{Stage, Undecided, Paying, Releasing}
-use Rattle.xsi_calls.specs.Words.{Blocked, Call, Caller, Change, Ended, Fault, GoesOn, IsUndecided, Moved, NearsOrSpares, OnlyWrites, PoolState, Progress, RecordKey, Records, State, Table, Trials, UndecidedCall, finds_behind, is_fault, store_of, undecided_left, undecided_locks, with_row}
+use Rattle.xsi_calls.specs.Words.{Blocked, Call, Caller, Ended, Fault, Moved, PoolState, Progress, RecordKey, Table, Trials, UndecidedCall, store_of, undecided_left}
 use Rattle.xsi_calls.specs.Machine.{CallView, IsReading, STEPS_FROM_DECIDE, is_undecided}
 use Rattle.xsi_calls.specs.CallSteps.{MakesCall, is_end}
+use Rattle.xsi_calls.specs.UndecidedSteps.{MakesUndecided}
 
 abbrev pub asking : Caller → Call → UndecidedCall → CallView
 asking caller call u = record { caller = caller; call = call; undecided = u; stage = Undecided }
@@ -17,48 +18,42 @@ untried_there (Some t) reading = absurd reading
 
 pub goes_on : (hash : RecordKey → ℕ) (seat : ℕ) (stopped : Bool) (caller : Caller) (call : Call)
     (u u' : UndecidedCall) (did : Progress FileFault) (pool pool' : PoolState) (locks locks' : Table) →
-    (did ≡ Ended → ⊥) → u'.questions.room.most ≡ u.questions.room.most →
-    u'.questions.finds ≡ finds_behind did (undecided_locks u') u.questions.finds →
-    OnlyWrites (not (is_fault did)) pool pool' → locks' ≡ with_row locks seat (undecided_locks u') →
-    ((s : State) (records : Records) (change : Change) → IsUndecided hash seat call s u records pool locks change →
-    NearsOrSpares did (undecided_left call u (store_of pool.images)) (undecided_left call u' (store_of pool'.images))
-    pool pool') →
-    ((s : State) (records : Records) (change : Change) → IsUndecided hash seat call s u records pool locks change →
-    is_fault did ≡ false → GoesOn hash seat call s did u u' records pool pool' locks locks' change) →
+    (did ≡ Ended → ⊥) → MakesUndecided hash seat call did u u' pool pool' locks locks' →
     MakesCall hash seat stopped did (asking caller call u) (asking caller call u') pool pool' locks locks'
-goes_on hash seat stopped caller call u u' did pool pool' locks locks' more most finds writes row progress
-    step = record {
-      writes = writes;
-      aim = record {
-        caller = refl;
-        call = refl;
-        most = most;
-        decides = λ none some. absurd cc;
-        stays = λ c is. absurd cc;
-        bytes = λ some. absurd cc;
-        ended = (λ e. absurd (more e), λ over. absurd over);
-        over = λ e. absurd (more e);
-        finds = finds;
+goes_on hash seat stopped caller call u u' did pool pool' locks locks' more made = record {
+  writes = made.writes;
+  cause = made.cause;
+  aim = record {
+    caller = refl;
+    call = refl;
+    most = made.aim.most;
+    decides = λ none some. absurd cc;
+    stays = λ c is. absurd cc;
+    bytes = λ some. absurd cc;
+    ended = (λ e. absurd (more e), λ over. absurd over);
+    over = λ e. absurd (more e);
+    finds = made.aim.finds;
+  };
+  row = made.row;
+  progress = λ s records change is mark.
+      nears_with did (undecided_left call u (store_of pool.images)) (undecided_left call u' (store_of pool'.images))
+      STEPS_FROM_DECIDE STEPS_FROM_DECIDE pool pool' (omega arith) (made.progress s records change is);
+  step = λ s records change is mark fine.
+      let on = made.step s records change is fine in record {
+        step = on.step;
+        after = on.after;
+        still = on.still;
+        reads = λ reading. on.reads (untried_there u'.trials reading);
+        elsewhere = on.elsewhere;
+        owed = λ same key. on.owed key;
+        counter = λ same owed. absurd (true≢false (sym owed ∙ undecided_none hash seat call s u'.questions u'.trials
+            on.after pool' locks' on.step.after on.behind));
+        concludes = λ none c is_so. absurd cc;
+        behind = on.behind;
+        full = on.full;
       };
-      row = row;
-      progress = λ s records change is mark.
-          nears_with did (undecided_left call u (store_of pool.images)) (undecided_left call u' (store_of pool'.images))
-          STEPS_FROM_DECIDE STEPS_FROM_DECIDE pool pool' (omega arith) (progress s records change is);
-      step = λ s records change is mark fine.
-          let on = step s records change is fine in record {
-            step = on.step;
-            after = on.after;
-            still = on.still;
-            reads = λ reading. on.reads (untried_there u'.trials reading);
-            elsewhere = on.elsewhere;
-            owed = λ same key. on.owed key;
-            counter = λ same owed. absurd (true≢false (sym owed ∙ undecided_none hash seat call s u'.questions u'.trials
-                on.after pool' locks' on.step.after on.behind));
-            concludes = λ none c is_so. absurd cc;
-            behind = on.behind;
-            full = on.full;
-          };
-    }
+  turns_away = λ s records change is mark fine. tt;
+}
 
 -- ---- from its place
 
@@ -82,23 +77,14 @@ with_stage caller call u stage = record { caller = caller; call = call; undecide
 pub goes_from : (hash : RecordKey → ℕ) (seat : ℕ) (stopped : Bool) (caller : Caller) (call : Call)
     (u u' : UndecidedCall) (stage : Stage) (now : CallView) → with_stage caller call u stage ≡ now →
     is_undecided now.stage ≡ true → (did : Progress FileFault) (pool pool' : PoolState) (locks locks' : Table) →
-    is_end did ≡ false → u'.questions.room.most ≡ u.questions.room.most →
-    u'.questions.finds ≡ finds_behind did (undecided_locks u') u.questions.finds →
-    OnlyWrites (not (is_fault did)) pool pool' → locks' ≡ with_row locks seat (undecided_locks u') →
-    ((s : State) (records : Records) (change : Change) → IsUndecided hash seat call s u records pool locks change →
-    NearsOrSpares did (undecided_left call u (store_of pool.images)) (undecided_left call u' (store_of pool'.images))
-    pool pool') →
-    ((s : State) (records : Records) (change : Change) → IsUndecided hash seat call s u records pool locks change →
-    is_fault did ≡ false → GoesOn hash seat call s did u u' records pool pool' locks locks' change) →
+    is_end did ≡ false → MakesUndecided hash seat call did u u' pool pool' locks locks' →
     MakesCall hash seat stopped did now (with_stage caller call u' stage) pool pool' locks locks'
-goes_from hash seat stopped caller call u u' stage now view undecided did pool pool' locks locks' more most finds writes
-    row progress step =
+goes_from hash seat stopped caller call u u' stage now view undecided did pool pool' locks locks' more made =
     subst (λ (m : CallView). MakesCall hash seat stopped did m (with_stage caller call u' stage) pool pool' locks
     locks') view
     (subst (λ (x : Stage). MakesCall hash seat stopped did (with_stage caller call u x) (with_stage caller call u' x)
     pool pool' locks locks') (sym there)
-    (goes_on hash seat stopped caller call u u' did pool pool' locks locks' (not_end did more) most finds writes row
-    progress step))
+    (goes_on hash seat stopped caller call u u' did pool pool' locks locks' (not_end did more) made))
   where
     there : stage ≡ Undecided
     there = at_undecided stage (subst (λ (m : CallView). is_undecided m.stage ≡ true) (sym view) undecided)

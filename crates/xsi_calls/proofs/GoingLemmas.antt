@@ -12,6 +12,7 @@ use Rattle.page_locks.proofs.TableLemmas.{row_of-same}
 use Rattle.record_file.specs.AccessSteps.{Faces as FacesAccess, MakesAccess, Rests as RestsAccess}
 use Rattle.record_file.specs.Accesses.{IsOfKind}
 use Rattle.xsi_inquiry.specs.Telling.{most_asked}
+use Rattle.xsi_remove.proofs.FreshLemmas.{failed_cause}
 use Rattle.xsi_calls.proofs.of_call_decisions.NamesLemmas.{take_in_order}
 use Rattle.xsi_calls.proofs.HeldTurnLemmas.{are_few_turns}
 use Rattle.xsi_calls.specs.declared.question.Question.{Question}
@@ -347,6 +348,7 @@ module _ (hash : RecordKey → ℕ) (seat : ℕ) (call : Call) (i : AnyInquiry) 
     pub goes_on : IsSeat locks seat → IsCounted → MakesQuestions hash seat call did old new pool pool' locks locks'
     goes_on seated counts = record {
       writes = makes.writes;
+      cause = makes.cause;
       aim = record {
         caller = caller;
         ended = (λ e. absurd (under.goes_on (makes.aim.ended.0 e)), λ d. absurd (true≢false (sym d)));
@@ -377,6 +379,7 @@ module _ (hash : RecordKey → ℕ) (seat : ℕ) (call : Call) (i : AnyInquiry) 
         stored = makes.writes.stored;
         file = λ honest done file. absurd (true≢false (sym done));
       };
+      cause = failed_cause pool pool';
       aim = record {
         caller = caller;
         ended = (λ e. absurd cc, λ d. absurd (true≢false (sym d)));

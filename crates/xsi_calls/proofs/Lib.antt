@@ -16,6 +16,7 @@ pub mod SortLemmas
 pub mod StartLemmas
 pub mod WriteStepLemmas
 pub mod WriteAimLemmas
+pub mod MakesLemmas
 pub mod WriteFewLemmas
 pub mod AskLemmas
 pub mod QuestionCounterLemmas

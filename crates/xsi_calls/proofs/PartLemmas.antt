@@ -5,12 +5,15 @@ use Rattle.file_pages.specs.declared.fault.FileFault.TheVariants.{Failed}
 use Rattle.page_locks.proofs.ChangeLemmas.{with_row-own}
 use Rattle.page_locks.specs.Table.{with_row}
 use Rattle.xsi_calls.proofs.WriteNames.{ended_free}
+use Rattle.xsi_remove.proofs.FreshLemmas.{failed_cause}
+use Rattle.xsi_remove.specs.Words.{StepHasCause}
 use Rattle.xsi_remove.specs.SweepSteps.{IsOf, IsOver, MakesSweep}
 use Rattle.xsi_calls.specs.declared.payment.Stage.{Stage}
 use Rattle.xsi_calls.specs.declared.payment.Stage.TheVariants as stages
 use Rattle.xsi_calls.specs.PaymentWords.{RecordKey, PoolState, Table, Lock, IsReady, OnlyWrites, FollowsRow, Progress, Ended, Fault, is_fault, Plan, CallWrites, writes_locks, Work, is_move, sweep_locks}
 use Rattle.xsi_calls.specs.Payments.{payment_locks, unwritten}
-use Rattle.xsi_calls.specs.PaySteps.{Goes, HasFailed, KeepsPayment, MakesWrites, StepsPart}
+use Rattle.xsi_calls.specs.MakeSteps.{MakesWrites}
+use Rattle.xsi_calls.specs.PaySteps.{Goes, HasFailed, KeepsPayment, StepsPart}
 
 -- a sweep that is over holds no lock
 pub over_free : (v : Option Work) (before : List Lock) → IsOver v → sweep_locks v before ≡ before
@@ -36,6 +39,15 @@ module _ (hash : RecordKey → ℕ) (seat : ℕ) (p : Plan) (did : Progress File
   only_writes (stages.Sweeping v) (stages.Writing w) ready last = last.makes.writes
   only_writes (stages.Writing w) (stages.Sweeping v) ready none = absurd none
   only_writes (stages.Writing w) (stages.Writing w') ready makes = makes.writes
+
+  pub causes : (old new : Stage) → StepsPart hash seat p did old new pool pool' locks locks' →
+      StepHasCause did pool pool'
+  causes (stages.Sweeping v) (stages.Sweeping v') (Goes going makes on) = makes.cause
+  causes (stages.Sweeping v) (stages.Sweeping v') (HasFailed over why same pools tables) =
+      subst (λ (d : Progress FileFault). StepHasCause d pool pool') (sym why) (failed_cause pool pool')
+  causes (stages.Sweeping v) (stages.Writing w) last = last.makes.cause
+  causes (stages.Writing w) (stages.Sweeping v) none = absurd none
+  causes (stages.Writing w) (stages.Writing w') makes = makes.cause
 
   not_ended : did ≡ Fault Failed → did ≡ Ended → ⊥
   not_ended fault is = absurd (let clash = sym fault ∙ is in cc)

@@ -4,15 +4,17 @@ use Rattle.std.proofs.lemmas.Bool.{true≢false}
 use Rattle.step_rules.specs.Does.{KeepsOthers}
 use Rattle.step_rules.specs.Searching.{WalksTo}
 use Rattle.step_rules.specs.Turns.{TurnsAt, no_ask}
-use Rattle.xsi_calls.proofs.Names.{AccessView, Deed, FileFault, FollowsRow, facts_under, locks_under, next_deed, set_out, turn_under, nears_with, owes_nothing_at_end, row_of-same, with_row-twice}
+use Rattle.xsi_calls.proofs.Names.{AccessView, Deed, FileFault, facts_under, locks_under, next_deed, set_out, turn_under, nears_with, owes_nothing_at_end, row_of-same, with_row-twice}
 use Rattle.xsi_calls.specs.declared.payment.Stage.TheVariants as stages
 use Rattle.xsi_calls.specs.declared.conclusion.Conclusion.{Conclusion}
 use Rattle.xsi_calls.specs.Stages.{Stage, Paying, Releasing}
 use Rattle.xsi_calls.proofs.PlanLemmas.{plans_have_one_counter}
 use Rattle.xsi_calls.proofs.CounterLemmas.{paid_counter}
 use Rattle.xsi_calls.proofs.GoLemmas.{at_end, not_end, with_stage}
-use Rattle.xsi_calls.specs.Words.{AreNames, Blocked, Call, Caller, Change, Ended, Fault, IsPaid, IsPaying, IsSeat, KeepsPayment, Known, Lock, Moved, NearsOrSpares, OnlyWrites, PaymentStage, Pays, Plan, PoolState, Progress, QuestionsView, RecordKey, Records, Sees, State, Store, Table, Turn, UndecidedCall, World, is_fault, its_plan, TrialLacksRoom, trials_of, payment_facts, payment_left, payment_locks, payment_turn, row_of, store_of, with_row, world}
-use Rattle.xsi_calls.specs.Machine.{CallView, call_facts, call_left, call_locks}
+use Rattle.xsi_calls.specs.Words.{AreNames, Blocked, Call, Caller, Change, Ended, Fault, IsPaid, IsPaying, IsSeat, Known, Lock, MakesPayment, Moved, NearsOrSpares, OnlyWrites, PaymentStage, Pays, Plan, PoolState, Progress, QuestionsView, RecordKey, Records, Sees, State, Store, Table, Turn, UndecidedCall, World, is_fault, its_plan, TrialLacksRoom, trials_of, payment_facts, payment_left, payment_locks, payment_turn, row_of, store_of, with_row, world}
+use Rattle.xsi_calls.specs.Payments.{payment_access}
+use Rattle.xsi_remove.specs.UnderWay.{StepsUnderWay}
+use Rattle.xsi_calls.specs.Machine.{CallView, call_access, call_facts, call_left, call_locks}
 use Rattle.xsi_calls.specs.Calling.{IsPayingCall, IsReleasing}
 use Rattle.xsi_calls.specs.CallSteps.{MakesCall, MakesRelease, StepsCall, is_end}
 
@@ -21,6 +23,10 @@ use Rattle.xsi_calls.specs.CallSteps.{MakesCall, MakesRelease, StepsCall, is_end
 pub paid_locks : (p : Plan) (v : PaymentStage) (names : List Lock) → IsPaid p v → payment_locks v names ≡ names
 paid_locks p (stages.Sweeping v) names paid = absurd paid
 paid_locks p (stages.Writing w) names paid = ap (λ (o : Option AccessView). locks_under o names) paid.rests
+
+paid_access : (p : Plan) (v : PaymentStage) → IsPaid p v → payment_access v ≡ None
+paid_access p (stages.Sweeping v) paid = absurd paid
+paid_access p (stages.Writing w) paid = paid.rests
 
 paid_facts : (p : Plan) (v : PaymentStage) → IsPaid p v → payment_facts v ≡ []
 paid_facts p (stages.Sweeping v) paid = absurd paid
@@ -64,24 +70,18 @@ module _ (hash : RecordKey → ℕ) (seat : ℕ) (caller : Caller) (call : Call)
   paid = record { caller = caller; call = call; undecided = u; stage = Releasing conclusion }
 
   module _ (v v' : PaymentStage) (did : Progress FileFault) (pool pool' : PoolState) (locks locks' : Table)
-      (row : row_of locks seat ≡ payment_locks v names) (writes : OnlyWrites (not (is_fault did)) pool pool')
-      (aim : KeepsPayment p did v v') (follows : FollowsRow seat (payment_locks v) (payment_locks v') locks locks')
-      (progress : (held : List Lock) (records : Records) (change : Change) →
-      IsPaying hash seat held p v records pool locks change →
-      NearsOrSpares did (payment_left p v (store_of pool.images)) (payment_left p v' (store_of pool'.images)) pool
-      pool')
-      (step : (held : List Lock) (records : Records) (change : Change) →
-      IsPaying hash seat held p v records pool locks change → is_fault did ≡ false →
-      Pays hash seat held p did v v' records pool pool' locks locks' change) where
+      (row : row_of locks seat ≡ payment_locks v names)
+      (made : MakesPayment hash seat p did v v' pool pool' locks locks') where
     row_on : locks' ≡ with_row locks seat (payment_locks v' names)
-    row_on = follows names ordered.no_file row
+    row_on = made.row names ordered.no_file row
 
     -- ---- it goes on
 
     pub pays_on : (did ≡ Ended → ⊥) → (stopped : Bool) →
         MakesCall hash seat stopped did (paying v) (paying v') pool pool' locks locks'
     pays_on more stopped = record {
-      writes = writes;
+      writes = made.writes;
+      cause = made.cause;
       aim = record {
         caller = refl;
         call = refl;
@@ -89,16 +89,16 @@ module _ (hash : RecordKey → ℕ) (seat : ℕ) (caller : Caller) (call : Call)
         decides = λ none some. absurd cc;
         stays = λ c is. is;
         bytes = λ some. refl;
-        ended = (λ e. absurd (more e), λ over. absurd (more (aim.ended.1 over.0)));
+        ended = (λ e. absurd (more e), λ over. absurd (more (made.aim.ended.1 over.0)));
         over = λ e. absurd (more e);
         finds = refl;
       };
       row = row_on;
       progress = λ s records change is mark.
           nears_with did (payment_left p v (store_of pool.images)) (payment_left p v' (store_of pool'.images))
-          (length names) (length names) pool pool' (omega arith) (progress names records change is.pays);
+          (length names) (length names) pool pool' (omega arith) (made.progress names records change is.pays);
       step = λ s records change is mark fine.
-          let on = step names records change is.pays fine in record {
+          let on = made.step names records change is.pays fine in record {
             step = on.step;
             after = on.after;
             still = on.still;
@@ -111,16 +111,17 @@ module _ (hash : RecordKey → ℕ) (seat : ℕ) (caller : Caller) (call : Call)
             behind = record { names = is.names; pays = on.pays };
             full = λ before full. absurd (true≢false (sym full ∙ before));
           };
+      turns_away = λ s records change is mark fine. made.turns_away names records change is.pays fine;
     }
 
     -- ---- it has ended
 
     module _ (is : did ≡ Ended) (seated : IsSeat locks seat) where
       all_paid : IsPaid p v
-      all_paid = aim.ended.0 is
+      all_paid = made.aim.ended.0 is
 
       rests : v' ≡ v
-      rests = aim.rests is
+      rests = made.aim.rests is
 
       row_now : locks' ≡ with_row locks seat names
       row_now = row_on ∙ ap (λ (x : PaymentStage). with_row locks seat (payment_locks x names)) rests
@@ -130,12 +131,12 @@ module _ (hash : RecordKey → ℕ) (seat : ℕ) (caller : Caller) (call : Call)
       row_paid = ap (λ (t : Table). row_of t seat) row_now ∙ row_of-same locks seat names seated
 
       first : OnlyWrites true pool pool'
-      first = subst (λ (d : Progress FileFault). OnlyWrites (not (is_fault d)) pool pool') is writes
+      first = subst (λ (d : Progress FileFault). OnlyWrites (not (is_fault d)) pool pool') is made.writes
 
       module _ (records : Records) (change : Change) (y : IsPayingCall hash seat call u v records pool locks change)
         where
           on : Pays hash seat names p did v v' records pool pool' locks locks' change
-          on = step names records change y.pays (ap is_fault is)
+          on = made.step names records change y.pays (ap is_fault is)
 
           same : world pool'.images locks' on.step.after ≡ world pool.images locks change
           same = subst (λ (d : Progress FileFault). TurnsAt hash (payment_turn hash p v (store_of pool.images)) d seat
@@ -196,6 +197,7 @@ module _ (hash : RecordKey → ℕ) (seat : ℕ) (caller : Caller) (call : Call)
               stored = first.stored;
               file = λ honest done file. first.file honest refl file;
             };
+            cause = λ fault is. absurd (true≢false (sym (ap is_fault is) ∙ released.fine));
             aim = record {
               caller = r.aim.caller;
               call = r.aim.call;
@@ -216,30 +218,19 @@ module _ (hash : RecordKey → ℕ) (seat : ℕ) (caller : Caller) (call : Call)
             step = λ s records change y mark fine.
                 both records change y s did2 m locks2
                 (r.step s records (on records change y).step.after (releasing records change y) mark fine);
+            turns_away = λ s records change y mark fine.
+                subst (λ (o : Option AccessView). StepsUnderWay hash seat did2 o (call_access m) pool pool' locks locks2
+                change) (sym (paid_access p v all_paid)) tt;
           }
 
 -- ---- from its place
-
--- a step of a payment by this plan
-pub record StepsPayment (hash : RecordKey → ℕ) (seat : ℕ) (x : Plan) (did : Progress FileFault) (v v' : PaymentStage)
-    (pool pool' : PoolState) (locks locks' : Table) : Type 0 where
-  pub writes : OnlyWrites (not (is_fault did)) pool pool'
-  pub aim : KeepsPayment x did v v'
-  pub row : FollowsRow seat (payment_locks v) (payment_locks v') locks locks'
-  pub progress : (held : List Lock) (records : Records) (change : Change) →
-      IsPaying hash seat held x v records pool locks change →
-      NearsOrSpares did (payment_left x v (store_of pool.images)) (payment_left x v' (store_of pool'.images)) pool
-      pool'
-  pub step : (held : List Lock) (records : Records) (change : Change) →
-      IsPaying hash seat held x v records pool locks change → is_fault did ≡ false →
-      Pays hash seat held x did v v' records pool pool' locks locks' change
 
 module _ (hash : RecordKey → ℕ) (seat : ℕ) (caller : Caller) (call : Call) (u : UndecidedCall) (stage : Stage)
     (now : CallView) (view : with_stage caller call u stage ≡ now) (v : PaymentStage) (conclusion : Conclusion)
     (there : stage ≡ Paying v conclusion) (q : QuestionsView) (lent : q ≡ u.questions) (names : AreNames q.names)
     (x : Plan) (plan : x ≡ its_plan call u.questions) (v' : PaymentStage) (did : Progress FileFault)
     (pool pool' : PoolState) (locks locks' : Table) (row : row_of locks seat ≡ call_locks now)
-    (made : StepsPayment hash seat x did v v' pool pool' locks locks') where
+    (made : MakesPayment hash seat x did v v' pool pool' locks locks') where
   ordered : AreNames u.questions.names
   ordered = subst (λ (y : QuestionsView). AreNames y.names) lent names
 
@@ -249,21 +240,21 @@ module _ (hash : RecordKey → ℕ) (seat : ℕ) (caller : Caller) (call : Call)
   row_here : row_of locks seat ≡ payment_locks v u.questions.names
   row_here = subst (λ (m : CallView). row_of locks seat ≡ call_locks m) (sym sees_now) row
 
-  by_plan : StepsPayment hash seat (its_plan call u.questions) did v v' pool pool' locks locks'
-  by_plan = subst (λ (y : Plan). StepsPayment hash seat y did v v' pool pool' locks locks') plan made
+  by_plan : MakesPayment hash seat (its_plan call u.questions) did v v' pool pool' locks locks'
+  by_plan = subst (λ (y : Plan). MakesPayment hash seat y did v v' pool pool' locks locks') plan made
 
   pub pays_from : is_end did ≡ false → (stopped : Bool) →
       MakesCall hash seat stopped did now (with_stage caller call u (Paying v' conclusion)) pool pool' locks locks'
   pays_from more stopped =
       subst (λ (m : CallView). MakesCall hash seat stopped did m (with_stage caller call u (Paying v' conclusion)) pool
       pool' locks locks') sees_now
-      (pays_on hash seat caller call u conclusion ordered v v' did pool pool' locks locks' row_here by_plan.writes
-      by_plan.aim by_plan.row by_plan.progress by_plan.step (not_end did more) stopped)
+      (pays_on hash seat caller call u conclusion ordered v v' did pool pool' locks locks' row_here by_plan
+      (not_end did more) stopped)
 
   pub row_behind : is_end did ≡ true → IsSeat locks seat → row_of locks' seat ≡ u.questions.names
   row_behind is seated =
-      row_paid hash seat caller call u conclusion ordered v v' did pool pool' locks locks' row_here by_plan.writes
-      by_plan.aim by_plan.row by_plan.progress by_plan.step (at_end did is) seated
+      row_paid hash seat caller call u conclusion ordered v v' did pool pool' locks locks' row_here by_plan
+      (at_end did is) seated
 
   pub released_from : is_end did ≡ true → IsSeat locks seat → (ended : Stage) → ended ≡ Releasing conclusion →
       (did2 : Progress FileFault) (m : CallView) (locks2 : Table) →
@@ -271,7 +262,7 @@ module _ (hash : RecordKey → ℕ) (seat : ℕ) (caller : Caller) (call : Call)
       (stopped : Bool) → MakesCall hash seat stopped did2 now m pool pool' locks locks2
   released_from is seated ended is_paid did2 m locks2 released stopped =
       subst (λ (old : CallView). MakesCall hash seat stopped did2 old m pool pool' locks locks2) sees_now
-      (then_released hash seat caller call u conclusion ordered v v' did pool pool' locks locks' row_here by_plan.writes
-      by_plan.aim by_plan.row by_plan.progress by_plan.step (at_end did is) seated did2 m locks2
+      (then_released hash seat caller call u conclusion ordered v v' did pool pool' locks locks' row_here by_plan
+      (at_end did is) seated did2 m locks2
       (subst (λ (x : Stage). MakesRelease seat did2 (with_stage caller call u x) m locks' locks2) is_paid released)
       stopped)

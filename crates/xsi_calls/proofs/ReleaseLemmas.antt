@@ -62,6 +62,7 @@ module _ (seat : ℕ) (caller : Caller) (call : Call) (u : UndecidedCall) (concl
       fine = fine;
       makes = λ hash stopped pool ready. record {
         writes = rw fine (writes_none pool ready);
+        cause = λ fault is. absurd (true≢false (sym (ap is_fault is) ∙ fine));
         aim = record {
           caller = refl;
           call = refl;
@@ -76,6 +77,7 @@ module _ (seat : ℕ) (caller : Caller) (call : Call) (u : UndecidedCall) (concl
         row = row';
         progress = λ s records change is mark. near pool;
         step = λ s records change is mark unfaulted. steps hash s records pool change is;
+        turns_away = λ s records change is mark unfaulted. tt;
       };
     }
 

@@ -1,5 +1,5 @@
 -- A step of a call up to its Decide: a question, the end, or a trial.
-use Rattle.std.proofs.Common.{◌≡◌, ◌≢◌, refl, sym, ap, ◌∙◌, subst, ℕ, ◌+◌, ◌≤◌, Bool, true, false, not, List, length, Option, Some, None, if◌then◌else◌, arith}
+use Rattle.std.proofs.Common.{◌≡◌, ◌≢◌, refl, sym, ap, ◌∙◌, subst, ℕ, ◌+◌, ◌≤◌, Bool, true, false, List, length, Option, Some, None, if◌then◌else◌, arith}
 use Rattle.std.proofs.lemmas.Bool.{true≢false}
 use Rattle.std.specs.Option.{is_some}
 use Rattle.std.specs.Prelude.{option_map, slice_get}
@@ -11,12 +11,14 @@ use Rattle.xsi_calls.specs.declared.deed.Deed.TheVariants as deeds
 use Rattle.xsi_calls.specs.declared.writes.CallWrites.{CallWrites}
 use Rattle.xsi_calls.specs.declared.trials.Trials.{Trials}
 use Rattle.xsi_calls.specs.declared.undecided.UndecidedCall.{UndecidedCall}
-use Rattle.xsi_calls.proofs.UndecidedNames.{Carries, Faces, Question, WalksTo, facts_of, FileFault, FollowsRow, KeepsPlan, KeepsQuestions, Learns, few_of, times_most, writes_none}
-use Rattle.xsi_calls.specs.UndecidedWords.{AreNames, Call, Change, Decision, Ended, Fault, IsCarrying, IsReady, IsSeat, Lock, MOST_STEPS, NearsOrSpares, OnlyWrites, Plan, PoolState, Progress, QuestionsView, Record, RecordKey, Records, State, Step, Store, Table, finds_behind, is_done, is_fault, nothing, questions_facts, questions_left, questions_locks, questions_turn, row_of, store_of, with_row, world, writes_left_in, writes_locks, writes_turn}
+use Rattle.xsi_calls.proofs.UndecidedNames.{Carries, Question, WalksTo, facts_of, FileFault, few_of, times_most, writes_none}
+use Rattle.xsi_calls.specs.UndecidedWords.{AreNames, Call, Change, Decision, Ended, Fault, IsReady, IsSeat, Lock, MOST_STEPS, NearsOrSpares, Plan, PoolState, Progress, QuestionsView, Record, RecordKey, Records, State, Step, Store, Table, finds_behind, is_done, is_fault, nothing, questions_facts, questions_left, questions_locks, questions_turn, row_of, store_of, with_row, world, writes_left_in, writes_locks, writes_turn}
 use Rattle.xsi_calls.specs.QuestionWords.{Moved, Blocked}
 use Rattle.xsi_calls.specs.Undecided.{TRIAL_STEPS, its_plan, undecided_facts, undecided_turn, untried}
 use Rattle.xsi_calls.specs.Knowing.{IsAsking, IsDecision, IsTrying}
 use Rattle.xsi_calls.specs.UndecidedSteps.{GoesOn, MakesUndecided}
+use Rattle.xsi_calls.specs.MakeSteps.{MakesWrites}
+use Rattle.xsi_calls.specs.QuestionSteps.{MakesQuestions}
 use Rattle.xsi_calls.proofs.ReadyLemmas.{begins_trying, no_question}
 use Rattle.xsi_calls.proofs.TryLemmas.{elsewhere_of, stand_on, stays_on}
 
@@ -49,48 +51,40 @@ module _ (hash : RecordKey → ℕ) (seat : ℕ) (call : Call) (q : QuestionsVie
   -- ---- a question
 
   module _ (asks : is_done call q ≡ false) (did : Progress FileFault) (q' : QuestionsView) (pool' : PoolState)
-      (locks' : Table) (writes : OnlyWrites (not (is_fault did)) pool pool') (aim : KeepsQuestions call did q q')
-      (row : locks' ≡ with_row locks seat (questions_locks q'))
-      (progress : (s : State) (change : Change) → Faces hash seat call s q pool locks change →
-      NearsOrSpares did (questions_left call q (store_of pool.images)) (questions_left call q'
-      (store_of pool'.images)) pool pool')
-      (step : (s : State) (change : Change) → Faces hash seat call s q pool locks change → is_fault did ≡ false →
-      Step hash seat (questions_turn call q (store_of pool.images)) did (questions_facts q') pool pool' locks locks'
-      change)
-      (means : (s : State) (change : Change) → Faces hash seat call s q pool locks change → is_fault did ≡ false →
-      Learns hash call s did q') where
+      (locks' : Table) (made : MakesQuestions hash seat call did q q' pool pool' locks locks') where
     abbrev asked_on : UndecidedCall
     asked_on = record { questions = q'; trials = None }
 
     -- it is no end
     goes_on : did ≡ Ended → ⊥
-    goes_on e = true≢false (sym (aim.ended.0 e) ∙ asks)
+    goes_on e = true≢false (sym (made.aim.ended.0 e) ∙ asks)
 
     pub asked : MakesUndecided hash seat call did asking asked_on pool pool' locks locks'
     asked = record {
-      writes = writes;
+      writes = made.writes;
+      cause = made.cause;
       aim = record {
-        caller = aim.caller;
+        caller = made.aim.caller;
         ended = (λ e. absurd (goes_on e), λ can. absurd (true≢false (sym can.0 ∙ asks)));
         rests = λ e. absurd (goes_on e);
-        most = aim.most;
+        most = made.aim.most;
         calm = λ calm. tt;
-        finds = aim.finds;
+        finds = made.aim.finds;
       };
-      row = row;
+      row = made.row;
       progress = λ s records change a.
           nears_with did (questions_left call q (store_of pool.images)) (questions_left call q' (store_of pool'.images))
-          TRIAL_STEPS pool pool' (progress s change a.faces);
+          TRIAL_STEPS pool pool' (made.progress s change a.faces);
       step = λ s records change a fine. record {
         step = subst (λ (b : Bool). Step hash seat (if b then writes_turn hash p untried (store_of pool.images)
             else questions_turn call q (store_of pool.images)) did (questions_facts q') pool pool' locks locks' change)
-            (sym asks) (step s change a.faces fine);
+            (sym asks) (made.step s change a.faces fine);
         after = records;
         still = λ unwritten. refl;
-        reads = λ none. (means s change a.faces fine).reads;
+        reads = λ none. (made.means s change a.faces fine).reads;
         elsewhere = λ key free. refl;
         owed = λ key. refl;
-        behind = record { right = (means s change a.faces fine).right; knows = (means s change a.faces fine).knows };
+        behind = record { right = (made.means s change a.faces fine).right; knows = (made.means s change a.faces fine).knows };
         full = λ before full. absurd (true≢false (sym full));
       };
     }
@@ -105,6 +99,7 @@ module _ (hash : RecordKey → ℕ) (seat : ℕ) (call : Call) (q : QuestionsVie
       slice_get p.trials 0 ≡ None → MakesUndecided hash seat call Ended asking asking pool pool locks locks
   rests ready row done none = record {
     writes = writes_none pool ready;
+    cause = λ fault is. absurd cc;
     aim = record {
       caller = refl;
       ended = (λ e. (done, none), λ can. refl);
@@ -157,6 +152,7 @@ module _ (hash : RecordKey → ℕ) (seat : ℕ) (call : Call) (q : QuestionsVie
       MakesUndecided hash seat call did asking new pool pool' locks locks'
   begun names done r some decision decides did new pool' locks' made = record {
     writes = made.writes;
+    cause = made.cause;
     aim = record {
       caller = made.aim.caller;
       ended = (λ e. absurd (ended_not e), λ can. absurd (not_over r some can.1));
@@ -208,15 +204,7 @@ module _ (hash : RecordKey → ℕ) (seat : ℕ) (call : Call) (q : QuestionsVie
 
   module _ (t : Trials) (names : AreNames q.names) (row : row_of locks seat ≡ writes_locks t.writes q.names)
       (did : Progress FileFault) (w : CallWrites) (pool' : PoolState) (locks' : Table)
-      (writes : OnlyWrites (not (is_fault did)) pool pool') (aim : KeepsPlan p did t.writes w)
-      (follows : FollowsRow seat (writes_locks t.writes) (writes_locks w) locks locks')
-      (progress : (names : List Lock) (records : Records) (change : Change) →
-      IsCarrying hash seat names p t.writes records pool locks change →
-      NearsOrSpares did (writes_left_in p t.writes (store_of pool.images))
-      (writes_left_in p w (store_of pool'.images)) pool pool')
-      (step : (names : List Lock) (records : Records) (change : Change) →
-      IsCarrying hash seat names p t.writes records pool locks change → is_fault did ≡ false →
-      Carries hash seat names p did t.writes w records pool pool' locks locks' change) (seated : IsSeat locks seat)
+      (made : MakesWrites hash seat p did t.writes w pool pool' locks locks') (seated : IsSeat locks seat)
       (searches : ℕ) (counts : searches ≡ finds_behind did (row_of locks' seat) q.finds) where
     abbrev t' : Trials
     t' = record { writes = w; decision = t.decision }
@@ -229,7 +217,7 @@ module _ (hash : RecordKey → ℕ) (seat : ℕ) (call : Call) (q : QuestionsVie
     tried_on = record { questions = q'; trials = Some t' }
 
     row_now : locks' ≡ with_row locks seat (writes_locks w q.names)
-    row_now = follows q.names names.no_file row
+    row_now = made.row q.names names.no_file row
 
     counted : searches ≡ finds_behind did (writes_locks w q.names) q.finds
     counted = counts ∙ ap (λ (ls : List Lock). finds_behind did ls q.finds)
@@ -241,13 +229,13 @@ module _ (hash : RecordKey → ℕ) (seat : ℕ) (call : Call) (q : QuestionsVie
         counts ∙ ap (λ (d : Progress FileFault). finds_behind d (row_of locks' seat) q.finds) e in
         λ n. record {
           questions = record q { finds = same n };
-          trials = Some (record { writes = aim.rests e n; decision = t.decision });
+          trials = Some (record { writes = made.aim.rests e n; decision = t.decision });
         }
 
     module _ (s : State) (records : Records) (change : Change)
         (is : IsTrying hash seat call s q t records pool locks change) (fine : is_fault did ≡ false) where
       on : Carries hash seat q.names p did t.writes w records pool pool' locks locks' change
-      on = step q.names records change is.carries fine
+      on = made.step q.names records change is.carries fine
 
       tries_on : IsTrying hash seat call s q' t' on.after pool' locks' on.step.after
       tries_on = record {
@@ -260,9 +248,9 @@ module _ (hash : RecordKey → ℕ) (seat : ℕ) (call : Call) (q : QuestionsVie
         changes = is.changes;
         names = is.names;
         carries = on.carries;
-        on_trial = stays_on p did t.writes.due w.due aim.due is.on_trial;
+        on_trial = stays_on p did t.writes.due w.due made.aim.due is.on_trial;
         alike = stand_on p is.carries.small _ _ records on.after did t.writes.due w.due is.on_trial is.carries.can
-            on.carries.can aim.due on.leaves is.alike;
+            on.carries.can made.aim.due on.leaves is.alike;
       }
 
       steps : GoesOn hash seat call s did (trying t) tried_on records pool pool' locks locks' change
@@ -279,43 +267,30 @@ module _ (hash : RecordKey → ℕ) (seat : ℕ) (call : Call) (q : QuestionsVie
 
     pub tried : MakesUndecided hash seat call did (trying t) tried_on pool pool' locks locks'
     tried = record {
-      writes = writes;
+      writes = made.writes;
+      cause = made.cause;
       aim = record {
         caller = refl;
-        ended = aim.ended;
+        ended = made.aim.ended;
         rests = rests_at_end;
         most = refl;
         calm = λ calm. calm;
         finds = counted;
       };
       row = row_now;
-      progress = λ s records change is. progress q.names records change is.carries;
+      progress = λ s records change is. made.progress q.names records change is.carries;
       step = λ s records change is fine. steps s records change is fine;
     }
 
   -- of a plan that is that of its inquiry
   pub tried_with : (x : Plan) → x ≡ p → (t : Trials) → AreNames q.names →
       row_of locks seat ≡ writes_locks t.writes q.names → (did : Progress FileFault) (w : CallWrites)
-      (pool' : PoolState) (locks' : Table) → OnlyWrites (not (is_fault did)) pool pool' →
-      KeepsPlan x did t.writes w → FollowsRow seat (writes_locks t.writes) (writes_locks w) locks locks' →
-      ((names : List Lock) (records : Records) (change : Change) →
-      IsCarrying hash seat names x t.writes records pool locks change →
-      NearsOrSpares did (writes_left_in x t.writes (store_of pool.images))
-      (writes_left_in x w (store_of pool'.images)) pool pool') →
-      ((names : List Lock) (records : Records) (change : Change) →
-      IsCarrying hash seat names x t.writes records pool locks change → is_fault did ≡ false →
-      Carries hash seat names x did t.writes w records pool pool' locks locks' change) → IsSeat locks seat →
-      (searches : ℕ) → searches ≡ finds_behind did (row_of locks' seat) q.finds →
+      (pool' : PoolState) (locks' : Table) → MakesWrites hash seat x did t.writes w pool pool' locks locks' →
+      IsSeat locks seat → (searches : ℕ) → searches ≡ finds_behind did (row_of locks' seat) q.finds →
       MakesUndecided hash seat call did (trying t) (record {
         questions = record q { finds = searches };
         trials = Some (record { writes = w; decision = t.decision });
       }) pool pool' locks locks'
-  tried_with x same t names row did w pool' locks' writes aim follows progress step seated searches counts =
-      tried t names row did w pool' locks' writes (subst (λ (y : Plan). KeepsPlan y did t.writes w) same aim) follows
-      (subst (λ (y : Plan). (names : List Lock) (records : Records) (change : Change) →
-      IsCarrying hash seat names y t.writes records pool locks change →
-      NearsOrSpares did (writes_left_in y t.writes (store_of pool.images))
-      (writes_left_in y w (store_of pool'.images)) pool pool') same progress)
-      (subst (λ (y : Plan). (names : List Lock) (records : Records) (change : Change) →
-      IsCarrying hash seat names y t.writes records pool locks change → is_fault did ≡ false →
-      Carries hash seat names y did t.writes w records pool pool' locks locks' change) same step) seated searches counts
+  tried_with x same t names row did w pool' locks' made seated searches counts =
+      tried t names row did w pool' locks' (subst (λ (y : Plan). MakesWrites hash seat y did t.writes w pool pool'
+      locks locks') same made) seated searches counts

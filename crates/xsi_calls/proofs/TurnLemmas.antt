@@ -48,6 +48,7 @@ module _ (hash : RecordKey → ℕ) (seat : ℕ) (call : Call) (i : AnyInquiry) 
       MakesQuestions hash seat call Ended (bare held) (bare held) pool pool locks locks
   ends held row asked = record {
     writes = writes_none pool ready;
+    cause = λ fault is. absurd cc;
     aim = record {
       caller = refl;
       ended = (λ e. asked, λ d. refl);
@@ -118,6 +119,7 @@ module _ (hash : RecordKey → ℕ) (seat : ℕ) (call : Call) (i : AnyInquiry) 
           MakesQuestions hash seat call (Moved kind) (bare held) (bare (held ++ lock ∷ [])) pool pool locks locks'
       took_it kind locks' is granted step = record {
         writes = writes_none pool ready;
+        cause = λ fault is. absurd cc;
         aim = record {
           caller = refl;
           ended = (λ e. absurd cc, λ d. absurd (goes_on d));
@@ -152,6 +154,7 @@ module _ (hash : RecordKey → ℕ) (seat : ℕ) (call : Call) (i : AnyInquiry) 
           MakesQuestions hash seat call (Blocked other) (bare held) (bare held) pool pool locks locks'
       kept_out other locks' is step = record {
         writes = writes_none pool ready;
+        cause = λ fault is. absurd cc;
         aim = record {
           caller = refl;
           ended = (λ e. absurd cc, λ d. absurd (goes_on d));
@@ -208,6 +211,7 @@ module _ (hash : RecordKey → ℕ) (seat : ℕ) (call : Call) (i : AnyInquiry) 
           MakesQuestions hash seat call did (bare held) (bare held') pool pool locks locks'
       gave (Moved kind) held' locks' gives is step = record {
         writes = writes_none pool ready;
+        cause = λ fault is. absurd cc;
         aim = record {
           caller = refl;
           ended = (λ e. absurd cc, λ d. absurd (goes_on d));

@@ -23,7 +23,7 @@ module _ (hash : RecordKey → ℕ) (seat : ℕ) (call : Call) where
       (record { questions = q'; trials = None }) pool pool' locks locks'
   moves kind q q' pool pool' locks locks' makes =
       asked hash seat call q pool locks (asks kind q q' pool pool' locks locks' makes) (Moved kind) q' pool' locks'
-      makes.writes makes.aim makes.row makes.progress makes.step makes.means
+      makes
 
   pub asks_untried : (q q' : QuestionsView) (pool : PoolState) (locks : Table) →
       AsksAtOnce (MakesQuestions hash seat call) seat q q' pool locks →

@@ -9,6 +9,8 @@ use Rattle.xsi_calls.proofs.WriteNames.{FileFault}
 use Rattle.xsi_calls.proofs.WriteBeginLemmas.{begun_locks}
 use Rattle.record_file.proofs.OperationLemmas.{ended_free}
 use Rattle.xsi_calls.proofs.SortLemmas.{Anew, EndsAs, Fails, Fills, Goes, Idles, IsIdle, IsSorted, LetsGo, Over, Refused, StartsAs, Steps, Stuck, Under}
+use Rattle.xsi_remove.proofs.FreshLemmas.{failed_cause}
+use Rattle.xsi_remove.specs.Words.{StepHasCause}
 use Rattle.xsi_calls.specs.declared.writes.CallWrites.{CallWrites}
 use Rattle.xsi_calls.specs.WriteWords.{RecordKey, Plan, PoolState, Table, Lock, IsReady, OnlyWrites, FollowsRow, Progress, Moved, Ended, Fault, WriteRecord, is_fault, is_write, AccessView, access_locks, Due}
 use Rattle.xsi_calls.specs.CarrySteps.{Advances, FindsNoRoom, IsPaid, KeepsPlan, Stays}
@@ -49,6 +51,29 @@ module _ (hash : RecordKey → ℕ) (seat : ℕ) (p : Plan) (did : Progress File
       OnlyWrites (not (is_fault did)) pool pool'
   only_writes ready (Idles why kept pools tables) = nothing_written (not (is_fault did)) ready pools
   only_writes ready (Steps s) = writes_on s.made s.due' s.a' s.ends s.step.writes
+
+  -- ---- why a fault is told
+
+  as_made : (made : Progress FileFault) → did ≡ made → StepHasCause made pool pool' → StepHasCause did pool pool'
+  as_made made same = subst (λ (d : Progress FileFault). StepHasCause d pool pool') (sym same)
+
+  idle_cause : IsIdle p did old → StepHasCause did pool pool'
+  idle_cause (Refused met refused same) =
+      as_made (Fault Failed) (same ∙ ap (λ (f : FileFault). Fault f) refused.failed) (failed_cause pool pool')
+  idle_cause (Over over same) = as_made Ended same (λ fault is. absurd cc)
+  idle_cause (Stuck a was ended why) = as_made (Fault Failed) why (failed_cause pool pool')
+
+  step_cause : (made : Progress FileFault) (due' : Due) (a' : AccessView) → EndsAs made did due' a' new →
+      StepHasCause made pool pool' → StepHasCause did pool pool'
+  step_cause made due' a' (Goes still same kept) cause = as_made made same cause
+  step_cause made due' a' (LetsGo ended written same kept) cause = as_made made same cause
+  step_cause made due' a' (Fills standing ended full due same kept) cause = as_made made same cause
+  step_cause made due' a' (Fails ended unwritten fine untried why kept) cause =
+      as_made (Fault Failed) why (failed_cause pool pool')
+
+  pub causes : IsSorted hash seat p did old new pool pool' locks locks' → StepHasCause did pool pool'
+  causes (Idles why kept pools tables) = idle_cause why
+  causes (Steps s) = step_cause s.made s.due' s.a' s.ends s.step.cause
 
   -- ---- the row
 

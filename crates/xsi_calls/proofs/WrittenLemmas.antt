@@ -13,7 +13,8 @@ use Rattle.xsi_inquiry.specs.declared.write.Write.TheVariants.{Replace, Relink, 
 use Rattle.xsi_calls.specs.declared.payment.Stage.TheVariants as stages
 use Rattle.xsi_calls.specs.PaymentWords.{RecordKey, PoolState, Table, Lock, Change, Progress, is_fault, Owns, Plan, Records, Due, Trying, Full, Writing, CallWrites, OwnsPlan, decided_at}
 use Rattle.xsi_calls.specs.Paying.{IsPayingWrites}
-use Rattle.xsi_calls.specs.PaySteps.{MakesWrites, Pays}
+use Rattle.xsi_calls.specs.MakeSteps.{MakesWrites}
+use Rattle.xsi_calls.specs.PaySteps.{Pays}
 
 -- ---- what is due
 

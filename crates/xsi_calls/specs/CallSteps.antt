@@ -2,13 +2,15 @@
 use Rattle.std.specs.Prelude.{ℕ, ◌≡◌, ◌↔◌, true, false, not, Bool, Option, Some, None, IsSome, Result, Ok, Err, if◌then◌else◌}
 use Rattle.file_pages.specs.declared.fault.FileFault.{FileFault}
 use Rattle.step_rules.specs.declared.kind.Kind.TheVariants.{Decide}
+use Rattle.xsi_remove.specs.Words.{StepHasCause}
+use Rattle.xsi_remove.specs.UnderWay.{StepsUnderWay}
 use Rattle.xsi_calls.specs.declared.conclusion.Conclusion.{Conclusion}
 use Rattle.xsi_calls.specs.Stages.{Stage, Undecided, Paying, Releasing}
 use Rattle.xsi_calls.specs.Deciding.{IsDecidedIn}
 use Rattle.xsi_calls.specs.Below.{counter_key, owes_at}
 use Rattle.xsi_calls.specs.Words.{Blocked, Call, Change, Ended, Exclusive, Fault, IsBehind, IsReady, IsUndecided, Moved, NearsOrSpares, OnlyWrites, PaymentStage, PoolState, Progress, RecordKey, Records, Settled, State, Step, Table, TrialLacksRoom, UndecidedCall, begun_payment, finds_behind, guard_of, has_no_room, is_fault, is_write, its_plan, kind_of, overlaid, store_of, trials_of, with_row, world}
 use Rattle.xsi_calls.specs.Concluding.{IsRightConclusion, conclusion_by}
-use Rattle.xsi_calls.specs.Machine.{CallView, IsOver, IsReading, call_facts, call_left, call_locks, call_owes, call_turn, conclusion_of, finds_of, is_undecided}
+use Rattle.xsi_calls.specs.Machine.{CallView, IsOver, IsReading, call_access, call_facts, call_left, call_locks, call_owes, call_turn, conclusion_of, finds_of, is_undecided}
 use Rattle.xsi_calls.specs.Calling.{IsCalling, IsPayingCall, IsReleasing}
 
 -- ---- whatever the device gives
@@ -109,6 +111,8 @@ pub record MakesCall (hash : RecordKey → ℕ) (seat : ℕ) (stopped : Bool) (d
     (pool pool' : PoolState) (locks locks' : Table) : Type 0 where
   -- whatever the device gives
   pub writes : OnlyWrites (not (is_fault did)) pool pool'
+  -- the fault of a transfer is told only where one has failed
+  pub cause : StepHasCause did pool pool'
   pub aim : KeepsCall did old new
   pub row : locks' ≡ with_row locks seat (call_locks new)
   -- on an honest device, in a sound world
@@ -118,6 +122,10 @@ pub record MakesCall (hash : RecordKey → ℕ) (seat : ℕ) (stopped : Bool) (d
   pub step : (s : State) (records : Records) (change : Change) →
       IsCalling hash seat s old records pool locks change → s.stopped ≡ stopped → is_fault did ≡ false →
       StepsCall hash seat s did old new records pool pool' locks locks' change
+  -- a delete under way turns away from its merge only where none can be made, and is let go only where it has ended
+  pub turns_away : (s : State) (records : Records) (change : Change) →
+      IsCalling hash seat s old records pool locks change → s.stopped ≡ stopped → is_fault did ≡ false →
+      StepsUnderWay hash seat did (call_access old) (call_access new) pool pool' locks locks' change
 
 -- a step that meets no page, and no fault
 pub record MakesRelease (seat : ℕ) (did : Progress FileFault) (old new : CallView) (locks locks' : Table) : Type 0 where

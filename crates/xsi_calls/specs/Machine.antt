@@ -6,6 +6,8 @@ use Rattle.xsi_calls.specs.PaymentLaws.{MOST_PAYMENT_STEPS}
 use Rattle.xsi_calls.specs.declared.conclusion.Conclusion.{Conclusion}
 use Rattle.xsi_calls.specs.Concluding.{answer_in}
 use Rattle.xsi_calls.specs.Stages.{Stage, Undecided, Paying, Releasing}
+use Rattle.xsi_calls.specs.Payments.{payment_access}
+use Rattle.xsi_calls.specs.WriteWords.{AccessView}
 use Rattle.xsi_calls.specs.Words.{MAX_NAMES, Writes, Call, Caller, HasRoom, IsCalm, IsFresh, IsPaid, KnowsNear, Known, Lock, Owes, RecordKey, State, Store, Trials, Turn, UndecidedCall, caller_of, its_plan, owes_now, payment_facts, payment_left, payment_locks, payment_turn, undecided_facts, undecided_left, undecided_locks, undecided_owes, undecided_turn}
 
 -- a call, with what it has asked and the names that it holds, and where it stands
@@ -69,7 +71,7 @@ IsReading (Some t) Undecided = ⊥
 IsReading trials (Paying payment conclusion) = ⊥
 IsReading trials (Releasing conclusion) = ⊤
 
--- ---- locks, facts, turns, and what is owed
+-- ---- locks, access, facts, turns, and what is owed
 
 abbrev pub locks_at : UndecidedCall → Stage → List Lock
 locks_at u Undecided = undecided_locks u
@@ -79,6 +81,15 @@ locks_at u (Releasing conclusion) = u.questions.names
 -- the row of its seat: its names, and behind them the locks of the access under way
 abbrev pub call_locks : CallView → List Lock
 call_locks m = locks_at m.undecided m.stage
+
+-- the access under way of what is paid: before its Decide a call deletes nothing
+abbrev pub access_at : Stage → Option AccessView
+access_at Undecided = None
+access_at (Paying payment conclusion) = payment_access payment
+access_at (Releasing conclusion) = None
+
+abbrev pub call_access : CallView → Option AccessView
+call_access m = access_at m.stage
 
 abbrev pub facts_at : UndecidedCall → Stage → List Known
 facts_at u Undecided = undecided_facts u

@@ -1,11 +1,15 @@
--- The parts of a step of a call that writes: an access begins, makes its step, and is let go.
-use Rattle.std.specs.Prelude.{ℕ, ◌≡◌, Bool, true, false, not, ◌&&◌, Option, Some, None, Result, Ok, Err}
+-- A step of a call that writes, and its parts: an access begins, makes its step, and is let go.
+use Rattle.std.specs.Prelude.{ℕ, ◌≡◌, Bool, true, false, not, ◌&&◌, List, Option, Some, None, Result, Ok, Err}
 use Rattle.record_file.specs.file_pages.declared.fault.FileFault.{FileFault}
 use Rattle.record_file.specs.file_pages.declared.fault.FileFault.TheVariants.{Failed}
+use Rattle.xsi_remove.specs.Words.{StepHasCause}
+use Rattle.xsi_remove.specs.UnderWay.{StepsUnderWay}
 use Rattle.xsi_calls.specs.declared.writes.CallWrites.{CallWrites}
-use Rattle.xsi_calls.specs.WriteWords.{RecordKey, Record, Plan, PoolState, Table, Progress, Ended, Fault, is_fault, HasEnded, ToInsert, Allows, Serves, AccessView, MakesAccess, has_no_room, Deed, Due, Trying, Full}
+use Rattle.xsi_calls.specs.WriteWords.{RecordKey, Record, Records, Plan, PoolState, Table, Lock, Change, store_of, OnlyWrites, FollowsRow, NearsOrSpares, Progress, Ended, Fault, is_fault, HasEnded, ToInsert, Allows, Serves, AccessView, MakesAccess, has_no_room, Deed, Due, Trying, Full}
 use Rattle.xsi_calls.specs.Dues.{IsBehind, IsDeedInRange, next_deed, purpose_of}
-use Rattle.xsi_calls.specs.Views.{IsOver, begun_deed}
+use Rattle.xsi_calls.specs.Views.{IsOver, begun_deed, writes_left_in, writes_locks}
+use Rattle.xsi_calls.specs.Carrying.{IsCarrying}
+use Rattle.xsi_calls.specs.CarrySteps.{Carries, KeepsPlan}
 
 -- ---- an access begins
 
@@ -21,6 +25,7 @@ pub record IsRefused (p : Plan) (fault : FileFault) (old : CallWrites) : Type 0 
   pub deed : Deed
   pub next : next_deed p old.due ≡ Some deed
   pub out : IsDeedInRange deed → ⊥
+  pub failed : fault ≡ Failed
 
 abbrev pub SetsOut : (RecordKey → ℕ) → Plan → Result Bool FileFault → (old new : CallWrites) → Type 0
 SetsOut hash p (Ok true) old new = IsSetOut hash p old new
@@ -83,7 +88,8 @@ pub data Settles (did did' : Progress FileFault) (old new : CallWrites) : Type 0
 
 -- ---- a step
 
--- a deed out of range is refused; nothing is left to do; or an access makes its step, and is let go where it has ended
+-- its parts: a deed out of range is refused; nothing is left to do; or an access makes its step, and is let go where it
+-- has ended
 pub data TakesStep (hash : RecordKey → ℕ) (seat : ℕ) (p : Plan) (did : Progress FileFault) (old new : CallWrites)
     (pool pool' : PoolState) (locks locks' : Table) : Type 0 where
   Refuses : (fault : FileFault) → SetsOut hash p (Err fault) old new → did ≡ Fault fault → pool' ≡ pool →
@@ -93,3 +99,23 @@ pub data TakesStep (hash : RecordKey → ℕ) (seat : ℕ) (p : Plan) (did : Pro
   Makes : (begun stepped : CallWrites) (made : Progress FileFault) → SetsOut hash p (Ok true) old begun →
       MakesDeed hash seat p made begun stepped pool pool' locks locks' → Settles made did stepped new →
       TakesStep hash seat p did old new pool pool' locks locks'
+
+pub record MakesWrites (hash : RecordKey → ℕ) (seat : ℕ) (p : Plan) (did : Progress FileFault) (old new : CallWrites)
+    (pool pool' : PoolState) (locks locks' : Table) : Type 0 where
+  pub takes : TakesStep hash seat p did old new pool pool' locks locks'
+  -- whatever the device gives
+  pub writes : OnlyWrites (not (is_fault did)) pool pool'
+  pub cause : StepHasCause did pool pool'
+  pub aim : KeepsPlan p did old new
+  pub row : FollowsRow seat (writes_locks old) (writes_locks new) locks locks'
+  -- on an honest device, in a sound world
+  pub progress : (names : List Lock) (records : Records) (change : Change) →
+      IsCarrying hash seat names p old records pool locks change →
+      NearsOrSpares did (writes_left_in p old (store_of pool.images)) (writes_left_in p new (store_of pool'.images))
+      pool pool'
+  pub step : (names : List Lock) (records : Records) (change : Change) →
+      IsCarrying hash seat names p old records pool locks change → is_fault did ≡ false →
+      Carries hash seat names p did old new records pool pool' locks locks' change
+  pub turns_away : (names : List Lock) (records : Records) (change : Change) →
+      IsCarrying hash seat names p old records pool locks change → is_fault did ≡ false →
+      StepsUnderWay hash seat did old.access new.access pool pool' locks locks' change

@@ -2,13 +2,16 @@
 use Rattle.std.specs.Prelude.{ℕ, ◌≡◌, ◌↔◌, true, false, not, List, Option}
 use Rattle.file_pages.specs.declared.fault.FileFault.{FileFault}
 use Rattle.file_pages.specs.declared.fault.FileFault.TheVariants.{Failed}
-use Rattle.xsi_calls.specs.CarrySteps.{Advances, Carries, KeepsPlan, Leaves}
+use Rattle.xsi_calls.specs.CarrySteps.{Advances, Leaves}
+use Rattle.xsi_calls.specs.MakeSteps.{MakesWrites}
 use Rattle.call_decisions.specs.Owing.{is_swept}
+use Rattle.xsi_remove.specs.Words.{StepHasCause}
+use Rattle.xsi_remove.specs.UnderWay.{StepsUnderWay}
 use Rattle.xsi_remove.specs.SweepSteps.{IsOf, IsOver, MakesSweep}
 use Rattle.xsi_calls.specs.declared.payment.Stage.{Stage}
 use Rattle.xsi_calls.specs.declared.payment.Stage.TheVariants as stages
-use Rattle.xsi_calls.specs.PaymentWords.{RecordKey, PoolState, Table, Lock, Change, store_of, OnlyWrites, FollowsRow, NearsOrSpares, Progress, Ended, Fault, is_fault, is_write, Step, Owns, Plan, Records, overlaid, CallWrites, IsCarrying, writes_left_in, writes_locks, Work, is_move}
-use Rattle.xsi_calls.specs.Payments.{IsPaid, owes_now, payment_facts, payment_turn, unwritten}
+use Rattle.xsi_calls.specs.PaymentWords.{RecordKey, PoolState, Table, Lock, Change, store_of, OnlyWrites, FollowsRow, NearsOrSpares, Progress, Ended, Fault, is_fault, is_write, Step, Owns, Plan, Records, overlaid, CallWrites, Work, is_move}
+use Rattle.xsi_calls.specs.Payments.{IsPaid, owes_now, payment_access, payment_facts, payment_left, payment_locks, payment_turn, unwritten}
 use Rattle.xsi_calls.specs.Paying.{IsPaying}
 
 -- ---- whatever the device gives
@@ -58,20 +61,6 @@ pub record Pays {F : Type 0} (hash : RecordKey → ℕ) (seat : ℕ) (names : Li
 
 -- ---- one step of a part
 
--- a step of the writes
-pub record MakesWrites (hash : RecordKey → ℕ) (seat : ℕ) (p : Plan) (did : Progress FileFault) (old new : CallWrites)
-    (pool pool' : PoolState) (locks locks' : Table) : Type 0 where
-  pub writes : OnlyWrites (not (is_fault did)) pool pool'
-  pub aim : KeepsPlan p did old new
-  pub row : FollowsRow seat (writes_locks old) (writes_locks new) locks locks'
-  pub progress : (names : List Lock) (records : Records) (change : Change) →
-      IsCarrying hash seat names p old records pool locks change →
-      NearsOrSpares did (writes_left_in p old (store_of pool.images)) (writes_left_in p new (store_of pool'.images))
-      pool pool'
-  pub step : (names : List Lock) (records : Records) (change : Change) →
-      IsCarrying hash seat names p old records pool locks change → is_fault did ≡ false →
-      Carries hash seat names p did old new records pool pool' locks locks' change
-
 -- a step of the sweep, which goes on; or it has failed before, and is refused
 pub data StepsSweep (hash : RecordKey → ℕ) (seat : ℕ) (did : Progress FileFault) (old new : Option Work)
     (pool pool' : PoolState) (locks locks' : Table) : Type 0 where
@@ -98,3 +87,26 @@ StepsPart hash seat p did (stages.Sweeping v) (stages.Writing w) pool pool' lock
 StepsPart hash seat p did (stages.Writing w) (stages.Sweeping v) pool pool' locks locks' = ⊥
 StepsPart hash seat p did (stages.Writing w) (stages.Writing w') pool pool' locks locks' =
     MakesWrites hash seat p did w w' pool pool' locks locks'
+
+-- ---- a step
+
+pub record MakesPayment (hash : RecordKey → ℕ) (seat : ℕ) (p : Plan) (did : Progress FileFault) (old new : Stage)
+    (pool pool' : PoolState) (locks locks' : Table) : Type 0 where
+  -- by the part under way
+  pub part : StepsPart hash seat p did old new pool pool' locks locks'
+  -- whatever the device gives
+  pub writes : OnlyWrites (not (is_fault did)) pool pool'
+  pub cause : StepHasCause did pool pool'
+  pub aim : KeepsPayment p did old new
+  pub row : FollowsRow seat (payment_locks old) (payment_locks new) locks locks'
+  -- on an honest device, in a sound world
+  pub progress : (names : List Lock) (records : Records) (change : Change) →
+      IsPaying hash seat names p old records pool locks change →
+      NearsOrSpares did (payment_left p old (store_of pool.images)) (payment_left p new (store_of pool'.images)) pool
+      pool'
+  pub step : (names : List Lock) (records : Records) (change : Change) →
+      IsPaying hash seat names p old records pool locks change → is_fault did ≡ false →
+      Pays hash seat names p did old new records pool pool' locks locks' change
+  pub turns_away : (names : List Lock) (records : Records) (change : Change) →
+      IsPaying hash seat names p old records pool locks change → is_fault did ≡ false →
+      StepsUnderWay hash seat did (payment_access old) (payment_access new) pool pool' locks locks' change

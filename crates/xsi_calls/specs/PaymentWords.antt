@@ -23,5 +23,5 @@ pub use Rattle.xsi_calls.specs.Carrying.{IsCarrying, OwnsPlan}
 pub use Rattle.xsi_calls.specs.Dues.{CanGoOn, owes}
 pub use Rattle.xsi_calls.specs.Views.{decided_at, writes_facts, writes_left_in, writes_locks, writes_turn}
 pub use Rattle.xsi_remove.specs.declared.work.Work.{Work}
-pub use Rattle.xsi_remove.specs.Sweeps.{Faces, begun_sweep, sweep_facts, sweep_left, sweep_locks, sweep_turn}
+pub use Rattle.xsi_remove.specs.Sweeps.{Faces, begun_sweep, sweep_access, sweep_facts, sweep_left, sweep_locks, sweep_turn}
 pub use Rattle.xsi_remove.specs.Works.{is_move}

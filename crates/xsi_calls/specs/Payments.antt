@@ -6,7 +6,8 @@ use Rattle.call_decisions.specs.declared.settled.Settled.TheVariants as settleme
 use Rattle.xsi_calls.specs.Views.{IsOver}
 use Rattle.xsi_calls.specs.declared.payment.Stage.{Stage}
 use Rattle.xsi_calls.specs.declared.payment.Stage.TheVariants as stages
-use Rattle.xsi_calls.specs.PaymentWords.{RecordKey, Lock, Store, Known, Turn, Plan, writes_of, Owes, Sweep, Settled, Due, Writing, CallWrites, owes, decided_at, writes_facts, writes_left_in, writes_locks, writes_turn, Work, begun_sweep, sweep_facts, sweep_left, sweep_locks, sweep_turn}
+use Rattle.xsi_calls.specs.WriteWords.{AccessView}
+use Rattle.xsi_calls.specs.PaymentWords.{RecordKey, Lock, Store, Known, Turn, Plan, writes_of, Owes, Sweep, Settled, Due, Writing, CallWrites, owes, decided_at, writes_facts, writes_left_in, writes_locks, writes_turn, Work, begun_sweep, sweep_access, sweep_facts, sweep_left, sweep_locks, sweep_turn}
 
 -- ---- its beginning
 
@@ -50,11 +51,15 @@ abbrev pub IsPaid : Plan → Stage → Type 0
 IsPaid p (stages.Sweeping v) = ⊥
 IsPaid p (stages.Writing w) = IsOver p w
 
--- ---- locks, facts and turns: those of the part under way
+-- ---- locks, access, facts and turns: those of the part under way
 
 abbrev pub payment_locks : Stage → List Lock → List Lock
 payment_locks (stages.Sweeping v) names = sweep_locks v names
 payment_locks (stages.Writing w) names = writes_locks w names
+
+abbrev pub payment_access : Stage → Option AccessView
+payment_access (stages.Sweeping v) = sweep_access v
+payment_access (stages.Writing w) = w.access
 
 abbrev pub payment_facts : Stage → List Known
 payment_facts (stages.Sweeping v) = sweep_facts v

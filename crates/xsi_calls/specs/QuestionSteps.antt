@@ -1,6 +1,7 @@
 -- What a step of a call does that asks the file its questions. docs/STEPS.md, "Calls".
 use Rattle.std.specs.Prelude.{ℕ, ◌≡◌, ◌<◌, ◌↔◌, ◌⊎◌, Bool, true, false, not, List, Option, Some, None, IsOk, Result, ⊤}
 use Rattle.file_pages.specs.declared.fault.FileFault.{FileFault}
+use Rattle.xsi_remove.specs.Words.{StepHasCause}
 use Rattle.xsi_calls.specs.declared.question.Question.{Question}
 use Rattle.xsi_calls.specs.QuestionWords.{RecordKey, PoolState, Table, Change, with_row, store_of, OnlyWrites, Progress, Moved, Blocked, Fault, Ended, Look, is_fault, Sees, Step, NearsOrSpares, Record, is_write, HasEnded, ToFind, AccessView, HasFound, Serves, access_answer, AnyInquiry, FollowsOf, KnowsOf, asked_of, caller_of, left_of, names_in, LockName, Call, State, Wanted, NotASystem, IsCovered, IsSoNear, IsFiled, Roomful}
 use Rattle.xsi_calls.specs.Answering.{Answers}
@@ -49,6 +50,7 @@ pub record MakesQuestions (hash : RecordKey → ℕ) (seat : ℕ) (call : Call) 
     (old new : QuestionsView) (pool pool' : PoolState) (locks locks' : Table) : Type 0 where
   -- whatever the device gives
   pub writes : OnlyWrites (not (is_fault did)) pool pool'
+  pub cause : StepHasCause did pool pool'
   pub aim : KeepsQuestions call did old new
   pub row : locks' ≡ with_row locks seat (questions_locks new)
   -- on an honest device, in a sound world

@@ -1,6 +1,7 @@
 -- What a step of a call does up to its Decide. docs/STEPS.md, "Calls".
 use Rattle.std.specs.Prelude.{ℕ, ◌≡◌, ◌↔◌, true, false, not, Option, Some, None}
 use Rattle.file_pages.specs.declared.fault.FileFault.{FileFault}
+use Rattle.xsi_remove.specs.Words.{StepHasCause}
 use Rattle.xsi_calls.specs.declared.trials.Trials.{Trials}
 use Rattle.xsi_calls.specs.declared.undecided.UndecidedCall.{UndecidedCall}
 use Rattle.xsi_calls.specs.UndecidedWords.{Call, Change, Ended, Exclusive, IsRightSoFar, KnowsNear, NearsOrSpares, OnlyWrites, PoolState, Progress, QuestionsView, RecordKey, Records, State, Step, Table, TrialLacksRoom, caller_of, finds_behind, guard_of, is_fault, is_write, kind_of, overlaid, store_of, with_row, world}
@@ -58,6 +59,7 @@ pub record MakesUndecided (hash : RecordKey → ℕ) (seat : ℕ) (call : Call) 
     (old new : UndecidedCall) (pool pool' : PoolState) (locks locks' : Table) : Type 0 where
   -- whatever the device gives
   pub writes : OnlyWrites (not (is_fault did)) pool pool'
+  pub cause : StepHasCause did pool pool'
   pub aim : KeepsUndecided call did old new
   pub row : locks' ≡ with_row locks seat (undecided_locks new)
   -- on an honest device, in a sound world

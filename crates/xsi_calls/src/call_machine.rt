@@ -1,12 +1,11 @@
 //! The machine.
 
-ghost use Rattle.std.specs.Prelude.{◌≡◌, Bool, IsSome, None, Some, true, false, not};
+ghost use Rattle.std.specs.Prelude.{◌≡◌, Bool, IsSome, None, Some, true, false};
 ghost use Rattle.std.specs.Option.{is_some};
 ghost use Rattle.xsi_calls.specs.declared.conclusion.Conclusion.TheVariants.{Waits};
-ghost use Rattle.xsi_calls.specs.Words.{CanDecide, Change, IsReady, HasRoom, IsSeat, NearsOrSpares, OnlyWrites, Records, State, is_fault, row_of, store_of, with_row};
-ghost use Rattle.xsi_calls.specs.Machine.{Begins, IsOver, answer_of_call, call_left, call_locks, conclusion_of, finds_of, is_paying, is_undecided};
-ghost use Rattle.xsi_calls.specs.Calling.{IsCalling};
-ghost use Rattle.xsi_calls.specs.CallSteps.{Decides, KeepsCall, MakesCall, MakesRelease, StepsCall, is_end};
+ghost use Rattle.xsi_calls.specs.Words.{CanDecide, IsReady, HasRoom, IsSeat, row_of};
+ghost use Rattle.xsi_calls.specs.Machine.{Begins, IsOver, answer_of_call, call_locks, conclusion_of, finds_of, is_paying, is_undecided};
+ghost use Rattle.xsi_calls.specs.CallSteps.{Decides, MakesCall, MakesRelease, is_end};
 
 mod skipping;
 
@@ -189,20 +188,8 @@ impl CallMachine {
         requires seat { IsSeat locks.old seat }
         requires ready { IsReady pool.old }
         requires row { row_of locks.old seat ≡ call_locks self.old }
-        // whatever the device gives
-        ensures writes { OnlyWrites (not (is_fault result)) pool.old pool.new }
-        ensures aim { KeepsCall result self.old self.new }
-        ensures row { locks.new ≡ with_row locks.old seat (call_locks self.new) }
-        // on an honest device, in a sound world
-        ensures progress { (s : State) (records : Records) (change : Change) →
-            IsCalling (K.of_key keys.now) seat s self.old records pool.old locks.old change →
-            s.stopped ≡ stopped → NearsOrSpares result (call_left self.old (store_of pool.old.images))
-            (call_left self.new (store_of pool.new.images)) pool.old pool.new }
-        ensures step { (s : State) (records : Records) (change : Change) →
-            IsCalling (K.of_key keys.now) seat s self.old records pool.old locks.old change →
-            s.stopped ≡ stopped → is_fault result ≡ false →
-            StepsCall (K.of_key keys.now) seat s result self.old self.new records
-            pool.old pool.new locks.old locks.new change }
+        ensures { MakesCall (K.of_key keys.now) seat stopped result self.old self.new
+            pool.old pool.new locks.old locks.new }
     {
         if self.is_undecided() {
             return self.go_on(pool, locks, keys, stopped, seat);

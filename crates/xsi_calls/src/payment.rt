@@ -1,10 +1,9 @@
 //! The payment.
 
-ghost use Rattle.std.specs.Prelude.{◌≡◌, List, None, not, false};
-ghost use Rattle.xsi_calls.specs.PaymentWords.{Change, EndsRow, FollowsRow, IsReady, IsSeat, Lock, NearsOrSpares, OnlyWrites, Records, is_fault, is_move, row_of, store_of};
-ghost use Rattle.xsi_calls.specs.Payments.{begun_payment, decided, payment_left, payment_locks, sweep_of, unwritten};
-ghost use Rattle.xsi_calls.specs.Paying.{IsPaying};
-ghost use Rattle.xsi_calls.specs.PaySteps.{KeepsPayment, Pays, StepsPart};
+ghost use Rattle.std.specs.Prelude.{◌≡◌};
+ghost use Rattle.xsi_calls.specs.PaymentWords.{EndsRow, IsReady, IsSeat, is_move, row_of};
+ghost use Rattle.xsi_calls.specs.Payments.{begun_payment, decided, payment_locks, sweep_of, unwritten};
+ghost use Rattle.xsi_calls.specs.PaySteps.{MakesPayment};
 
 use crate::due::Due;
 use crate::plan::PlanOf;
@@ -71,18 +70,22 @@ impl Payment {
         self.stage = Stage::Sweeping(SweepTurns::begin(sweep, keys));
     }
 
-    /// Begins with the writes, in the place of the last ones if there were any.
+    /// Begins with the writes, in the place of the last ones where these are at rest.
     fn begin_writes(&mut self, due: Due)
         ensures { self.new ≡ Stage.Writing (decided due) }
     {
-        match &mut self.stage {
-            Stage::Writing(writes) => decide_at(writes, due),
-            Stage::Sweeping(_) => self.stage = Stage::Writing(decided(due)),
+        if let Stage::Writing(writes) = &mut self.stage {
+            if !writes.is_under_way() {
+                decide_at(writes, due);
+                return;
+            }
         }
+        self.stage = Stage::Writing(decided(due));
     }
 
-    /// One step, of the sweep or else of the writes. It has ended where nothing is owed any more. A
-    /// sweep that has failed is refused as `Failed`, and nothing is written after it.
+    /// One step, of the sweep or else of the writes, which begin in the step after that by which the
+    /// sweep has ended. It has ended where nothing is owed any more. A sweep that has failed is refused
+    /// as `Failed`, and nothing is written after it.
     pub fn step<D: PageDevice, K: PseudoKey>(
         &mut self,
         plan: &PlanOf<'_>,
@@ -94,39 +97,7 @@ impl Payment {
         requires seat { IsSeat locks.old seat }
         requires ready { IsReady pool.old }
         requires row { EndsRow (payment_locks self.old) 3 (row_of locks.old seat) }
-        // whatever the device gives
-        ensures writes { OnlyWrites (not (is_fault result)) pool.old pool.new }
-        ensures aim { KeepsPayment plan.now result self.old self.new }
-        ensures row { FollowsRow seat (payment_locks self.old) (payment_locks self.new)
-            locks.old locks.new }
-        // on an honest device, in a sound world
-        ensures progress { (names : List Lock) (records : Records) (change : Change) →
-            IsPaying (K.of_key keys.now) seat names plan.now self.old records
-            pool.old locks.old change →
-            NearsOrSpares result (payment_left plan.now self.old (store_of pool.old.images))
-            (payment_left plan.now self.new (store_of pool.new.images)) pool.old pool.new }
-        ensures step { (names : List Lock) (records : Records) (change : Change) →
-            IsPaying (K.of_key keys.now) seat names plan.now self.old records
-            pool.old locks.old change → is_fault result ≡ false →
-            Pays (K.of_key keys.now) seat names plan.now result self.old self.new records
-            pool.old pool.new locks.old locks.new change }
-    {
-        self.make(plan, pool, locks, keys, seat)
-    }
-
-    /// The plan is written from the step on after that by which the sweep has ended.
-    fn make<D: PageDevice, K: PseudoKey>(
-        &mut self,
-        plan: &PlanOf<'_>,
-        pool: &mut Pool<D>,
-        locks: &mut LockTable,
-        keys: &K,
-        seat: u8,
-    ) -> Progress<FileFault>
-        requires seat { IsSeat locks.old seat }
-        requires ready { IsReady pool.old }
-        requires row { EndsRow (payment_locks self.old) 3 (row_of locks.old seat) }
-        ensures { StepsPart (K.of_key keys.now) seat plan.now result self.old self.new
+        ensures { MakesPayment (K.of_key keys.now) seat plan.now result self.old self.new
             pool.old pool.new locks.old locks.new }
     {
         match &mut self.stage {
@@ -161,6 +132,7 @@ fn sweep_of(settled: Option<Settled>) -> Option<Sweep>
 
 /// Takes the place of trials of which this was due when their call decided.
 fn decide_at(writes: &mut CallWrites, due: Due)
+    requires rests { writes.old.access ≡ None }
     ensures { writes.new ≡ decided due }
 {
     writes.begin_at(due);

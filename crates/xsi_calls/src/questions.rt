@@ -1,14 +1,14 @@
 //! The call that asks.
 
-ghost use Rattle.std.specs.Prelude.{◌≡◌, ◌≤◌, None, not, false, IsSome};
+ghost use Rattle.std.specs.Prelude.{◌≡◌, ◌≤◌, None, false, IsSome};
 ghost use Rattle.xsi_calls.specs.NameSteps.{GivesBack, MakesNameStep};
 ghost use Rattle.xsi_inquiry.specs.Rooms.{HasRoom};
 ghost use Rattle.xsi_inquiry.specs.Telling.{most_asked};
-ghost use Rattle.xsi_calls.specs.QuestionWords.{AreNames, Change, IsReady, IsSeat, NearsOrSpares, OnlyWrites, Ready, State, Step, caller_of, is_fault, left_of, name_turn, names_for, row_of, store_of, with_row};
+ghost use Rattle.xsi_calls.specs.QuestionWords.{AreNames, IsReady, IsSeat, Ready, State, caller_of, left_of, name_turn, names_for, row_of, with_row};
 ghost use Rattle.xsi_calls.specs.Answering.{key_asked};
 ghost use Rattle.xsi_calls.specs.Counting.{finds_behind};
-ghost use Rattle.xsi_calls.specs.Questions.{IsBare, KnowsNear, changes, has_asked, is_done, is_ready, questions_facts, questions_left, questions_locks, questions_turn};
-ghost use Rattle.xsi_calls.specs.QuestionSteps.{Faces, KeepsQuestions, Learns, MakesQuestions, is_blocked};
+ghost use Rattle.xsi_calls.specs.Questions.{IsBare, KnowsNear, changes, has_asked, is_done, is_ready, questions_locks};
+ghost use Rattle.xsi_calls.specs.QuestionSteps.{MakesQuestions, is_blocked};
 
 mod skipping;
 
@@ -223,23 +223,8 @@ impl Questions {
         requires seat { IsSeat locks.old seat }
         requires ready { IsReady pool.old }
         requires row { row_of locks.old seat ≡ questions_locks self.old }
-        // whatever the device gives
-        ensures writes { OnlyWrites (not (is_fault result)) pool.old pool.new }
-        ensures aim { KeepsQuestions call.now result self.old self.new }
-        ensures row { locks.new ≡ with_row locks.old seat (questions_locks self.new) }
-        // on an honest device, in a sound world
-        ensures progress { (s : State) (change : Change) →
-            Faces (K.of_key keys.now) seat call.now s self.old pool.old locks.old change →
-            NearsOrSpares result (questions_left call.now self.old (store_of pool.old.images))
-            (questions_left call.now self.new (store_of pool.new.images)) pool.old pool.new }
-        ensures step { (s : State) (change : Change) →
-            Faces (K.of_key keys.now) seat call.now s self.old pool.old locks.old change →
-            is_fault result ≡ false → Step (K.of_key keys.now) seat
-            (questions_turn call.now self.old (store_of pool.old.images)) result
-            (questions_facts self.new) pool.old pool.new locks.old locks.new change }
-        ensures means { (s : State) (change : Change) →
-            Faces (K.of_key keys.now) seat call.now s self.old pool.old locks.old change →
-            is_fault result ≡ false → Learns (K.of_key keys.now) call.now s result self.new }
+        ensures { MakesQuestions (K.of_key keys.now) seat call.now result self.old self.new
+            pool.old pool.new locks.old locks.new }
     {
         if self.is_asking {
             self.go_on(pool, locks, keys, seat, call)

@@ -1,13 +1,13 @@
 //! A call up to its Decide.
 
-ghost use Rattle.std.specs.Prelude.{◌≡◌, ◌≤◌, ℕ, IfOk, IsSome, None, false, true, not};
+ghost use Rattle.std.specs.Prelude.{◌≡◌, ℕ, IfOk, IsSome, None, false, true};
 ghost use Rattle.xsi_calls.specs.QuestionWords.{GivesBack, MakesNameStep};
 ghost use Rattle.xsi_inquiry.specs.Rooms.{HasRoom};
 ghost use Rattle.xsi_inquiry.specs.Telling.{Gives};
-ghost use Rattle.xsi_calls.specs.UndecidedWords.{Change, IsBare, IsReady, IsSeat, KnowsNear, NearsOrSpares, OnlyWrites, PoolState, RecordKey, Records, State, Table, caller_of, is_done, is_fault, plan_of, row_of, store_of, with_row};
-ghost use Rattle.xsi_calls.specs.Undecided.{CanDecide, IsFresh, trials_of, undecided_left, undecided_locks};
+ghost use Rattle.xsi_calls.specs.UndecidedWords.{Change, IsBare, IsReady, IsSeat, KnowsNear, PoolState, RecordKey, Records, State, Table, caller_of, is_done, plan_of, row_of, with_row};
+ghost use Rattle.xsi_calls.specs.Undecided.{CanDecide, IsFresh, trials_of, undecided_locks};
 ghost use Rattle.xsi_calls.specs.Knowing.{IsUndecided};
-ghost use Rattle.xsi_calls.specs.UndecidedSteps.{GoesOn, KeepsUndecided, MakesUndecided};
+ghost use Rattle.xsi_calls.specs.UndecidedSteps.{MakesUndecided};
 ghost use Rattle.xsi_calls.specs.Deciding.{IsDecided};
 
 mod skipping;
@@ -131,21 +131,8 @@ impl UndecidedCall {
         requires seat { IsSeat locks.old seat }
         requires ready { IsReady pool.old }
         requires row { row_of locks.old seat ≡ undecided_locks self.old }
-        // whatever the device gives
-        ensures writes { OnlyWrites (not (is_fault result)) pool.old pool.new }
-        ensures aim { KeepsUndecided call.now result self.old self.new }
-        ensures row { locks.new ≡ with_row locks.old seat (undecided_locks self.new) }
-        // on an honest device, in a sound world
-        ensures progress { (s : State) (records : Records) (change : Change) →
-            IsUndecided (K.of_key keys.now) seat call.now s self.old records
-            pool.old locks.old change →
-            NearsOrSpares result (undecided_left call.now self.old (store_of pool.old.images))
-            (undecided_left call.now self.new (store_of pool.new.images)) pool.old pool.new }
-        ensures step { (s : State) (records : Records) (change : Change) →
-            IsUndecided (K.of_key keys.now) seat call.now s self.old records
-            pool.old locks.old change → is_fault result ≡ false →
-            GoesOn (K.of_key keys.now) seat call.now s result self.old self.new records
-            pool.old pool.new locks.old locks.new change }
+        ensures { MakesUndecided (K.of_key keys.now) seat call.now result self.old self.new
+            pool.old pool.new locks.old locks.new }
     {
         if self.trials.is_some() {
             return self.go_on(pool, locks, keys, seat, call);

@@ -1,11 +1,10 @@
 //! The writing half of a call.
 
-ghost use Rattle.std.specs.Prelude.{◌≡◌, ◌≢◌, None, List, false, not};
-ghost use Rattle.xsi_calls.specs.WriteWords.{Change, EndsRow, FollowsRow, IsReady, IsSeat, Lock, NearsOrSpares, OnlyWrites, Records, is_fault, row_of, store_of};
-ghost use Rattle.xsi_calls.specs.Carrying.{IsCarrying};
-ghost use Rattle.xsi_calls.specs.CarrySteps.{Carries, KeepsPlan};
-ghost use Rattle.xsi_calls.specs.MakeSteps.{MakesDeed, SetsOut, Settles, TakesStep};
-ghost use Rattle.xsi_calls.specs.Views.{decided_at, is_full, writes_left_in, writes_locks};
+ghost use Rattle.std.specs.Prelude.{◌≡◌, ◌≢◌, None};
+ghost use Rattle.std.specs.Option.{is_some};
+ghost use Rattle.xsi_calls.specs.WriteWords.{EndsRow, IsReady, IsSeat, is_fault, row_of};
+ghost use Rattle.xsi_calls.specs.MakeSteps.{MakesDeed, MakesWrites, SetsOut, Settles};
+ghost use Rattle.xsi_calls.specs.Views.{decided_at, is_full, writes_locks};
 
 use crate::due::Due;
 use crate::plan::PlanOf;
@@ -38,11 +37,18 @@ impl CallWrites {
 
     /// Is at rest, with this due, in the place of one that is at rest.
     pub fn begin_at(&mut self, due: Due)
+        requires rests { self.old.access ≡ None }
         ensures due { self.new.due ≡ due }
         ensures rests { self.new.access ≡ None }
     {
         self.due = due;
-        self.access.close();
+    }
+
+    /// Whether an access is under way.
+    pub fn is_under_way(&self) -> bool
+        ensures { result ≡ is_some self.now.access }
+    {
+        self.access.is_under_way()
     }
 
     /// What is due.
@@ -77,8 +83,9 @@ impl CallWrites {
         };
     }
 
-    /// One step. It has ended where nothing is left to do: all trials stand, or one has no room; or
-    /// after the decision all is undone, or written.
+    /// One step: the next access begins where none is under way, makes its step, and is let go where
+    /// it has ended. The whole has ended where nothing is left to do: all trials stand, or one has no
+    /// room; or after the decision all is undone, or written.
     pub fn step<D: PageDevice, K: PseudoKey>(
         &mut self,
         plan: &PlanOf<'_>,
@@ -90,42 +97,7 @@ impl CallWrites {
         requires seat { IsSeat locks.old seat }
         requires ready { IsReady pool.old }
         requires row { EndsRow (writes_locks self.old) 3 (row_of locks.old seat) }
-        ensures takes { TakesStep (K.of_key keys.now) seat plan.now result self.old self.new
-            pool.old pool.new locks.old locks.new }
-        // whatever the device gives
-        ensures writes { OnlyWrites (not (is_fault result)) pool.old pool.new }
-        ensures aim { KeepsPlan plan.now result self.old self.new }
-        ensures row { FollowsRow seat (writes_locks self.old) (writes_locks self.new)
-            locks.old locks.new }
-        // on an honest device, in a sound world
-        ensures progress { (names : List Lock) (records : Records) (change : Change) →
-            IsCarrying (K.of_key keys.now) seat names plan.now self.old records
-            pool.old locks.old change →
-            NearsOrSpares result (writes_left_in plan.now self.old (store_of pool.old.images))
-            (writes_left_in plan.now self.new (store_of pool.new.images)) pool.old pool.new }
-        ensures step { (names : List Lock) (records : Records) (change : Change) →
-            IsCarrying (K.of_key keys.now) seat names plan.now self.old records
-            pool.old locks.old change → is_fault result ≡ false →
-            Carries (K.of_key keys.now) seat names plan.now result self.old self.new records
-            pool.old pool.new locks.old locks.new change }
-    {
-        self.make(plan, pool, locks, keys, seat)
-    }
-
-    /// The next access begins where none is under way, makes its step, and is let go where it has
-    /// ended.
-    fn make<D: PageDevice, K: PseudoKey>(
-        &mut self,
-        plan: &PlanOf<'_>,
-        pool: &mut Pool<D>,
-        locks: &mut LockTable,
-        keys: &K,
-        seat: u8,
-    ) -> Progress<FileFault>
-        requires seat { IsSeat locks.old seat }
-        requires ready { IsReady pool.old }
-        requires row { EndsRow (writes_locks self.old) 3 (row_of locks.old seat) }
-        ensures { TakesStep (K.of_key keys.now) seat plan.now result self.old self.new
+        ensures { MakesWrites (K.of_key keys.now) seat plan.now result self.old self.new
             pool.old pool.new locks.old locks.new }
     {
         match self.set_out(plan, keys) {

@@ -75,7 +75,7 @@ module _ (hash : RecordKey → ℕ) (seat : ℕ) (did : Progress FileFault) (w :
         locks' change
     stepped = e.step aim (left its_key) change faced fine
 
-    pub tells : TellsOf hash did aim (left its_key) w.access a (world pool.images locks change)
+    pub tells : TellsOf hash seat did aim (left its_key) w.access a (world pool.images locks change)
         (world pool'.images locks' change)
     tells = e.answer aim (left its_key) change faced fine
 

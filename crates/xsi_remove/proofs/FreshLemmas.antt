@@ -3,6 +3,7 @@ use Rattle.std.proofs.Common.{◌≡◌, refl, sym, ap, ◌∙◌, subst, ℕ, �
 use Rattle.std.specs.Prelude.{◌==◌, if◌then◌else◌}
 use Rattle.std.proofs.lemmas.Bool.{true≢false}
 use Rattle.file_pages.specs.declared.fault.FileFault.{FileFault}
+use Rattle.file_pages.specs.declared.fault.FileFault.TheVariants.{Failed}
 use Rattle.xsi_remove.specs.declared.work.Deed.{Deed}
 use Rattle.xsi_remove.specs.declared.work.Deed.TheVariants.{Reading, DeletingMessage, DeletingType}
 use Rattle.xsi_remove.specs.declared.work.Next.{Next}
@@ -12,7 +13,7 @@ use Rattle.xsi_remove.specs.Deeds.{begun_work, led_to, with_deed}
 use Rattle.xsi_remove.specs.Sweeps.{sweep_facts, sweep_locks}
 use Rattle.xsi_remove.specs.SweepSteps.{IsOf, turns_of}
 use Rattle.xsi_remove.specs.Works.{is_move}
-use Rattle.xsi_remove.specs.Words.{RecordKey, PoolState, Lock, OnlyWrites, Progress, Moved, Blocked, Fault, Ended, is_fault, NearsOrSpares, begun_turn}
+use Rattle.xsi_remove.specs.Words.{RecordKey, PoolState, Lock, StepHasCause, OnlyWrites, Progress, Moved, Blocked, Fault, Ended, is_fault, NearsOrSpares, begun_turn}
 
 -- ---- what follows holds nothing yet
 
@@ -92,6 +93,10 @@ nears_next (Fault fault) left left' more all pool pool' moved less near = absurd
 nears_next Ended left left' more all pool pool' moved less near = absurd cc
 
 -- ---- faults
+
+-- what no page may say is not the fault of a transfer
+pub failed_cause : (pool pool' : PoolState) → StepHasCause (Fault Failed) pool pool'
+failed_cause pool pool' fault is = λ same. absurd cc
 
 pub faulted : {b : Bool} (pool pool' : PoolState) → OnlyWrites b pool pool' → OnlyWrites false pool pool'
 faulted pool pool' writes = record {

@@ -3,9 +3,10 @@ use Rattle.std.proofs.Common.{◌≡◌, refl, sym, ap, ◌∙◌, subst, ℕ, �
 use Rattle.std.proofs.lemmas.Bool.{true≢false}
 use Rattle.file_pages.specs.declared.fault.FileFault.{FileFault}
 use Rattle.file_pages.specs.declared.fault.FileFault.TheVariants.{Failed}
+use Rattle.record_file.specs.OperationSteps.{TurnsAwayOf}
 use Rattle.record_file.specs.AccessSteps.{MakesAccess, Rests as RestsAccess}
-use Rattle.xsi_remove.proofs.FreshLemmas.{IsFresh, same_in, fresh_led, no_more, nears_with, nears_next, faulted, over_none, fine_of}
-use Rattle.xsi_remove.proofs.DeedLemmas.{IsDriven, driven, faced, hears_well, stepped}
+use Rattle.xsi_remove.proofs.FreshLemmas.{IsFresh, same_in, fresh_led, no_more, nears_with, nears_next, failed_cause, faulted, over_none, fine_of}
+use Rattle.xsi_remove.proofs.DeedLemmas.{IsDriven, driven, faced, hears_well, stepped, tells}
 use Rattle.record_file.proofs.OperationLemmas.{asks_no_write, ended_free, find_writes_none, removes_its}
 use Rattle.xsi_remove.proofs.LeftLemmas.{swept_key}
 use Rattle.xsi_remove.proofs.NextLemmas.{Follows, follows}
@@ -62,6 +63,9 @@ module _ (hash : RecordKey → ℕ) (seat : ℕ) (did : Progress FileFault) (w w
             locks locks' change
         made = stepped hash seat did w w'.access pool pool' locks locks' e held id count q s change f fine
 
+        turned : TurnsAwayOf hash seat w.access.operation w'.access.operation (world pool'.images locks' change)
+        turned = (tells hash seat did w w'.access pool pool' locks locks' e held id count q s change f fine).turns_away
+
         is_driven : IsDriven hash id count q s w' (store_of pool'.images)
         is_driven = subst (λ (x : Work). IsDriven hash id count q s x (store_of pool'.images)) (sym on.same)
             (driven hash seat did w w'.access pool pool' locks locks' e held id count q s change f fine w'.turn.read
@@ -116,6 +120,7 @@ module _ (hash : RecordKey → ℕ) (seat : ℕ) (did : Progress FileFault) (w w
       makes_on : MakesSweep hash seat did (Some w) (Some w') pool pool' locks locks'
       makes_on = record {
         writes = e.writes;
+        cause = e.cause;
         aim = record {
           ended = e.aim.ended;
           rests = rests did refl;
@@ -152,6 +157,12 @@ module _ (hash : RecordKey → ℕ) (seat : ℕ) (did : Progress FileFault) (w w
               };
               deletes = away held id count q s change f fine;
             };
+        turns_away = λ held id count q s change f fine. record {
+          come = w'.access;
+          makes = e;
+          turns_away = turned held id count q s change f fine;
+          stays = inl refl;
+        };
       }
 
     -- ---- its access has ended
@@ -170,6 +181,7 @@ module _ (hash : RecordKey → ℕ) (seat : ℕ) (did : Progress FileFault) (w w
           MakesSweep hash seat (Fault Failed) (Some w) (Some w') pool pool' locks locks'
       makes_stop none = record {
         writes = faulted pool pool' e.writes;
+        cause = failed_cause pool pool';
         aim = record {
           ended = (λ is. absurd (true≢false (ap is_fault is)), λ was. absurd (over_none did moved (e.aim.ended.1 was)));
           rests = tt;
@@ -182,6 +194,7 @@ module _ (hash : RecordKey → ℕ) (seat : ℕ) (did : Progress FileFault) (w w
             absurd (let clash : ◌≡◌ {A = Option (Option Work)} None (Some next.sweep) = sym none ∙ next.is in cc);
         step = λ held id count q s change f fine. absurd cc;
         sweeps = λ held id count q s change f fine. absurd cc;
+        turns_away = λ held id count q s change f fine. absurd cc;
       }
 
       -- this follows
@@ -189,6 +202,7 @@ module _ (hash : RecordKey → ℕ) (seat : ℕ) (did : Progress FileFault) (w w
           MakesSweep hash seat did (Some w) v pool pool' locks locks'
       makes_next v next = record {
         writes = e.writes;
+        cause = e.cause;
         aim = record {
           ended = e.aim.ended;
           rests = moves did moved;
@@ -226,6 +240,12 @@ module _ (hash : RecordKey → ℕ) (seat : ℕ) (did : Progress FileFault) (w w
                   (store_of pool'.images)) is led.sweeps;
               deletes = away held id count q s change f fine;
             };
+        turns_away = λ held id count q s change f fine. record {
+          come = w'.access;
+          makes = e;
+          turns_away = turned held id count q s change f fine;
+          stays = inr over;
+        };
       }
         where
           fresh : IsFresh w' v
@@ -245,6 +265,7 @@ module _ (hash : RecordKey → ℕ) (seat : ℕ) (did : Progress FileFault) (w w
       subst (λ (d : Progress FileFault). MakesSweep hash seat d (Some w) (Some w') pool pool' locks locks')
       (sym deaf.is) (record {
         writes = faulted pool pool' deaf.makes.writes;
+        cause = failed_cause pool pool';
         aim = record {
           ended = (
             λ is. absurd (true≢false (ap is_fault is)),
@@ -260,6 +281,7 @@ module _ (hash : RecordKey → ℕ) (seat : ℕ) (did : Progress FileFault) (w w
             pool' locks locks' deaf.makes held id count q s change f refl refl deaf.unread deaf.cause);
         step = λ held id count q s change f fine. absurd cc;
         sweeps = λ held id count q s change f fine. absurd cc;
+        turns_away = λ held id count q s change f fine. absurd cc;
       })
 
   -- ---- as it was driven

@@ -1,6 +1,7 @@
 pub mod Words
 pub mod Deeds
 pub mod Sweeps
+pub mod UnderWay
 pub mod SweepSteps
 pub mod Works
 pub mod Laws

@@ -2,8 +2,9 @@
 use Rattle.std.specs.Prelude.{ℕ, ◌≡◌, ◌≤◌, ◌+◌, ◌↔◌, ◌⊎◌, true, false, not, List, Option, Some, None, ⊤}
 use Rattle.file_pages.specs.declared.fault.FileFault.{FileFault}
 use Rattle.xsi_remove.specs.declared.work.Work.{Work}
-use Rattle.xsi_remove.specs.Sweeps.{Faces, IsSweeping, sweep_facts, sweep_left, sweep_locks, sweep_turn}
-use Rattle.xsi_remove.specs.Words.{RecordKey, PoolState, Table, Lock, Change, Store, store_of, Progress, Blocked, Ended, is_fault, FollowsRow, HasEnded, NearsOrSpares, OnlyWrites, Step, StepTurn, Remove, is_write, Queue, State, is_swept}
+use Rattle.xsi_remove.specs.Sweeps.{Faces, IsSweeping, sweep_access, sweep_facts, sweep_left, sweep_locks, sweep_turn}
+use Rattle.xsi_remove.specs.UnderWay.{StepsUnderWay}
+use Rattle.xsi_remove.specs.Words.{RecordKey, PoolState, Table, Lock, Change, Store, store_of, Progress, Blocked, Ended, is_fault, FollowsRow, HasEnded, NearsOrSpares, OnlyWrites, Step, StepHasCause, StepTurn, Remove, is_write, Queue, State, is_swept}
 
 -- ---- whatever the device gives
 
@@ -56,6 +57,7 @@ pub record MakesSweep (hash : RecordKey → ℕ) (seat : ℕ) (did : Progress Fi
     (pool pool' : PoolState) (locks locks' : Table) : Type 0 where
   -- whatever the device gives
   pub writes : OnlyWrites (not (is_fault did)) pool pool'
+  pub cause : StepHasCause did pool pool'
   pub aim : KeepsSweep did old new
   pub row : FollowsRow seat (sweep_locks old) (sweep_locks new) locks locks'
   -- on an honest device, in a sound world
@@ -68,3 +70,6 @@ pub record MakesSweep (hash : RecordKey → ℕ) (seat : ℕ) (did : Progress Fi
   pub sweeps : (held : List Lock) (id count : ℕ) (q : Queue) (s : State) (change : Change) →
       Faces hash seat held id count q s old pool locks change → is_fault did ≡ false →
       SweepsOn hash did id count q s old new (store_of pool.images) (store_of pool'.images)
+  pub turns_away : (held : List Lock) (id count : ℕ) (q : Queue) (s : State) (change : Change) →
+      Faces hash seat held id count q s old pool locks change → is_fault did ≡ false →
+      StepsUnderWay hash seat did (sweep_access old) (sweep_access new) pool pool' locks locks' change

@@ -8,7 +8,7 @@ use Rattle.xsi_remove.specs.declared.work.Deed.{Deed}
 use Rattle.xsi_remove.specs.declared.work.Deed.TheVariants.{Reading, DeletingMessage, DeletingType}
 use Rattle.xsi_remove.specs.declared.work.Work.{Work}
 use Rattle.xsi_remove.specs.Deeds.{begun_work, last_type, message_of, purpose_of}
-use Rattle.xsi_remove.specs.Words.{RecordKey, PoolState, Table, Lock, Change, Store, row_of, store_of, HasEnded, HasNoFileLock, IsKeyed, Known, Sees, StepTurn, kind_of, Exclusive, StandsAt, aimed_at, Allows, Serves, access_answer, access_facts, access_left, access_locks, access_turn, Queue, State, key_of_type, is_swept, IsTurn, swept, IsFiled, Records, with_at, Turn, IsAtTurn, MAX_MESSAGES, Sweep, begun_turn, turn_next, turn_plan}
+use Rattle.xsi_remove.specs.Words.{RecordKey, PoolState, Table, Lock, Change, Store, row_of, store_of, HasEnded, HasNoFileLock, IsKeyed, Known, Sees, StepTurn, kind_of, Exclusive, StandsAt, aimed_at, AccessView, Allows, Serves, access_answer, access_facts, access_left, access_locks, access_turn, Queue, State, key_of_type, is_swept, IsTurn, swept, IsFiled, Records, with_at, Turn, IsAtTurn, MAX_MESSAGES, Sweep, begun_turn, turn_next, turn_plan}
 
 -- ---- its beginning
 
@@ -20,11 +20,15 @@ begun_at hash id (Some first) = Some (begun_work hash (begun_turn id first) (MAX
 abbrev pub begun_sweep : (RecordKey → ℕ) → Sweep → Option Work
 begun_sweep hash sweep = begun_at hash sweep.id sweep.first
 
--- ---- locks, facts and turns; none where it is over
+-- ---- locks, access, facts and turns; none where it is over
 
 abbrev pub sweep_locks : Option Work → List Lock → List Lock
 sweep_locks None before = before
 sweep_locks (Some w) before = access_locks w.access before
+
+abbrev pub sweep_access : Option Work → Option AccessView
+sweep_access None = None
+sweep_access (Some w) = Some w.access
 
 abbrev pub sweep_facts : Option Work → List Known
 sweep_facts None = []

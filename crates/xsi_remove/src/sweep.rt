@@ -1,9 +1,9 @@
 //! The sweep.
 
-ghost use Rattle.std.specs.Prelude.{◌≡◌, ◌↔◌, ℕ, List, false, not, true};
-ghost use Rattle.xsi_remove.specs.Words.{Change, EndsRow, FollowsRow, IsReady, IsSeat, Lock, Moved, NearsOrSpares, OnlyWrites, Queue, State, Step, is_fault, row_of, store_of};
-ghost use Rattle.xsi_remove.specs.Sweeps.{Faces, begun_sweep, sweep_facts, sweep_left, sweep_locks, sweep_turn};
-ghost use Rattle.xsi_remove.specs.SweepSteps.{IsOver, KeepsSweep, MakesSweep, SweepsOn};
+ghost use Rattle.std.specs.Prelude.{◌≡◌, ◌↔◌, true};
+ghost use Rattle.xsi_remove.specs.Words.{EndsRow, IsReady, IsSeat, row_of};
+ghost use Rattle.xsi_remove.specs.Sweeps.{begun_sweep, sweep_locks};
+ghost use Rattle.xsi_remove.specs.SweepSteps.{IsOver, MakesSweep};
 ghost use Rattle.xsi_remove.specs.Works.{is_move};
 
 use crate::work::Work;
@@ -61,44 +61,8 @@ impl SweepTurns {
         }
     }
 
-    /// One step.
-    pub fn step<D: PageDevice, K: PseudoKey>(
-        &mut self,
-        pool: &mut Pool<D>,
-        locks: &mut LockTable,
-        keys: &K,
-        seat: u8,
-    ) -> Progress<FileFault>
-        requires seat { IsSeat locks.old seat }
-        requires ready { IsReady pool.old }
-        requires row { EndsRow (sweep_locks self.old) 3 (row_of locks.old seat) }
-        // whatever the device gives
-        ensures writes { OnlyWrites (not (is_fault result)) pool.old pool.new }
-        ensures aim { KeepsSweep result self.old self.new }
-        ensures row { FollowsRow seat (sweep_locks self.old) (sweep_locks self.new)
-            locks.old locks.new }
-        // on an honest device, in a sound world
-        ensures progress { (held : List Lock) (id count : ℕ) (q : Queue) (s : State)
-            (change : Change) → Faces (K.of_key keys.now) seat held id count q s self.old
-            pool.old locks.old change →
-            NearsOrSpares result (sweep_left self.old (store_of pool.old.images))
-            (sweep_left self.new (store_of pool.new.images)) pool.old pool.new }
-        ensures step { (held : List Lock) (id count : ℕ) (q : Queue) (s : State)
-            (change : Change) → Faces (K.of_key keys.now) seat held id count q s self.old
-            pool.old locks.old change → is_fault result ≡ false →
-            Step (K.of_key keys.now) seat (sweep_turn self.old (store_of pool.old.images)) result
-            (sweep_facts self.new) pool.old pool.new locks.old locks.new change }
-        ensures sweeps { (held : List Lock) (id count : ℕ) (q : Queue) (s : State)
-            (change : Change) → Faces (K.of_key keys.now) seat held id count q s self.old
-            pool.old locks.old change → is_fault result ≡ false →
-            SweepsOn (K.of_key keys.now) result id count q s self.old self.new
-            (store_of pool.old.images) (store_of pool.new.images) }
-    {
-        self.make(pool, locks, keys, seat)
-    }
-
     /// One step of its access, behind which what follows is begun where that has ended.
-    fn make<D: PageDevice, K: PseudoKey>(
+    pub fn step<D: PageDevice, K: PseudoKey>(
         &mut self,
         pool: &mut Pool<D>,
         locks: &mut LockTable,

@@ -10,13 +10,11 @@ use Rattle.xsi_calls.proofs.call_machine.CallMachine.go_on.Goals as goal
 
 pub returns-then-not-is_end : goal.returns-then-not-is_end
 returns-then-not-is_end g c =
-    let e = c.step-did.ensures in
     goes_from (g.K.PseudoKey.of_key c.args.keys.now) c.args.seat c.args.stopped c.self.inside.caller c.self.inside.call
     c.self.inside.undecided c.step-did.new.self
     (stage_at c.self.inside.phase c.self.inside.payment c.self.inside.conclusion) c.args.self.now c.self.view_is
     c.requires.undecided c.step-did.result c.args.pool.now c.step-did.new.pool c.args.locks.now c.step-did.new.locks
-    (sym c.is_end.ensures ∙ c.if-not-is_end.true) e.aim.most e.aim.finds e.writes e.row
-    e.progress e.step
+    (sym c.is_end.ensures ∙ c.if-not-is_end.true) c.step-did.ensures
 
 pub returns-in_default : goal.returns-in_default
 returns-in_default g c =

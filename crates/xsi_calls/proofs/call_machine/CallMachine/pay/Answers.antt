@@ -9,7 +9,6 @@ use Rattle.xsi_calls.proofs.call_machine.CallMachine.pay.Goals as goal
 
 pub returns-then-not-is_end : goal.returns-then-not-is_end
 returns-then-not-is_end g c = λ stopped.
-    let e = c.step-did.ensures in
     let hash = g.K.PseudoKey.of_key c.args.keys.now in
     let pays = subst (λ (m : CallView). is_paying m.stage ≡ true) (sym c.self.view_is) c.requires.pays in
     let still = paying_still c.self.inside.phase c.self.inside.payment c.step-did.new.self c.self.inside.conclusion
@@ -26,17 +25,10 @@ returns-then-not-is_end g c = λ stopped.
     (paying_still c.self.inside.phase c.self.inside.payment c.self.inside.payment c.self.inside.conclusion pays)
     c.questions.result.now c.questions.ensures c.keep_order.ensures c.plan-plan.result c.plan-plan.ensures
     c.step-did.new.self c.step-did.result c.args.pool.now c.step-did.new.pool c.args.locks.now c.step-did.new.locks
-    c.requires.row (record {
-      writes = e.writes;
-      aim = e.aim;
-      row = e.row;
-      progress = e.progress;
-      step = e.step;
-    }) (sym c.is_end.ensures ∙ c.if-not-is_end.true) stopped)
+    c.requires.row c.step-did.ensures (sym c.is_end.ensures ∙ c.if-not-is_end.true) stopped)
 
 pub returns : goal.returns
 returns g c =
-    let e = c.step-did.ensures in
     let pays = subst (λ (m : CallView). is_paying m.stage ≡ true) (sym c.self.view_is) c.requires.pays in
     released_from (g.K.PseudoKey.of_key c.args.keys.now) c.args.seat c.self.inside.caller c.self.inside.call
     c.self.inside.undecided (stage_at c.self.inside.phase c.self.inside.payment c.self.inside.conclusion)
@@ -44,11 +36,6 @@ returns g c =
     (paying_still c.self.inside.phase c.self.inside.payment c.self.inside.payment c.self.inside.conclusion pays)
     c.questions.result.now c.questions.ensures c.keep_order.ensures c.plan-plan.result c.plan-plan.ensures
     c.step-did.new.self c.step-did.result c.args.pool.now c.step-did.new.pool c.args.locks.now c.step-did.new.locks
-    c.requires.row (record {
-      writes = e.writes;
-      aim = e.aim;
-      row = e.row;
-      progress = e.progress;
-      step = e.step;
-    }) (sym c.is_end.ensures ∙ c.if-not-is_end.false) c.requires.seat (Releasing c.self.inside.conclusion) refl
+    c.requires.row c.step-did.ensures (sym c.is_end.ensures ∙ c.if-not-is_end.false) c.requires.seat
+    (Releasing c.self.inside.conclusion) refl
     c.release.result c.release.new.self c.release.new.locks c.release.ensures

@@ -1,31 +1,49 @@
--- What a step of a part does.
-use Rattle.xsi_calls.proofs.PartLemmas.{follows, keeps, only_writes}
-use Rattle.xsi_calls.proofs.PaymentPayLemmas.{nears, pays}
+-- A step of the part under way.
+use Rattle.std.proofs.Common.{sym, ◌∙◌}
+use Rattle.std.proofs.lemmas.Bool.{true≢false}
+use Rattle.xsi_calls.proofs.PartLemmas.{ends_part, failed_part, goes_part, writes_part}
+use Rattle.xsi_calls.proofs.PaymentPayLemmas.{makes_payment}
 use Rattle.xsi_calls.proofs.payment.Payment.step.Goals as goal
 
-pub returns-clause-writes : goal.returns-clause-writes
-returns-clause-writes g c =
-    only_writes (g.K.PseudoKey.of_key c.args.keys.now) c.args.seat c.args.plan.now c.make.result c.args.pool.now
-    c.make.new.pool c.args.locks.now c.make.new.locks c.args.self.now c.make.new.self c.requires.ready c.make.ensures
+pub returns-in-Writing : goal.returns-in-Writing
+returns-in-Writing g c =
+    makes_payment _ c.args.seat c.args.plan.now _ c.args.self.now _ c.args.pool.now _ c.args.locks.now _
+    c.requires.seat c.requires.ready
+    (writes_part (g.K.PseudoKey.of_key c.args.keys.now) c.args.seat c.args.plan.now c.step.result c.args.pool.now
+    c.step.new.pool c.args.locks.now c.step.new.locks c.args.self.now c.in-Writing.writes c.step.new.self
+    (sym c.self.view_is ∙ c.in-Writing.is) c.step.ensures)
 
-pub returns-clause-aim : goal.returns-clause-aim
-returns-clause-aim g c =
-    keeps (g.K.PseudoKey.of_key c.args.keys.now) c.args.seat c.args.plan.now c.make.result c.args.pool.now
-    c.make.new.pool c.args.locks.now c.make.new.locks c.args.self.now c.make.new.self c.make.ensures
+pub returns-then-is_over : goal.returns-then-is_over
+returns-then-is_over g c =
+    makes_payment _ c.args.seat c.args.plan.now _ c.args.self.now _ c.args.pool.now _ c.args.locks.now _
+    c.requires.seat c.requires.ready
+    (failed_part (g.K.PseudoKey.of_key c.args.keys.now) c.args.seat c.args.plan.now c.args.pool.now c.args.locks.now
+    c.args.self.now c.in-Sweeping.sweep (sym c.self.view_is ∙ c.in-Sweeping.is) (c.is_over.ensures.0 c.if-is_over.true))
 
-pub returns-clause-row : goal.returns-clause-row
-returns-clause-row g c =
-    follows (g.K.PseudoKey.of_key c.args.keys.now) c.args.seat c.args.plan.now c.make.result c.args.pool.now
-    c.make.new.pool c.args.locks.now c.make.new.locks c.args.self.now c.make.new.self c.make.ensures
+pub returns-then-not-is_move : goal.returns-then-not-is_move
+returns-then-not-is_move g c =
+    makes_payment _ c.args.seat c.args.plan.now _ c.args.self.now _ c.args.pool.now _ c.args.locks.now _
+    c.requires.seat c.requires.ready
+    (goes_part (g.K.PseudoKey.of_key c.args.keys.now) c.args.seat c.args.plan.now c.step-did.result c.args.pool.now
+    c.step-did.new.pool c.args.locks.now c.step-did.new.locks c.args.self.now c.in-Sweeping.sweep c.step-did.new.self
+    (sym c.self.view_is ∙ c.in-Sweeping.is) (λ over. true≢false (sym (c.is_over.ensures.1 over) ∙ c.if-is_over.false))
+    c.step-did.ensures (λ moved. absurd (true≢false (sym (c.is_move.ensures ∙ moved) ∙ c.if-not-is_move.true))))
 
-pub returns-clause-progress : goal.returns-clause-progress
-returns-clause-progress g c = λ names records change paying.
-    nears (g.K.PseudoKey.of_key c.args.keys.now) c.args.seat c.args.plan.now c.make.result c.args.pool.now
-    c.make.new.pool c.args.locks.now c.make.new.locks c.requires.seat names records change c.args.self.now
-    c.make.new.self c.make.ensures paying
+pub returns-then-not-is_over : goal.returns-then-not-is_over
+returns-then-not-is_over g c =
+    makes_payment _ c.args.seat c.args.plan.now _ c.args.self.now _ c.args.pool.now _ c.args.locks.now _
+    c.requires.seat c.requires.ready
+    (goes_part (g.K.PseudoKey.of_key c.args.keys.now) c.args.seat c.args.plan.now c.step-did.result c.args.pool.now
+    c.step-did.new.pool c.args.locks.now c.step-did.new.locks c.args.self.now c.in-Sweeping.sweep c.step-did.new.self
+    (sym c.self.view_is ∙ c.in-Sweeping.is) (λ over. true≢false (sym (c.is_over.ensures.1 over) ∙ c.if-is_over.false))
+    c.step-did.ensures (λ moved over. true≢false (sym (c.is_over-in-Sweeping.ensures.1 over) ∙ c.if-not-is_over.true)))
 
-pub returns-clause-step : goal.returns-clause-step
-returns-clause-step g c = λ names records change paying fine.
-    pays (g.K.PseudoKey.of_key c.args.keys.now) c.args.seat c.args.plan.now c.make.result c.args.pool.now
-    c.make.new.pool c.args.locks.now c.make.new.locks c.requires.seat names records change c.args.self.now
-    c.make.new.self c.make.ensures paying fine
+pub returns-else-not-is_over : goal.returns-else-not-is_over
+returns-else-not-is_over g c =
+    makes_payment _ c.args.seat c.args.plan.now _ c.args.self.now _ c.args.pool.now _ c.args.locks.now _
+    c.requires.seat c.requires.ready
+    (ends_part (g.K.PseudoKey.of_key c.args.keys.now) c.args.seat c.args.plan.now c.step-did.result c.args.pool.now
+    c.step-did.new.pool c.args.locks.now c.step-did.new.locks c.args.self.now c.in-Sweeping.sweep c.step-did.new.self
+    (sym c.self.view_is ∙ c.in-Sweeping.is) (λ over. true≢false (sym (c.is_over.ensures.1 over) ∙ c.if-is_over.false))
+    c.step-did.ensures (sym c.is_move.ensures ∙ c.if-not-is_move.false)
+    (c.is_over-in-Sweeping.ensures.0 c.if-not-is_over.false) c.unwritten.result c.unwritten.ensures)

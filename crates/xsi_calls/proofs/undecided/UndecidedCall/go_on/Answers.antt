@@ -17,14 +17,13 @@ count-requires g c =
 
 pub returns-in-Some : goal.returns-in-Some
 returns-in-Some g c =
-    let e = c.step-did.ensures in
     let tried = tried_with (g.K.PseudoKey.of_key c.args.keys.now) c.args.seat c.args.call.now
     c.args.self.now.questions c.args.pool.now c.args.locks.now c.new-plan.result
     (c.new-plan.ensures ∙ ap (λ (i : AnyInquiry). plan_of c.args.call.now i) c.inquiry.ensures) c.in-Some.trials
     c.keep_order.ensures
     (c.requires.row ∙ ap (λ (o : Option Trials). locks_in c.args.self.now.questions o) c.in-Some.is)
-    c.step-did.result c.step-did.new.self c.step-did.new.pool c.step-did.new.locks e.writes e.aim e.row e.progress e.step
-    c.requires.seat _ refl in
+    c.step-did.result c.step-did.new.self c.step-did.new.pool c.step-did.new.locks c.step-did.ensures c.requires.seat _
+    refl in
     let counted = subst (λ (x : QuestionsView). MakesUndecided (g.K.PseudoKey.of_key c.args.keys.now) c.args.seat
     c.args.call.now c.step-did.result (record {
       questions = c.args.self.now.questions;

@@ -1,36 +1,28 @@
--- What the three parts of a step do together.
-use Rattle.xsi_calls.proofs.CarriesLemmas.{carries}
-use Rattle.xsi_calls.proofs.NearLemmas.{nears}
-use Rattle.xsi_calls.proofs.SortLemmas.{sorted}
-use Rattle.xsi_calls.proofs.WriteStepLemmas.{follows_row, keeps_plan, only_writes}
+-- A step is refused, or nothing is left to do, or an access makes its step and is let go.
+use Rattle.std.proofs.Common.{refl, ap, ◌∙◌, subst, Ok, Result, Bool}
+use Rattle.xsi_calls.proofs.MakesLemmas.{makes_writes}
+use Rattle.xsi_calls.proofs.WriteNames.{FileFault}
+use Rattle.xsi_calls.specs.MakeSteps.{Makes, Refuses, Rests, SetsOut}
 use Rattle.xsi_calls.proofs.writes.CallWrites.step.Goals as goal
 
-pub returns-clause-writes : goal.returns-clause-writes
-returns-clause-writes g c =
-    only_writes (g.K.PseudoKey.of_key c.args.keys.now) c.args.seat c.args.plan.now c.make.result c.args.self.now
-    c.make.new.self c.args.pool.now c.make.new.pool c.args.locks.now c.make.new.locks c.requires.ready
-    (sorted _ _ _ _ _ _ _ _ _ _ c.make.ensures)
+pub returns-in-Err : goal.returns-in-Err
+returns-in-Err g c =
+    makes_writes _ c.args.seat c.args.plan.now _ c.args.self.now _ c.args.pool.now _ c.args.locks.now _
+    c.requires.seat c.requires.ready (Refuses c.in-Err.fault c.in-Err.ensures refl refl refl)
 
-pub returns-clause-aim : goal.returns-clause-aim
-returns-clause-aim g c =
-    keeps_plan (g.K.PseudoKey.of_key c.args.keys.now) c.args.seat c.args.plan.now c.make.result c.args.self.now
-    c.make.new.self c.args.pool.now c.make.new.pool c.args.locks.now c.make.new.locks
-    (sorted _ _ _ _ _ _ _ _ _ _ c.make.ensures)
+pub returns-in-Ok-false : goal.returns-in-Ok-false
+returns-in-Ok-false g c =
+    makes_writes _ c.args.seat c.args.plan.now _ c.args.self.now _ c.args.pool.now _ c.args.locks.now _
+    c.requires.seat c.requires.ready
+    (Rests (subst (λ (r : Result Bool FileFault). SetsOut (g.K.PseudoKey.of_key c.args.keys.now)
+    c.args.plan.now r c.args.self.now c.set_out.new.self)
+    (c.in-Ok-false.is ∙ ap Ok c.in-Ok-false.field-0-test) c.set_out.ensures) refl refl refl)
 
-pub returns-clause-row : goal.returns-clause-row
-returns-clause-row g c =
-    follows_row (g.K.PseudoKey.of_key c.args.keys.now) c.args.seat c.args.plan.now c.make.result c.args.self.now
-    c.make.new.self c.args.pool.now c.make.new.pool c.args.locks.now c.make.new.locks
-    (sorted _ _ _ _ _ _ _ _ _ _ c.make.ensures)
-
-pub returns-clause-progress : goal.returns-clause-progress
-returns-clause-progress g c = λ names records change carrying.
-    nears (g.K.PseudoKey.of_key c.args.keys.now) c.args.seat c.args.plan.now c.make.result c.args.self.now
-    c.make.new.self c.args.pool.now c.make.new.pool c.args.locks.now c.make.new.locks c.requires.seat names records
-    change carrying (sorted _ _ _ _ _ _ _ _ _ _ c.make.ensures)
-
-pub returns-clause-step : goal.returns-clause-step
-returns-clause-step g c = λ names records change carrying fine.
-    carries (g.K.PseudoKey.of_key c.args.keys.now) c.args.seat c.args.plan.now c.make.result c.args.self.now
-    c.make.new.self c.args.pool.now c.make.new.pool c.args.locks.now c.make.new.locks c.requires.seat names records
-    change carrying fine (sorted _ _ _ _ _ _ _ _ _ _ c.make.ensures)
+pub returns-in-Ok-true : goal.returns-in-Ok-true
+returns-in-Ok-true g c =
+    makes_writes _ c.args.seat c.args.plan.now _ c.args.self.now _ c.args.pool.now _ c.args.locks.now _
+    c.requires.seat c.requires.ready
+    (Makes c.set_out.new.self c.go_on-did.new.self c.go_on-did.result
+    (subst (λ (r : Result Bool FileFault). SetsOut (g.K.PseudoKey.of_key c.args.keys.now)
+    c.args.plan.now r c.args.self.now c.set_out.new.self)
+    (c.in-Ok-true.is ∙ ap Ok c.in-Ok-true.field-0-test) c.set_out.ensures) c.go_on-did.ensures c.settle.ensures)

@@ -4,7 +4,7 @@ use Rattle.file_pages.specs.declared.fault.FileFault.{FileFault}
 use Rattle.xsi_remove.specs.Deeds.{next_of}
 use Rattle.xsi_remove.specs.Works.{LeadsOn}
 use Rattle.xsi_remove.proofs.SweepLemmas.{makes_failed, makes_kept, makes_led}
-use Rattle.xsi_remove.proofs.sweep.SweepTurns.make.Goals as goal
+use Rattle.xsi_remove.proofs.sweep.SweepTurns.step.Goals as goal
 
 pub returns-then-not-is_move : goal.returns-then-not-is_move
 returns-then-not-is_move g c =
