@@ -1,6 +1,6 @@
 //! Rows worked by hand that no script shows: copies, and what waits.
 
-use crate::trial::{ROOT, became, get, gives, receive, send};
+use crate::plain_system::{ROOT, became, get, gives, receive, send};
 use queue_model::{Answer, Applied, Body, Entry, Errno, Message, NoMemory, System};
 use std::alloc::{AllocError, Global};
 use std::test::Fail;
