@@ -126,6 +126,9 @@ const FRAMES: usize = 16;
 /// How many messages fill more buckets than there are frames.
 const MESSAGES: u32 = 48;
 
+/// How many of them are received before one is blocked by the seat that is about to write.
+const RECEIVED: u32 = 10;
+
 /// Steps a seat until it makes one of this kind, or is answered where none is named. Whether it is.
 fn goes(
     kernel: &mut Kernel<SpoilingDevice<'_>, ShaKey>,
@@ -180,7 +183,7 @@ fn a_write_whose_page_is_spoilt_is_not_made(rt: HostRuntime) -> Result<(), Fail>
     assert!(rt; begin(&mut kernel, 1, Set(2, 5).to_call(alloc)?).is_ok());
     assert!(rt; goes(&mut kernel, 1, Some(Kind::Decide)));
     assert!(rt; goes(&mut kernel, 1, Some(Kind::Look)));
-    for _ in 0..MESSAGES {
+    for _ in 0..RECEIVED {
         is_answered(&rt, &mut kernel, 2, Receive(1, 0))?;
     }
     right.set(0);

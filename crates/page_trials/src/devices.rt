@@ -219,7 +219,7 @@ fn a_device_is_full_at_65_536_pages(rt: HostRuntime) -> Result<(), Fail> {
 
 /// Of `extend` alone: what is read and written there is a page, or past the end, and what is refused
 /// for want of room is no transfer that failed: the fourth is the second sync.
-fn is_full<D: PageDevice>(device: D) -> Result<bool, DeviceFault> {
+fn is_full<D: PageDevice + Drop>(device: D) -> Result<bool, DeviceFault> {
     let mut full = FaultyDevice::new(device, 4);
     let mut page = [1; PAGE_BYTES];
     full.read(65_535, &mut page)?;
