@@ -207,33 +207,23 @@ pub fn pages(word: &[u8]) -> Option<u32>
     }
 }
 
-/// What the command line may say, to which more commands can be added.
+/// What the command line may say, to which more commands can be added. One subcommand at a time is made
+/// and added, so that a growth that is refused leaves one of them at most to be dropped.
 pub fn program<'a>(alloc: Global) -> Result<Command<'a>, AllocError> {
-    let new = new_command(alloc)?;
-    let run = run_command(alloc)?;
-    let replay = replay_command(alloc)?;
-    let check = report_command(
-        alloc,
-        "check",
-        "Checks a file of message queues",
-        CHECK_PRINTS,
-    )?;
-    let stat = report_command(alloc, "stat", "Shows the queues of a file", STAT_PRINTS)?;
-    let migrate = migrate_command(alloc)?;
-    let copy = copy_command(alloc)?;
-    let salvage = salvage_command(alloc)?;
-    Command::new(alloc, "msgq")
+    let program = Command::new(alloc, "msgq")
         .version(VERSION)
         .about("Message queues (XSI, POSIX.1-2017) kept in one file")
-        .after_help(ENDING)
-        .subcommand(new)?
-        .subcommand(run)?
-        .subcommand(replay)?
-        .subcommand(check)?
-        .subcommand(stat)?
-        .subcommand(migrate)?
-        .subcommand(copy)?
-        .subcommand(salvage)
+        .after_help(ENDING);
+    let program = program.subcommand(new_command(alloc)?)?;
+    let program = program.subcommand(run_command(alloc)?)?;
+    let program = program.subcommand(replay_command(alloc)?)?;
+    let check = "Checks a file of message queues";
+    let program = program.subcommand(report_command(alloc, "check", check, CHECK_PRINTS)?)?;
+    let stat = "Shows the queues of a file";
+    let program = program.subcommand(report_command(alloc, "stat", stat, STAT_PRINTS)?)?;
+    let program = program.subcommand(migrate_command(alloc)?)?;
+    let program = program.subcommand(copy_command(alloc)?)?;
+    program.subcommand(salvage_command(alloc)?)
 }
 
 /// `new FILE PAGES`.
