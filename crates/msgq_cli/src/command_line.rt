@@ -107,6 +107,15 @@ const SIZE: &str = "How many pages of 4,096 bytes it has: 258 to 65,536";
 /// What is wrong with two texts that would both be that of standard input.
 const ONE_INPUT: &str = "SCRIPT and SCHEDULE can't both be standard input";
 
+/// What is wrong with words that the parser takes.
+#[derive(Clone, Copy, Debug, PartialEq, Eq)]
+enum Wrong<'a> {
+    /// SCRIPT and SCHEDULE would both be that of standard input.
+    OneInput,
+    /// This word is no number of pages.
+    Pages(&'a str),
+}
+
 /// Reads the words of a command line, of which the first names the program.
 ///
 /// A number of pages is one that a file can have, and one text at most is that of standard input.
@@ -118,6 +127,18 @@ pub fn read_command_line<'a>(alloc: Global, words: &'a [String]) -> Result<Task<
     let Some((name, arguments)) = matches.subcommand() else {
         return Ok(Task::Serve);
     };
+    match read_task(name, arguments) {
+        Ok(task) => Ok(task),
+        Err(Wrong::OneInput) => Err(one_input(alloc)?),
+        Err(Wrong::Pages(word)) => Err(no_pages(alloc, name, word)?),
+    }
+}
+
+/// What a subcommand asks for. It stands apart, since what was matched is live in the other.
+fn read_task<'a>(name: &str, arguments: &ArgMatches<'a>) -> Result<Task<'a>, Wrong<'a>>
+    ensures pages { IfOk result HasPages }
+    ensures input { IfOk result ReadsInputOnce }
+{
     let file = arguments.get_str(FILE).unwrap_or("");
     if name == "run" {
         return Ok(Task::Run {
@@ -129,8 +150,7 @@ pub fn read_command_line<'a>(alloc: Global, words: &'a [String]) -> Result<Task<
         let script = arguments.get_str(SCRIPT).unwrap_or("");
         let schedule = arguments.get_str(SCHEDULE).unwrap_or("");
         if script == STANDARD_INPUT && schedule == STANDARD_INPUT {
-            let mut replay = replay_command(alloc)?.bin_name("msgq replay")?;
-            return Err(replay.error(ErrorKind::ValueValidation, ONE_INPUT)?);
+            return Err(Wrong::OneInput);
         }
         return Ok(Task::Replay {
             file: opening(arguments),
@@ -161,7 +181,7 @@ pub fn read_command_line<'a>(alloc: Global, words: &'a [String]) -> Result<Task<
     }
     let word = arguments.get_str(PAGES).unwrap_or("");
     let Some(pages) = pages(word.as_bytes()) else {
-        return Err(no_pages(alloc, name, word)?);
+        return Err(Wrong::Pages(word));
     };
     let old = arguments.get_str(OLD).unwrap_or("");
     let new = arguments.get_str(NEW).unwrap_or("");
@@ -170,6 +190,12 @@ pub fn read_command_line<'a>(alloc: Global, words: &'a [String]) -> Result<Task<
         "salvage" => Task::Salvage { old, new, pages },
         _ => Task::New { file, pages },
     })
+}
+
+/// What is said of two texts that would both be that of standard input.
+fn one_input(alloc: Global) -> Result<Error, AllocError> {
+    let mut replay = replay_command(alloc)?.bin_name("msgq replay")?;
+    replay.error(ErrorKind::ValueValidation, ONE_INPUT)
 }
 
 /// The file that is changed, and how long its opening waits.
