@@ -1,4 +1,4 @@
--- Laws of the names of calls. Each is the contract of a function of laws.rt.
+-- Laws of the names of calls. Each is the contract of a function of name_laws.rt.
 -- docs/STEPS.md, "Locks", "What a call reads".
 use Rattle.std.specs.Prelude.{◌≡◌, ◌≢◌, ◌⊎◌, ◌<◌, ◌≤◌, List, [], ◌∷◌, length, map, take, Some, None, ⊤}
 use Rattle.std.specs.List.{AllByRecursion, Contains}

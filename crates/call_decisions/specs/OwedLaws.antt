@@ -1,4 +1,4 @@
--- Laws of what calls owe. Each is the contract of a function of laws.rt.
+-- Laws of what calls owe. Each is the contract of a function of owed_laws.rt.
 use Rattle.std.specs.Prelude.{◌≡◌, ◌≢◌, ℕ, ◌<◌, true, false, List, [], ◌∷◌, ◌++◌, length, Some, None, slice_index_or, slice_set}
 use Rattle.std.specs.List.{Contains}
 use Rattle.bucket_page.specs.declared.record_key.RecordKey.{RecordKey}

@@ -12,7 +12,8 @@ use Rattle.interleaving_core.specs.Counting.{begun_count, count_at, no_count, op
 use Rattle.interleaving_core.specs.declared.count.SearchCount.{SearchCount}
 use Rattle.interleaving_core.specs.declared.under_way.UnderWay.TheVariants.{Nothing}
 use Rattle.interleaving_core.specs.xsi_calls.Machine.{IsNew, call_facts, facts_at}
-use Rattle.interleaving_core.specs.xsi_calls.Below.{Question, facts_in}
+use Rattle.interleaving_core.specs.xsi_calls.Below.{facts_in}
+use Rattle.interleaving_core.specs.xsi_calls.declared.question.Question.{Question}
 use Rattle.interleaving_core.specs.xsi_calls.UndecidedWords.{questions_facts}
 use Rattle.interleaving_core.specs.xsi_calls.Words.{world}
 use Rattle.interleavings.specs.Counting.{AreCounted, IsCounted, calls_of, facts_of, under_way_in}

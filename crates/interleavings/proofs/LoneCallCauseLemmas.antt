@@ -4,7 +4,8 @@ use Rattle.xsi_calls.proofs.Names.{is_full, trials_in}
 use Rattle.xsi_calls.specs.CallSteps.{KeepsCall, StepsCall}
 use Rattle.xsi_calls.specs.Concluding.{IsRightConclusion}
 use Rattle.xsi_calls.specs.Machine.{IsNew, conclusion_at}
-use Rattle.xsi_calls.specs.Words.{Lock, Owes, Trials}
+use Rattle.xsi_calls.specs.Words.{Lock, Owes}
+use Rattle.xsi_calls.specs.declared.trials.Trials.{Trials}
 use Rattle.xsi_calls.specs.declared.conclusion.Conclusion.TheVariants as conclusions
 use Rattle.xsi_calls.specs.Stages.{Stage}
 use Rattle.interleavings.specs.LoneCallWords.{Call, CallView, Caller, Conclusion, FileFault, PoolState, Progress, RecordKey, Records, State, Table, call_owes, conclusion_of, has_no_room}

@@ -2,11 +2,16 @@
 use Rattle.std.proofs.Common.{ℕ, ◌≡◌, refl, subst, List, Option, Some, None}
 use Rattle.type_chains.specs.Entries.{counter_of}
 use Rattle.xsi_calls.proofs.Below.{operation_aside}
-use Rattle.xsi_calls.specs.Below.{AccessView, IsUndecidedIn, Question, Sweeping, Work, Writing, counter_key, facts_in, locks_behind, locks_in, locks_under, owes_in, sweep_locks}
+use Rattle.xsi_calls.specs.Below.{AccessView, IsUndecidedIn, Work, counter_key, facts_in, locks_behind, locks_in, locks_under, owes_in, sweep_locks}
+use Rattle.xsi_calls.specs.declared.question.Question.{Question}
+use Rattle.xsi_calls.specs.declared.payment.Stage.TheVariants.{Sweeping, Writing}
 use Rattle.xsi_calls.specs.Calling.{IsCallingAt}
 use Rattle.xsi_calls.specs.CallSteps.{GoesOnAt}
 use Rattle.xsi_calls.specs.Machine.{facts_at, locks_at, owes_at}
-use Rattle.xsi_calls.specs.Words.{IsPaying, Lock, Owes, PaymentStage, Plan, QuestionsView, Sees, IsBehind, Trials, UndecidedCall, guard_of, kind_of, payment_facts}
+use Rattle.xsi_calls.specs.Words.{IsPaying, Lock, Owes, Plan, QuestionsView, Sees, IsBehind, guard_of, kind_of, payment_facts}
+use Rattle.xsi_calls.specs.declared.payment.Stage.{Stage as PaymentStage}
+use Rattle.xsi_calls.specs.declared.trials.Trials.{Trials}
+use Rattle.xsi_calls.specs.declared.undecided.UndecidedCall.{UndecidedCall}
 use Rattle.xsi_calls.specs.Stages.{Stage, Undecided, Paying, Releasing}
 use Rattle.interleavings.specs.LoneCallWords.{Call, Change, IsFiled, PoolState, RecordKey, Records, StandsAt, State, Table, overlaid, record_of, row_of, store_of}
 

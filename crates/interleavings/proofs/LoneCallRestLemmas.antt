@@ -9,11 +9,15 @@ use Rattle.step_rules.specs.Sound.{IsSoundWorld}
 use Rattle.type_chains.specs.Entries.{counter_of}
 use Rattle.xsi_calls.proofs.Below.{owes_nothing_at_end}
 use Rattle.xsi_calls.proofs.IdleLemmas.{none_in}
-use Rattle.xsi_calls.specs.Below.{AccessView, Question, Sweeping, Writing, counter_key, locks_behind, locks_in, locks_under, owes_in}
+use Rattle.xsi_calls.specs.Below.{AccessView, counter_key, locks_behind, locks_in, locks_under, owes_in}
+use Rattle.xsi_calls.specs.declared.question.Question.{Question}
+use Rattle.xsi_calls.specs.declared.payment.Stage.TheVariants.{Sweeping, Writing}
 use Rattle.xsi_calls.specs.Calling.{IsCallingAt}
 use Rattle.xsi_calls.specs.Laws.{BeginRight}
 use Rattle.xsi_calls.specs.Machine.{IsNew, IsOverAt, answer_by, conclusion_at, facts_at, locks_at, owes_at}
-use Rattle.xsi_calls.specs.Words.{Lock, Sees, Trials, UndecidedCall, guard_of, its_plan, kind_of, world}
+use Rattle.xsi_calls.specs.Words.{Lock, Sees, guard_of, its_plan, kind_of, world}
+use Rattle.xsi_calls.specs.declared.trials.Trials.{Trials}
+use Rattle.xsi_calls.specs.declared.undecided.UndecidedCall.{UndecidedCall}
 use Rattle.xsi_calls.specs.declared.conclusion.Conclusion.TheVariants as conclusions
 use Rattle.xsi_calls.specs.Stages.{Stage, Undecided, Paying, Releasing}
 use Rattle.interleavings.specs.LoneCallWords.{Answer, Call, CallView, Caller, Change, Conclusion, IsOver, PoolState, RecordKey, Records, StandsAt, State, Table, answer_of, call_locks, call_owes, conclusion_of, has_no_room, outcome, overlaid, record_of, row_of, store_of}

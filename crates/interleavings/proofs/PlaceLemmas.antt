@@ -3,7 +3,9 @@ use Rattle.std.proofs.Common.{ℕ, ◌≡◌, ap, ◌∙◌, true, List, Option,
 use Rattle.std.specs.List.{All}
 use Rattle.interleavings.proofs.of_xsi_calls.OwnLemmas.{own_written, owes_what_it_holds, undone_own}
 use Rattle.interleavings.proofs.LoneCallPlaceLemmas.{names_aside}
-use Rattle.interleavings.specs.xsi_calls.UndecidedBelow.{Due, Full, Owns, Trying, Undoing, Writing, key_of}
+use Rattle.interleavings.specs.xsi_calls.UndecidedBelow.{Owns, key_of}
+use Rattle.interleavings.specs.xsi_calls.declared.due.Due.{Due}
+use Rattle.interleavings.specs.xsi_calls.declared.due.Due.TheVariants.{Full, Trying, Undoing, Writing}
 use Rattle.interleavings.specs.xsi_calls.UndecidedWords.{owes}
 use Rattle.page_locks.specs.Table.{held}
 use Rattle.queue_records.specs.declared.record.Record.{Record}
@@ -11,7 +13,8 @@ use Rattle.interleavings.specs.xsi_calls.Knowing.{IsOnTrial, IsUndecidedIn}
 use Rattle.interleavings.specs.xsi_calls.Undecided.{owes_in}
 use Rattle.interleavings.specs.xsi_calls.Calling.{IsCallingAt}
 use Rattle.interleavings.specs.xsi_calls.Machine.{owes_at as owes_of_call}
-use Rattle.interleavings.specs.xsi_calls.Words.{Exclusive, Plan, QuestionsView, Trials, guard_of, its_plan, kind_of}
+use Rattle.interleavings.specs.xsi_calls.Words.{Exclusive, Plan, QuestionsView, guard_of, its_plan, kind_of}
+use Rattle.interleavings.specs.xsi_calls.declared.trials.Trials.{Trials}
 use Rattle.interleavings.specs.xsi_calls.Stages.{Undecided, Paying, Releasing}
 use Rattle.interleavings.specs.ConcurrentWords.{Call, CallView, Change, IsCalling, Lock, PoolState, RecordKey, Records, Stage, State, Table, UndecidedCall, call_locks, call_owes, owes_at, row_of}
 

@@ -4,7 +4,8 @@ use Rattle.std.specs.List.{Contains}
 use Rattle.xsi_calls.specs.declared.payment.Stage.TheVariants as stages
 use Rattle.xsi_calls.specs.PaymentWords.{Work, sweep_locks}
 use Rattle.xsi_calls.proofs.UndecidedNames.{operation_aside}
-use Rattle.xsi_calls.specs.UndecidedBelow.{AccessView, Question, locks_behind, locks_under}
+use Rattle.xsi_calls.specs.UndecidedBelow.{AccessView, locks_behind, locks_under}
+use Rattle.xsi_calls.specs.declared.question.Question.{Question}
 use Rattle.page_locks.proofs.NameLemmas.{is_same-itself}
 use Rattle.page_locks.proofs.WriterLemmas.{exclusive_alone}
 use Rattle.page_locks.specs.declared.lock.LockName.TheVariants as names_are

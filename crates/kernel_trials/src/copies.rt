@@ -4,8 +4,8 @@ ghost use Rattle.std.specs.Prelude.{◌≡◌, ◌≤◌, []};
 ghost use Rattle.directory.specs.declared.layout.TheConstants.{LEAST_PAGES};
 ghost use Rattle.page_device.specs.declared.page.TheConstants.{MAX_PAGES};
 
+use crate::migrating::{is_the_scripts, migrates, number};
 use crate::old_file::old_file;
-use crate::trial::{is_the_scripts, migrates, number};
 use bucket_page::ShaKey;
 use directory::{LAYOUT, LEAST_PAGES, layouts_are_right};
 use migration::{Copied, Made, Target, copy, make};

@@ -1,5 +1,5 @@
-//! Trials from outside of the kernel; of the checker, by files made page by page, each with one thing
-//! wrong; and of files of which new ones are made.
+//! Trials from outside of the kernel; of the checker, by files each with one thing wrong; and of
+//! files of which new ones are made.
 
 #![tactic(auto)]
 
@@ -26,7 +26,9 @@ mod finding;
 #[cfg(test)]
 mod growing;
 #[cfg(test)]
-mod malicious;
+mod migrating;
+#[cfg(test)]
+mod migrations;
 #[cfg(test)]
 mod no_room;
 #[cfg(test)]
@@ -50,18 +52,10 @@ mod splitting;
 #[cfg(test)]
 mod spoiling;
 #[cfg(test)]
-mod spoilt;
-#[cfg(test)]
-mod systems;
-#[cfg(test)]
-mod tests;
-#[cfg(test)]
-mod trial;
-#[cfg(test)]
-mod two_buckets;
-#[cfg(test)]
-mod two_queues;
-#[cfg(test)]
 mod types;
 #[cfg(test)]
 mod waiting;
+#[cfg(test)]
+mod wrong_files;
+#[cfg(test)]
+mod wrong_pages;

@@ -1,7 +1,7 @@
 //! What is salvaged of the file of the script: its root bucket is page 257, and pages 258 and 259 are free.
 
+use crate::migrating::{is_the_scripts, migrates};
 use crate::old_file::old_file;
-use crate::trial::{is_the_scripts, migrates};
 use bucket_page::ShaKey;
 use directory::{LEAST_PAGES, ROOT_PAGE};
 use migration::{Losses, Pages, Rescue, SalvageFault, Salvaged, Target, salvage};

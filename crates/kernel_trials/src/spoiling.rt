@@ -1,23 +1,27 @@
-//! A device that is not honest: once a kernel is open it gives back pages with a wrong digest.
+//! A device that is not honest: after some reads it gives back pages with a wrong digest.
 
-use crate::asks::Asks::Get;
+use crate::asks::Asks;
+use crate::asks::Asks::{Get, Receive, SendLong, Set};
 use crate::cases::run;
-use crate::malicious::TWO_BUCKETS;
 use crate::rows::{CALLERS, begin, step};
-use bucket_page::NumberKey;
+use crate::wrong_files::TWO_BUCKETS;
+use bucket_page::{NumberKey, ShaKey};
 use interleaving_core::{BeginFault, Kernel, NotClosed, Step};
 use page_device::{DeviceFault, MemDevice, Page, PageDevice};
+use record_file::format;
+use std::cell::Cell;
 use std::process::Abort;
 use std::test::Fail;
+use step_rules::Kind;
 
 /// A device in memory. When so many reads are made, each one changes a byte of what it reads.
 #[derive(Drop)]
-struct SpoilingDevice {
-    inner: MemDevice,
-    right: u32,
+pub struct SpoilingDevice<'a> {
+    pub inner: MemDevice,
+    pub right: &'a Cell<u32>,
 }
 
-impl PageDevice for SpoilingDevice {
+impl PageDevice for SpoilingDevice<'_> {
     ghost use Rattle.std.specs.Prelude.{false, true};
 
     ghost is_honest = { λ _. false };
@@ -38,8 +42,8 @@ impl PageDevice for SpoilingDevice {
 
     fn read(&mut self, page: u32, into: &mut Page) -> Result<(), DeviceFault> {
         self.inner.read(page, into)?;
-        match self.right.checked_sub(1) {
-            Some(right) => self.right = right,
+        match self.right.get().checked_sub(1) {
+            Some(right) => self.right.set(right),
             None => into[2000] ^= 1,
         }
         Ok(())
@@ -71,7 +75,7 @@ fn is_failed(told: &Step) -> bool {
 }
 
 /// Whether one of the first ten steps of a seat is told 62.
-fn fails(kernel: &mut Kernel<SpoilingDevice, NumberKey>, seat: u8) -> bool {
+fn fails(kernel: &mut Kernel<SpoilingDevice<'_>, NumberKey>, seat: u8) -> bool {
     for _ in 0..10 {
         if is_failed(&step(kernel, seat)) {
             return true;
@@ -83,9 +87,10 @@ fn fails(kernel: &mut Kernel<SpoilingDevice, NumberKey>, seat: u8) -> bool {
 #[test]
 fn a_page_that_is_spoilt_behind_opening_fails_the_kernel(rt: HostRuntime) -> Result<(), Fail> {
     let alloc = rt.alloc();
+    let right = Cell::new(READS_OF_OPENING);
     let device = SpoilingDevice {
         inner: run(&rt, NumberKey, TWO_BUCKETS)?,
-        right: READS_OF_OPENING,
+        right: &right,
     };
     let call = Get(7).to_call(alloc)?;
     let other = Get(9).to_call(alloc)?;
@@ -113,4 +118,75 @@ fn a_page_that_is_spoilt_behind_opening_fails_the_kernel(rt: HostRuntime) -> Res
         }
         NotClosed::Busy(_) => Ok(assert!(rt; false)),
     }
+}
+
+/// The frames of a kernel of two seats: four for each, and eight.
+const FRAMES: usize = 16;
+
+/// How many messages fill more buckets than there are frames.
+const MESSAGES: u32 = 48;
+
+/// How many of them are received before one is blocked by the seat that is about to write.
+const RECEIVED: u32 = 10;
+
+/// Steps a seat until it makes one of this kind, or is answered where none is named. Whether it is.
+fn goes(
+    kernel: &mut Kernel<SpoilingDevice<'_>, ShaKey>,
+    seat: u8,
+    until: Option<Kind>,
+) -> bool {
+    for _ in 0..10_000 {
+        match step(kernel, seat) {
+            Step::Moved(kind) if until == Some(kind) => return true,
+            Step::Moved(_) => {}
+            Step::Answered(_) => return until.is_none(),
+            _ => return false,
+        }
+    }
+    false
+}
+
+/// A call of a seat is answered.
+fn is_answered<R: Abort + AllocGlobal>(
+    rt: &R,
+    kernel: &mut Kernel<SpoilingDevice<'_>, ShaKey>,
+    seat: u8,
+    asks: Asks,
+) -> Result<(), Fail> {
+    assert!(rt; begin(kernel, seat, asks.to_call(rt.alloc())?).is_ok());
+    assert!(rt; goes(kernel, seat, None));
+    Ok(())
+}
+
+/// Seat 1 has looked at the page where it writes next. Beside it seat 2 receives so many messages that
+/// the page leaves its frame, and can't be read again: the write is told as what it is.
+#[test]
+fn a_write_whose_page_is_spoilt_is_not_made(rt: HostRuntime) -> Result<(), Fail> {
+    let alloc = rt.alloc();
+    let right = Cell::new(u32::MAX);
+    let mut inner = MemDevice::new(alloc);
+    format(&mut inner, 352)?;
+    let device = SpoilingDevice {
+        inner,
+        right: &right,
+    };
+    let mut kernel = match Kernel::open(alloc, device, ShaKey, &CALLERS[..2], FRAMES) {
+        Ok(kernel) => kernel,
+        Err((_, fault)) => return Err(fault.into()),
+    };
+    for asks in [Get(7), Get(9), Set(1, 65_536)] {
+        is_answered(&rt, &mut kernel, 1, asks)?;
+    }
+    for _ in 0..MESSAGES {
+        is_answered(&rt, &mut kernel, 1, SendLong(1, 1024))?;
+    }
+    assert!(rt; begin(&mut kernel, 1, Set(2, 5).to_call(alloc)?).is_ok());
+    assert!(rt; goes(&mut kernel, 1, Some(Kind::Decide)));
+    assert!(rt; goes(&mut kernel, 1, Some(Kind::Look)));
+    for _ in 0..RECEIVED {
+        is_answered(&rt, &mut kernel, 2, Receive(1, 0))?;
+    }
+    right.set(0);
+    assert!(rt; is_failed(&step(&mut kernel, 1)));
+    Ok(())
 }

@@ -22,6 +22,8 @@ mod kinds;
 #[cfg(test)]
 mod merges;
 #[cfg(test)]
+mod new_files;
+#[cfg(test)]
 mod rows;
 #[cfg(test)]
 mod searches;

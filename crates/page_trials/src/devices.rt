@@ -187,38 +187,61 @@ fn what_the_system_does_not_open_is_a_fault(rt: HostRuntime) {
     }
 }
 
-/// Adds a page to a file as long as so many, and tells what came of it and how many there are then.
-fn added(rt: &HostRuntime, pages: u32) -> Result<(Result<(), DeviceFault>, u32), Fail> {
+/// Adds a page to a file as long as so many, and tells the number of the fault, 0 where there is none,
+/// and how many there are then.
+fn added(rt: &HostRuntime, pages: u32) -> Result<(u8, u32), Fail> {
     let path = "device_full/pages";
     let file = OpenOptions::new().write(true).open(rt, path)?;
     file.set_len(u64::from(pages) * PAGE_BYTES as u64)?;
     let mut device = FileDevice::open(rt, path)?;
-    let came = device.extend(&[4; PAGE_BYTES]);
-    Ok((came, device.pages()))
+    let fault = match device.extend(&[4; PAGE_BYTES]) {
+        Ok(()) => 0,
+        Err(fault) => fault.number(),
+    };
+    Ok((fault, device.pages()))
 }
 
-/// Of `extend` alone: what is read and written there is a page, or past the end, and what is refused
-/// for want of room is no transfer that failed.
 #[test]
 fn a_device_is_full_at_65_536_pages(rt: HostRuntime) -> Result<(), Fail> {
     written(&rt, "device_full", "device_full/pages")?;
-    for (pages, came, left) in [
-        (0, Ok(()), 1),
-        (65_534, Ok(()), 65_535),
-        (65_600, Err(DeviceFault::DeviceFull), 65_537),
-        (65_536, Err(DeviceFault::DeviceFull), 65_536),
-        (65_535, Ok(()), 65_536),
+    for (pages, fault, left) in [
+        (0, 0, 1),
+        (65_534, 0, 65_535),
+        (65_600, 23, 65_537),
+        (65_536, 23, 65_536),
+        (65_535, 0, 65_536),
     ] {
-        assert!(rt; added(&rt, pages)? == (came, left), "{pages} pages");
+        assert!(rt; added(&rt, pages)? == (fault, left), "{pages} pages");
     }
-    let mut full = FaultyDevice::new(FileDevice::open(&rt, "device_full/pages")?, 4);
-    let mut page = [0; PAGE_BYTES];
-    assert!(rt; full.read(65_535, &mut page).is_ok() && page == [4; PAGE_BYTES]);
-    assert!(rt; full.write(65_535, &[5; PAGE_BYTES]).is_ok());
-    assert!(rt; full.write(65_536, &page) == Err(DeviceFault::PastEnd));
-    assert!(rt; full.extend(&page) == Err(DeviceFault::DeviceFull));
-    assert!(rt; full.sync().is_ok() && full.faults() == 0);
-    assert!(rt; full.sync() == Err(DeviceFault::Device));
     fs::remove_dir_all(&rt, "device_full")?;
+    Ok(())
+}
+
+/// Of `extend` alone: what is read and written there is a page, or past the end, and what is refused
+/// for want of room is no transfer that failed: the fourth is the second sync.
+fn is_full<D: PageDevice + Drop>(device: D) -> Result<bool, DeviceFault> {
+    let mut full = FaultyDevice::new(device, 4);
+    let mut page = [1; PAGE_BYTES];
+    full.read(65_535, &mut page)?;
+    full.write(65_535, &[5; PAGE_BYTES])?;
+    if page != [0; PAGE_BYTES]
+        || full.write(65_536, &page) != Err(DeviceFault::PastEnd)
+        || full.extend(&page) != Err(DeviceFault::DeviceFull)
+    {
+        return Ok(false);
+    }
+    full.sync()?;
+    Ok(full.faults() == 0 && full.sync() == Err(DeviceFault::Device))
+}
+
+#[test]
+fn a_full_device_refuses_a_page_more_and_nothing_else(rt: HostRuntime) -> Result<(), Fail> {
+    written(&rt, "device_filled", "device_filled/pages")?;
+    let file = OpenOptions::new()
+        .write(true)
+        .open(&rt, "device_filled/pages")?;
+    file.set_len(65_536 * PAGE_BYTES as u64)?;
+    assert!(rt; is_full(FileDevice::open(&rt, "device_filled/pages")?)?);
+    fs::remove_dir_all(&rt, "device_filled")?;
     Ok(())
 }

@@ -17,8 +17,6 @@ mod devices;
 #[cfg(test)]
 mod directories;
 #[cfg(test)]
-mod files;
-#[cfg(test)]
 mod inquiry_records;
 #[cfg(test)]
 mod kept_pseudokeys;
@@ -29,6 +27,10 @@ mod longest_file;
 #[cfg(test)]
 mod no_system;
 #[cfg(test)]
+mod plain_rows;
+#[cfg(test)]
+mod plain_system;
+#[cfg(test)]
 mod pools;
 #[cfg(test)]
 mod ranges;
@@ -37,10 +39,6 @@ mod readings;
 #[cfg(test)]
 mod records;
 #[cfg(test)]
-mod rows;
-#[cfg(test)]
 mod sessions;
 #[cfg(test)]
 mod stored;
-#[cfg(test)]
-mod trial;

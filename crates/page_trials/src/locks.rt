@@ -60,22 +60,61 @@ fn fills(table: &mut LockTable) -> bool {
     true
 }
 
+/// What a seat does with the name Directory, and what it is told.
+#[derive(Clone, Copy)]
+enum Row {
+    /// It asks for this kind.
+    Asks(u8, LockKind, Grant),
+    /// It turns what it holds into this kind.
+    Turns(u8, LockKind, Grant),
+    /// It asks for this kind, or turns what it holds into it, and one of these seats is in its way.
+    Meets(u8, LockKind, [u8; 2]),
+    /// It gives the name back.
+    Gives(u8),
+    /// It holds the name in this kind.
+    Holds(u8, LockKind),
+}
+
+/// Whether a row is told what it says.
+fn is_told(table: &mut LockTable, row: Row) -> bool {
+    match row {
+        Row::Asks(seat, kind, want) => ask(table, seat, Directory, kind) == Some(want),
+        Row::Turns(seat, kind, want) => turn(table, seat, Directory, kind) == Some(want),
+        Row::Meets(seat, kind, others) => {
+            let told = match held(table, seat, Directory) {
+                None => ask(table, seat, Directory, kind),
+                Some(_) => turn(table, seat, Directory, kind),
+            };
+            told == Some(Blocked(others[0])) || told == Some(Blocked(others[1]))
+        }
+        Row::Gives(seat) => {
+            give(table, seat, Directory);
+            held(table, seat, Directory).is_none()
+        }
+        Row::Holds(seat, kind) => held(table, seat, Directory) == Some(kind),
+    }
+}
+
+const ROWS: [Row; 11] = [
+    Row::Asks(1, Read, Granted),
+    Row::Asks(2, Selective, Granted),
+    Row::Meets(3, Exclusive, [1, 2]),
+    Row::Asks(3, Read, Granted),
+    Row::Asks(4, Selective, Blocked(2)),
+    Row::Meets(2, Exclusive, [1, 3]),
+    Row::Gives(1),
+    Row::Gives(3),
+    Row::Turns(2, Exclusive, Granted),
+    Row::Asks(1, Read, Blocked(2)),
+    Row::Holds(2, Exclusive),
+];
+
 #[test]
 fn kinds_go_together_or_not(rt: HostRuntime) -> Result<(), NoMemory> {
     let mut table = LockTable::new(rt.alloc(), 4)?;
-    assert_eq!(rt; ask(&mut table, 1, Directory, Read), Some(Granted));
-    assert_eq!(rt; ask(&mut table, 2, Directory, Selective), Some(Granted));
-    let asked = ask(&mut table, 3, Directory, Exclusive);
-    assert!(rt; matches!(asked, Some(Blocked(1 | 2))));
-    assert_eq!(rt; ask(&mut table, 3, Directory, Read), Some(Granted));
-    assert_eq!(rt; ask(&mut table, 4, Directory, Selective), Some(Blocked(2)));
-    let turned = turn(&mut table, 2, Directory, Exclusive);
-    assert!(rt; matches!(turned, Some(Blocked(1 | 3))));
-    give(&mut table, 1, Directory);
-    give(&mut table, 3, Directory);
-    assert_eq!(rt; turn(&mut table, 2, Directory, Exclusive), Some(Granted));
-    assert_eq!(rt; ask(&mut table, 1, Directory, Read), Some(Blocked(2)));
-    assert_eq!(rt; held(&table, 2, Directory), Some(Exclusive));
+    for (place, row) in ROWS.iter().enumerate() {
+        assert!(rt; is_told(&mut table, *row), "row {place}");
+    }
     Ok(())
 }
 

@@ -1,5 +1,6 @@
 //! Pools of one to three frames over three pages.
 
+ghost use Rattle.std.specs.Prelude.{IfOk};
 ghost use Rattle.buffer_pool.specs.Pool.{IsAtRest};
 
 use buffer_pool::{FilePage, Pool, PoolFault};
@@ -7,6 +8,7 @@ use page_device::{
     DeviceFault, FaultyDevice, MemDevice, PAGE_BYTES, PAYLOAD_BYTES, PageDevice, seal,
 };
 use std::alloc::Global;
+use std::process::Abort;
 use std::test::Fail;
 
 /// A free page that names another.
@@ -78,36 +80,64 @@ fn run<D: PageDevice>(pool: &mut Pool<D>) -> Result<[u32; 3], PoolFault>
     Ok(read)
 }
 
+/// A pool of so many frames over the three pages, whose nth transfer fails.
+fn faulty_pool(
+    alloc: Global,
+    frames: usize,
+    nth: u64,
+) -> Result<Pool<FaultyDevice<MemDevice>>, Fail>
+    ensures { IfOk result IsAtRest }
+{
+    match Pool::open(alloc, FaultyDevice::new(three_pages(alloc)?, nth), frames) {
+        Ok(pool) => Ok(pool),
+        Err((_, fault)) => Err(fault.into()),
+    }
+}
+
+/// The nth transfer of a run fails, and nothing is lost by that.
+fn fails_once(rt: &(impl Abort + AllocGlobal), frames: usize, nth: u64) -> Result<(), Fail> {
+    let mut pool = faulty_pool(rt.alloc(), frames, nth)?;
+    let failed = run(&mut pool);
+    assert!(rt;
+        failed == Err(PoolFault::Device(DeviceFault::Device)),
+        "{frames}, {nth}"
+    );
+    assert_eq!(rt; pool.faults(), 1, "{frames}, {nth}");
+    assert!(rt; run(&mut pool)? == [2, 10, 11], "{frames}, {nth}");
+    Ok(())
+}
+
+/// Where the transfer behind those of a run is to fail, it is the first of another pool.
+fn makes(rt: &(impl Abort + AllocGlobal), frames: usize, transfers: u64) -> Result<(), Fail> {
+    let mut pool = faulty_pool(rt.alloc(), frames, transfers.saturating_add(1))?;
+    assert!(rt; run(&mut pool)? == [2, 10, 11], "{frames} frames");
+    let mut again = match Pool::open(rt.alloc(), pool.into_device(), 2) {
+        Ok(pool) => pool,
+        Err((_, fault)) => return Err(fault.into()),
+    };
+    assert!(rt; get_all(&mut again).is_err(), "{frames} frames");
+    assert!(rt; get_all(&mut again)? == [2, 10, 11], "{frames} frames");
+    assert!(rt; get(&mut again, 3) == Err(PoolFault::Device(DeviceFault::PastEnd)));
+    Ok(())
+}
+
 /// With three frames: three reads, two writes and a sync. With fewer, two pages are read again.
+const TRANSFERS: [(usize, u64); 3] = [(1, 8), (2, 8), (3, 6)];
+
 #[test]
 fn each_transfer_fails_in_turn(rt: HostRuntime) -> Result<(), Fail> {
-    for (frames, transfers) in [(1, 8), (2, 8), (3, 6)] {
+    for (frames, transfers) in TRANSFERS {
         for nth in 1..=transfers {
-            let device = FaultyDevice::new(three_pages(rt.alloc())?, nth);
-            let Ok(mut pool) = Pool::open(rt.alloc(), device, frames) else {
-                return Err(PoolFault::NoMemory.into());
-            };
-            let failed = run(&mut pool);
-            assert!(rt;
-                failed == Err(PoolFault::Device(DeviceFault::Device)),
-                "{frames}, {nth}"
-            );
-            assert_eq!(rt; pool.faults(), 1, "{frames}, {nth}");
-            // No transfer fails any more, and nothing was lost.
-            assert!(rt; run(&mut pool)? == [2, 10, 11], "{frames}, {nth}");
+            fails_once(&rt, frames, nth)?;
         }
-        let device = FaultyDevice::new(three_pages(rt.alloc())?, transfers + 1);
-        let Ok(mut pool) = Pool::open(rt.alloc(), device, frames) else {
-            return Err(PoolFault::NoMemory.into());
-        };
-        assert!(rt; run(&mut pool)? == [2, 10, 11], "{frames} frames");
-        let Ok(mut again) = Pool::open(rt.alloc(), pool.into_device(), 2) else {
-            return Err(PoolFault::NoMemory.into());
-        };
-        // The next transfer fails, so these were all of them.
-        assert!(rt; get_all(&mut again).is_err(), "{frames} frames");
-        assert!(rt; get_all(&mut again)? == [2, 10, 11], "{frames} frames");
-        assert!(rt; get(&mut again, 3) == Err(PoolFault::Device(DeviceFault::PastEnd)));
+    }
+    Ok(())
+}
+
+#[test]
+fn a_run_makes_so_many_transfers(rt: HostRuntime) -> Result<(), Fail> {
+    for (frames, transfers) in TRANSFERS {
+        makes(&rt, frames, transfers)?;
     }
     Ok(())
 }

@@ -1,13 +1,16 @@
 //! The typed file becomes one of today's, and each change of it alone is refused with its number.
 
+use crate::migrating::{checks, is_the_scripts, is_todays, migrate, migrates, number};
 use crate::old_file::{PAGES, ROOT, WRITTEN, old_file, payload_of};
-use crate::trial::{checks, is_the_scripts, is_todays, migrate, migrates, number};
+use crate::spoiling::SpoilingDevice;
+use bucket_page::ShaKey;
 use file_check::Checked;
 use migration::Copied;
 use numbers::faults;
 use page_device::{FaultyDevice, MemDevice, PAGE_BYTES, PAYLOAD_BYTES, PageDevice, seal};
 use record_file::format;
 use std::alloc::Global;
+use std::cell::Cell;
 use std::process::Abort;
 use std::test::Fail;
 
@@ -71,12 +74,12 @@ fn the_typed_file_becomes_one_of_todays(rt: HostRuntime) -> Result<(), Fail> {
     }
     assert_eq!(rt; new.pages(), PAGES + 224);
     // The check of the new file gives the same system, and the old one is as it was.
-    let Checked { device: _, found } = checks(alloc, new);
+    let Checked { device: _, found } = checks(alloc, new, ShaKey);
     assert!(rt; is_todays(&rt, &found));
     let mut old = old;
     is_the_typed_file(&rt, &mut old)?;
     // To today's check it is of another version.
-    let Checked { device: _, found } = checks(alloc, old);
+    let Checked { device: _, found } = checks(alloc, old, ShaKey);
     let told = match found {
         Ok(_) => 0,
         Err(fault) => fault.number(),
@@ -206,12 +209,27 @@ fn a_transfer_of_the_new_file_fails(rt: HostRuntime) -> Result<(), Fail> {
         match number(&found) {
             0 => {
                 assert!(rt; nth > 261, "{nth}");
-                let Checked { device: _, found } = checks(alloc, new.into_inner());
+                let Checked { device: _, found } = checks(alloc, new.into_inner(), ShaKey);
                 assert!(rt; is_todays(&rt, &found), "{nth}");
             }
             faults::NO_MEMORY => {}
             told => assert_eq!(rt; (new.faults(), told), (1, 20), "{nth}"),
         }
     }
+    Ok(())
+}
+
+/// What a new file gives back is compared with the system, page by page. Writing it reads a few of its
+/// pages, and the comparison all 260.
+#[test]
+fn a_new_file_that_reads_otherwise_is_told(rt: HostRuntime) -> Result<(), Fail> {
+    let alloc = rt.alloc();
+    let right = Cell::new(100);
+    let new = SpoilingDevice {
+        inner: MemDevice::new(alloc),
+        right: &right,
+    };
+    let found = migrate(alloc, old_file(alloc)?, new).found;
+    assert_eq!(rt; number(&found), faults::BAD_DIGEST);
     Ok(())
 }

@@ -3,9 +3,9 @@
 
 use crate::cases::Left::{Bytes, Header};
 use crate::cases::{Case, close, page_of, run};
-use crate::malicious::Damage::{Edit, Splice};
 use crate::rows::CALLERS;
 use crate::splitting::{FULL_BUCKET, SPLIT};
+use crate::wrong_files::Damage::{Edit, Splice};
 use bucket_page::NumberKey;
 use interleaving_core::Kernel;
 use page_device::{MemDevice, PAGE_BYTES, PAYLOAD_BYTES, PageDevice, Payload, seal, unseal};
@@ -13,7 +13,7 @@ use std::process::Abort;
 use std::test::Fail;
 
 /// The pages of the file.
-const PAGES: u32 = 288;
+pub const PAGES: u32 = 288;
 
 /// Page 257 has the records with even numbers, page 258 those with odd ones.
 pub const TWO_BUCKETS: Case = Case {
@@ -48,6 +48,9 @@ const NONE: Damage = Edit(0, 0, 1);
 /// A Key record: key 7 is of queue 1.
 const KEY: [u8; 19] = [0, 4, 2, 0, 0, 0, 0, 0, 0, 0, 0, 0, 0, 0, 7, 0, 0, 0, 1];
 
+/// A Key record of no queue.
+const KEY_OF_NONE: [u8; 19] = [0, 4, 2, 0, 0, 0, 0, 0, 0, 0, 0, 0, 0, 0, 12, 0, 0, 0, 0];
+
 /// A Type record: of type 4 queue 1 has the messages 1 to 4.
 const TYPE: [u8; 47] = [
     0, 32, 4, 0, 0, 0, 1, 0, 0, 0, 0, 0, 0, 0, 4, 0, 0, 0, 0, 0, 0, 0, 1, 0, 0, 0, 0, 0, 0, 0, 4,
@@ -57,6 +60,9 @@ const TYPE: [u8; 47] = [
 /// A record of kind 6, which is none, and number 0.
 const KIND_6: [u8; 19] = [0, 4, 6, 0, 0, 0, 0, 0, 0, 0, 0, 0, 0, 0, 0, 0, 0, 0, 1];
 
+/// One whose number is odd, so page 257 is not its bucket.
+const KIND_6_ELSEWHERE: [u8; 19] = [0, 4, 6, 0, 0, 0, 0, 0, 0, 0, 0, 0, 0, 0, 7, 0, 0, 0, 1];
+
 /// The payload of a tombstone that links to page 258, as far as it is not zero.
 const TOMBSTONE: [u8; 8] = [4, 0, 0, 0, 0, 0, 1, 2];
 
@@ -64,7 +70,7 @@ const TOMBSTONE: [u8; 8] = [4, 0, 0, 0, 0, 0, 1, 2];
 /// the file is opened. Page 257 has the Counter (23 bytes from byte 16 on), two Queues (114 each),
 /// the Type of queue 2 (47), messages 2 and 4 of queue 1 (1,075 each) and that of queue 2 (52); page
 /// 258 the two Keys (19 each from byte 16 on), the Type of queue 1 (47), messages 1 and 3.
-const ROWS: [([Damage; 2], u8); 38] = [
+const ROWS: [([Damage; 2], u8); 41] = [
     // nothing; entry 2 is 9999, which nothing reads
     ([NONE, NONE], 0),
     ([Edit(1, 26, 0x27), Edit(1, 27, 0x0f)], 0),
@@ -95,9 +101,10 @@ const ROWS: [([Damage; 2], u8); 38] = [
     ([Edit(287, 6, 1), Edit(287, 7, 0x20)], 71),
     ([Edit(287, 6, 0x27), Edit(287, 7, 0x0f)], 71),
     ([Edit(287, 0, 4), NONE], 71),
-    // entry 1 is 257, 288; the depth is 0, 2; there are 3 buckets of local depth 1
+    // entry 1 is 257, 288, 9999; the depth is 0, 2; there are 3 buckets of local depth 1
     ([Edit(1, 23, 1), NONE], 72),
     ([Edit(1, 23, 0x20), NONE], 72),
+    ([Edit(1, 22, 0x27), Edit(1, 23, 0x0f)], 72),
     ([Edit(0, 2, 0), NONE], 72),
     ([Edit(0, 2, 2), NONE], 72),
     ([Edit(0, 27, 3), NONE], 72),
@@ -107,8 +114,8 @@ const ROWS: [([Damage; 2], u8); 38] = [
     // queue 1 has 3 messages, or behind its message 4 stands its message 1
     ([Edit(257, 70, 3), NONE], 73),
     ([Edit(257, 1431, 1), NONE], 73),
-    // 257 is a tombstone; key 7 is moved there; a Type of queue 1 is added, a record of kind 6; the
-    // Counter is taken out
+    // 257 is a tombstone; key 7 is moved there; a Type of queue 1 is added, a Key of no queue, records of
+    // kind 6; the Counter is taken out
     ([Splice(257, 0, 2516, &TOMBSTONE, 0, 0), NONE], 70),
     (
         [
@@ -118,7 +125,9 @@ const ROWS: [([Damage; 2], u8); 38] = [
         74,
     ),
     ([Splice(257, 267, 0, &TYPE, 8, 2547), NONE], 74),
+    ([Splice(257, 39, 0, &KEY_OF_NONE, 8, 2519), NONE], 43),
     ([Splice(257, 2516, 0, &KIND_6, 8, 2519), NONE], 43),
+    ([Splice(257, 2516, 0, &KIND_6_ELSEWHERE, 8, 2519), NONE], 74),
     ([Splice(257, 16, 23, &[], 6, 2477), NONE], 73),
 ];
 
@@ -196,24 +205,6 @@ fn a_changed_file_is_refused_by_its_number(rt: HostRuntime) -> Result<(), Fail> 
 }
 
 #[test]
-fn a_page_that_is_not_sealed_again_is_refused(rt: HostRuntime) -> Result<(), Fail> {
-    let mut device = two_buckets(&rt)?;
-    for page in [0, 1, 256, 257, 258, 259, 287] {
-        let whole = page_of(&mut device, page)?;
-        for place in [0, 2000, 4063, 4064, 4095] {
-            let mut spoilt = whole;
-            spoilt[place] ^= 1;
-            device.write(page, &spoilt)?;
-            let (mut back, number) = opens(&rt, device);
-            assert!(rt; number == 21, "byte {place} of page {page}: {number}");
-            back.write(page, &whole)?;
-            device = back;
-        }
-    }
-    Ok(())
-}
-
-#[test]
 fn a_file_cut_at_any_page_or_longer_is_refused(rt: HostRuntime) -> Result<(), Fail> {
     let mut whole = two_buckets(&rt)?;
     let mut device = MemDevice::new(rt.alloc());
@@ -227,7 +218,12 @@ fn a_file_cut_at_any_page_or_longer_is_refused(rt: HostRuntime) -> Result<(), Fa
     assert!(rt; number == 0, "whole: {number}");
     device = back;
     device.extend(&[0; PAGE_BYTES])?;
-    for more in [[0; PAGE_BYTES], [0xa5; PAGE_BYTES], page_of(&mut whole, 0)?] {
+    for more in [
+        [0; PAGE_BYTES],
+        [0xa5; PAGE_BYTES],
+        page_of(&mut whole, 0)?,
+        page_of(&mut whole, 287)?,
+    ] {
         device.write(PAGES, &more)?;
         let (back, number) = opens(&rt, device);
         assert!(rt; number == 41, "longer: {number}");

@@ -1,8 +1,8 @@
-//! What the trials have in common.
+//! The file of version 1 is migrated, and a file is checked: what trials of both have in common.
 
 ghost use Rattle.std.specs.Prelude.{◌≡◌, []};
 
-use bucket_page::ShaKey;
+use bucket_page::{PseudoKey, ShaKey};
 use directory::{OLDER_LAYOUT, layouts_are_right};
 use file_check::{CheckFault, Checked, check};
 use migration::{Copied, CopyFault, Target, copy, migrated_pages};
@@ -43,10 +43,14 @@ pub(crate) fn number(found: &Result<System, CopyFault>) -> u8 {
 }
 
 /// What a check finds; where a growth was refused once more.
-pub(crate) fn checks<D: PageDevice>(alloc: Global, device: D) -> Checked<D> {
-    let Checked { device, found } = check(alloc, device, ShaKey);
+pub(crate) fn checks<D: PageDevice, K: PseudoKey + Copy>(
+    alloc: Global,
+    device: D,
+    keys: K,
+) -> Checked<D> {
+    let Checked { device, found } = check(alloc, device, keys);
     match found {
-        Err(fault) if fault.number() == faults::NO_MEMORY => check(alloc, device, ShaKey),
+        Err(fault) if fault.number() == faults::NO_MEMORY => check(alloc, device, keys),
         found => Checked { device, found },
     }
 }
