@@ -136,7 +136,7 @@ module _ (hash : RecordKey → ℕ) (seat : ℕ) (stopped : Bool) (did : Step) (
         (stays_waiting anew.again.wait anew.again.machine.call journal) refl
   ]
 
-  pub turn_page : (at left : Option ActiveView) (pool pool' : PoolState) (locks locks' : Table)
+  turn_page : (at left : Option ActiveView) (pool pool' : PoolState) (locks locks' : Table)
       (journal journal' : List Entry) →
       Turns hash seat stopped did at left pool pool' locks locks' journal journal' → IsOfPage fault
   turn_page None left pool pool' locks locks' journal journal' t = absurd (idle_apart t.told_is)
@@ -171,9 +171,18 @@ module _ (hash : RecordKey → ℕ) (seat : ℕ) (stopped : Bool) (did : Step) (
         (stays_waiting anew.again.wait anew.again.machine.call journal) refl
   ]
 
-  pub turn_cause : (at left : Option ActiveView) (pool pool' : PoolState) (locks locks' : Table)
+  turn_cause : (at left : Option ActiveView) (pool pool' : PoolState) (locks locks' : Table)
       (journal journal' : List Entry) →
       Turns hash seat stopped did at left pool pool' locks locks' journal journal' → FileHasCause pool pool' fault
   turn_cause None left pool pool' locks locks' journal journal' t = absurd (idle_apart t.told_is)
   turn_cause (Some a) left pool pool' locks locks' journal journal' t =
       takes_cause a left pool pool' locks locks' journal journal' t (stays_waiting a.wait a.machine.call journal) refl
+
+  pub turn_told : (at left : Option ActiveView) (pool pool' : PoolState) (locks locks' : Table)
+      (journal journal' : List Entry) →
+      Turns hash seat stopped did at left pool pool' locks locks' journal journal' →
+      IsOfPage fault × FileHasCause pool pool' fault
+  turn_told at left pool pool' locks locks' journal journal' t = (
+    turn_page at left pool pool' locks locks' journal journal' t,
+    turn_cause at left pool pool' locks locks' journal journal' t,
+  )

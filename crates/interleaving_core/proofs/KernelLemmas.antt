@@ -23,7 +23,7 @@ use Rattle.interleaving_core.specs.declared.step.Step.{Step}
 use Rattle.interleaving_core.specs.declared.step.Step.TheVariants as steps
 use Rattle.interleaving_core.proofs.TurnLemmas.{Does}
 use Rattle.interleaving_core.proofs.AnewLemmas.{turn_does, turn_looked}
-use Rattle.interleaving_core.proofs.FailureLemmas.{blamed_by, none_blamed, turn_cause, turn_page}
+use Rattle.interleaving_core.proofs.FailureLemmas.{blamed_by, none_blamed, turn_told}
 use Rattle.interleaving_core.proofs.PartLemmas.{part_other, part_own}
 use Rattle.interleaving_core.proofs.PastLemmas.{kept_beside, part_since, unwoken_whole}
 use Rattle.interleaving_core.proofs.PlaceLemmas.{Seats, at_other, at_place, at_same, due_with, length-with_call, row_at, rows_with, with_own, with_place}
@@ -337,12 +337,8 @@ makes_step of seat did slot left old new now view whole seated at turns seats ke
       turn = turn_behind seat did left old new whole is does seats_are keys callers stopped counts blamed spares sound
           failure (turn_looked (of old.keys) seat old.stopped did (call_at old.seats seat) left old.pool new.pool
           old.locks new.locks old.journal new.journal here)
-          (λ fault told. (
-            turn_page (of old.keys) seat old.stopped did fault told (call_at old.seats seat) left old.pool
-                new.pool old.locks new.locks old.journal new.journal here,
-            turn_cause (of old.keys) seat old.stopped did fault
-                told (call_at old.seats seat) left old.pool new.pool old.locks new.locks old.journal new.journal here,
-          ));
+          (λ fault told. turn_told (of old.keys) seat old.stopped did fault told (call_at old.seats seat) left old.pool
+          new.pool old.locks new.locks old.journal new.journal here);
       makes = λ a at_a fine. subst (λ (x : Option ActiveView). Turns (of old.keys) seat old.stopped did (Some a) x
           old.pool new.pool old.locks new.locks old.journal new.journal) (sym left_is)
           (subst (λ (x : Option ActiveView). Turns (of old.keys) seat old.stopped did x left old.pool new.pool
