@@ -1,7 +1,9 @@
 -- What failed a kernel, and what its seat is told of the file.
-use Rattle.std.proofs.Common.{◌≡◌, refl, sym, ◌∙◌, subst, ℕ, Bool, true, false, inl, inr, List, Option, Some, None}
+use Rattle.std.proofs.Common.{◌≡◌, refl, sym, ◌∙◌, subst, ℕ, ◌≤◌, Bool, true, false, inl, inr, List, Option, Some, None}
 use Rattle.std.specs.Option.{is_some}
 use Rattle.buffer_pool.specs.declared.fault.PoolFault.TheVariants as pool_faults
+use Rattle.file_pages.proofs.ReadLemmas.{devices_after}
+use Rattle.file_pages.specs.Fault.{FileHasCause}
 use Rattle.file_pages.specs.declared.fault.FileFault.{FileFault}
 use Rattle.file_pages.specs.declared.fault.FileFault.TheVariants.{Pool, Failed}
 use Rattle.page_device.specs.declared.fault.DeviceFault.TheVariants as device
@@ -12,7 +14,7 @@ use Rattle.interleaving_core.specs.Kernel.{IsWhole, KernelState}
 use Rattle.interleaving_core.specs.Owing.{failure_by, is_failure}
 use Rattle.interleaving_core.specs.Turn.{MakesTurn, TakesTurn, Turns, TurnsAnew, told_of, told_when_over}
 use Rattle.interleaving_core.specs.Waiting.{stays_waiting}
-use Rattle.interleaving_core.specs.Words.{Answer, CallView, Entry, PoolState, Progress, RecordKey, Table, answer_of_call, conclusion_of}
+use Rattle.interleaving_core.specs.Words.{Answer, CallView, Entry, PoolState, Progress, RecordKey, StepHasCause, Table, answer_of_call, conclusion_of}
 use Rattle.interleaving_core.specs.declared.fault.Failure.{Failure}
 use Rattle.interleaving_core.specs.declared.fault.StepFault.TheVariants as faults
 use Rattle.interleaving_core.specs.declared.step.Step.{Step}
@@ -64,6 +66,36 @@ of_progress (progress.Fault met) m fault is =
 of_progress progress.Ended m fault is =
     absurd (over_apart (is_waiting (conclusion_of m)) (answer_of_call m) fault is)
 
+-- ---- why it is told
+
+-- what is told of a fault is that of a transfer only where the fault was
+told_cause : (old new : PoolState) (met : FileFault) → FileHasCause old new met → FileHasCause old new (of_page met)
+told_cause old new (Pool (pool_faults.Device device.Device)) cause = cause
+told_cause old new (Pool (pool_faults.Device device.BadDigest)) cause = cause
+told_cause old new (Pool (pool_faults.Device device.PastEnd)) cause = cause
+told_cause old new (Pool (pool_faults.Device device.DeviceFull)) cause = λ same. absurd cc
+told_cause old new (Pool (pool_faults.Device device.NoMemory)) cause = λ same. absurd cc
+told_cause old new (Pool pool_faults.Malformed) cause = cause
+told_cause old new (Pool pool_faults.TooFewFrames) cause = λ same. absurd cc
+told_cause old new (Pool pool_faults.NoMemory) cause = λ same. absurd cc
+told_cause old new Failed cause = cause
+
+of_cause : (old new : PoolState) (did : Progress FileFault) (m : CallView) (fault : FileFault) →
+    told_of did m ≡ steps.Fault (faults.File fault) → StepHasCause did old new → FileHasCause old new fault
+of_cause old new (progress.Moved kind) m fault is cause = absurd cc
+of_cause old new (progress.Blocked other) m fault is cause = absurd cc
+of_cause old new (progress.Fault met) m fault is cause =
+    let same : of_page met ≡ fault = cc in
+    subst (FileHasCause old new) same (told_cause old new met (cause met refl))
+of_cause old new progress.Ended m fault is cause =
+    absurd (over_apart (is_waiting (conclusion_of m)) (answer_of_call m) fault is)
+
+-- what has failed behind a step has failed in both
+cause_after : (old mid new : PoolState) (fault : FileFault) → old.faults ≤ mid.faults → FileHasCause mid new fault →
+    FileHasCause old new fault
+cause_after old mid new fault later cause same =
+    (devices_after {s = old} {t = mid} {v = new} later (record { risen = cause same; told = same })).risen
+
 module _ (hash : RecordKey → ℕ) (seat : ℕ) (stopped : Bool) (did : Step) (fault : FileFault)
     (told : did ≡ steps.Fault (faults.File fault)) where
   waits_apart : did ≡ steps.Waiting → ⊥
@@ -104,9 +136,53 @@ module _ (hash : RecordKey → ℕ) (seat : ℕ) (stopped : Bool) (did : Step) (
         (stays_waiting anew.again.wait anew.again.machine.call journal) refl
   ]
 
-  pub turn_page : (at left : Option ActiveView) (pool pool' : PoolState) (locks locks' : Table)
+  turn_page : (at left : Option ActiveView) (pool pool' : PoolState) (locks locks' : Table)
       (journal journal' : List Entry) →
       Turns hash seat stopped did at left pool pool' locks locks' journal journal' → IsOfPage fault
   turn_page None left pool pool' locks locks' journal journal' t = absurd (idle_apart t.told_is)
   turn_page (Some a) left pool pool' locks locks' journal journal' t =
       takes_page a left pool pool' locks locks' journal journal' t (stays_waiting a.wait a.machine.call journal) refl
+
+  made_cause : (a : ActiveView) (left : Option ActiveView) (pool pool' : PoolState) (locks locks' : Table)
+      (journal journal' : List Entry) →
+      MakesTurn hash seat stopped did a left pool pool' locks locks' journal journal' → FileHasCause pool pool' fault
+  made_cause a left pool pool' locks locks' journal journal' t =
+      of_cause pool pool' t.did t.come.machine fault (sym t.told_is ∙ told) t.makes.cause
+
+  anew_cause : (a : ActiveView) (left : Option ActiveView) (pool pool' : PoolState) (locks locks' : Table)
+      (journal journal' : List Entry) →
+      (t : TurnsAnew hash seat stopped did a left pool pool' locks locks' journal journal') → (b : Bool) →
+      stays_waiting t.again.wait t.again.machine.call journal ≡ b → FileHasCause pool pool' fault
+  anew_cause a left pool pool' locks locks' journal journal' t true stays =
+      absurd (waits_apart (t.waits stays).told_is)
+  anew_cause a left pool pool' locks locks' journal journal' t false woken =
+      cause_after pool t.between pool' fault t.ends.makes.writes.later
+      (made_cause t.again left t.between pool' locks locks' journal journal' (t.goes woken).0)
+
+  takes_cause : (a : ActiveView) (left : Option ActiveView) (pool pool' : PoolState) (locks locks' : Table)
+      (journal journal' : List Entry) →
+      TakesTurn hash seat stopped did a left pool pool' locks locks' journal journal' → (b : Bool) →
+      stays_waiting a.wait a.machine.call journal ≡ b → FileHasCause pool pool' fault
+  takes_cause a left pool pool' locks locks' journal journal' t true stays =
+      absurd (waits_apart (t.waits stays).told_is)
+  takes_cause a left pool pool' locks locks' journal journal' t false woken = elim (t.goes woken) [
+    | inl made ↦ made_cause a left pool pool' locks locks' journal journal' made.0
+    | inr anew ↦ anew_cause a left pool pool' locks locks' journal journal' anew
+        (stays_waiting anew.again.wait anew.again.machine.call journal) refl
+  ]
+
+  turn_cause : (at left : Option ActiveView) (pool pool' : PoolState) (locks locks' : Table)
+      (journal journal' : List Entry) →
+      Turns hash seat stopped did at left pool pool' locks locks' journal journal' → FileHasCause pool pool' fault
+  turn_cause None left pool pool' locks locks' journal journal' t = absurd (idle_apart t.told_is)
+  turn_cause (Some a) left pool pool' locks locks' journal journal' t =
+      takes_cause a left pool pool' locks locks' journal journal' t (stays_waiting a.wait a.machine.call journal) refl
+
+  pub turn_told : (at left : Option ActiveView) (pool pool' : PoolState) (locks locks' : Table)
+      (journal journal' : List Entry) →
+      Turns hash seat stopped did at left pool pool' locks locks' journal journal' →
+      IsOfPage fault × FileHasCause pool pool' fault
+  turn_told at left pool pool' locks locks' journal journal' t = (
+    turn_page at left pool pool' locks locks' journal journal' t,
+    turn_cause at left pool pool' locks locks' journal journal' t,
+  )

@@ -3,6 +3,7 @@ use Rattle.std.proofs.Common.{◌≡◌, refl, sym, ap, ◌∙◌, subst, ℕ, �
 use Rattle.std.specs.Prelude.{sum_by}
 use Rattle.std.proofs.lemmas.Bool.{cases_eq}
 use Rattle.std.proofs.lemmas.List.{get_or_read, length-map}
+use Rattle.file_pages.specs.Fault.{FileHasCause}
 use Rattle.file_pages.specs.declared.fault.FileFault.{FileFault}
 use Rattle.page_locks.proofs.ChangeLemmas.{IsSeat-with_row}
 use Rattle.interleaving_core.specs.Counting.{CountsState, IsCountedSeat}
@@ -22,7 +23,7 @@ use Rattle.interleaving_core.specs.declared.step.Step.{Step}
 use Rattle.interleaving_core.specs.declared.step.Step.TheVariants as steps
 use Rattle.interleaving_core.proofs.TurnLemmas.{Does}
 use Rattle.interleaving_core.proofs.AnewLemmas.{turn_does, turn_looked}
-use Rattle.interleaving_core.proofs.FailureLemmas.{blamed_by, none_blamed, turn_page}
+use Rattle.interleaving_core.proofs.FailureLemmas.{blamed_by, none_blamed, turn_told}
 use Rattle.interleaving_core.proofs.PartLemmas.{part_other, part_own}
 use Rattle.interleaving_core.proofs.PastLemmas.{kept_beside, part_since, unwoken_whole}
 use Rattle.interleaving_core.proofs.PlaceLemmas.{Seats, at_other, at_place, at_same, due_with, length-with_call, row_at, rows_with, with_own, with_place}
@@ -269,7 +270,8 @@ module _ {K : Type 0} (seat : ℕ) (did : Step) (left : Option ActiveView) (old 
     pub turn_behind : (call_at old.seats seat ≡ None → new ≡ old) → old.failed ≡ false →
         new.failure ≡ failure_by seat did None → (did ≡ steps.Waiting →
         (b : ActiveView) × (left ≡ Some b) × (b.wait ≡ Some (length new.journal))) → ((fault : FileFault) →
-        did ≡ steps.Fault (faults.File fault) → IsOfPage fault) → IsTurn seat did old new
+        did ≡ steps.Fault (faults.File fault) → IsOfPage fault × FileHasCause old.pool new.pool fault) →
+        IsTurn seat did old new
     turn_behind spares sound failure looked page = record {
       run = run;
       idle = does.idle;
@@ -290,7 +292,8 @@ module _ {K : Type 0} (seat : ℕ) (did : Step) (left : Option ActiveView) (old 
           ∙ append-nil old.journal;
       entries = entries;
       joins = joins (call_at old.seats seat) refl;
-      page = page;
+      page = λ fault told. (page fault told).0;
+      cause = λ fault told. (page fault told).1;
       failed = blamed ∙ ap is_some failure ∙ blamed_by seat did ∙ sym (ap (λ (b : Bool). b || is_failure did) sound);
       failure = failure ∙ sym (ap (failure_by seat did) (none_blamed old whole sound));
       fails = λ broken. absurd cc;
@@ -334,7 +337,7 @@ makes_step of seat did slot left old new now view whole seated at turns seats ke
       turn = turn_behind seat did left old new whole is does seats_are keys callers stopped counts blamed spares sound
           failure (turn_looked (of old.keys) seat old.stopped did (call_at old.seats seat) left old.pool new.pool
           old.locks new.locks old.journal new.journal here)
-          (λ fault told. turn_page (of old.keys) seat old.stopped did fault told (call_at old.seats seat) left old.pool
+          (λ fault told. turn_told (of old.keys) seat old.stopped did fault told (call_at old.seats seat) left old.pool
           new.pool old.locks new.locks old.journal new.journal here);
       makes = λ a at_a fine. subst (λ (x : Option ActiveView). Turns (of old.keys) seat old.stopped did (Some a) x
           old.pool new.pool old.locks new.locks old.journal new.journal) (sym left_is)

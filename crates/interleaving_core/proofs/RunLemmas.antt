@@ -1,5 +1,6 @@
 -- Steps of one seat, one after the other.
 use Rattle.std.proofs.Common.{◌≡◌, ◌≢◌, refl, sym, ap, ◌∙◌, subst, ℕ, Bool, true, ◌||◌, IsSome, List, [], ◌++◌, Option, Some, None, append-nil, append_assoc, arith}
+use Rattle.file_pages.specs.Fault.{FileHasCause}
 use Rattle.file_pages.specs.declared.fault.FileFault.{FileFault}
 use Rattle.file_pages.specs.declared.fault.FileFault.TheVariants.{Failed}
 use Rattle.page_locks.proofs.ChangeLemmas.{IsSeat-with_row, with_row-own, with_row-twice}
@@ -57,6 +58,7 @@ fails_put seat did s whole broken is = record {
       ∙ sym (ap (λ (x : Option Answer). told seat (Some a) x ++ untold seat (call_at s.seats seat))
       (ap answer_told is ∙ none (call_at s.seats seat)));
   page = λ fault told. of_failure (call_at s.seats seat) fault (sym is ∙ told);
+  cause = λ fault told. no_transfer (call_at s.seats seat) fault (sym is ∙ told);
   failed = broken ∙ sym (ap (λ (b : Bool). b || is_failure did) broken);
   failure = first s.failure (sym whole.blamed ∙ broken);
   fails = λ b. is;
@@ -78,6 +80,13 @@ fails_put seat did s whole broken is = record {
     of_failure (Some a) fault told =
         let same : Failed ≡ fault = cc in
         subst IsOfPage same tt
+
+    no_transfer : (at : Option ActiveView) (fault : FileFault) →
+        told_of_failure at ≡ steps.Fault (faults.File fault) → FileHasCause s.pool s.pool fault
+    no_transfer None fault told = absurd cc
+    no_transfer (Some a) fault told =
+        let same : Failed ≡ fault = cc in
+        subst (FileHasCause s.pool s.pool) same (λ is. absurd cc)
 
     none : (at : Option ActiveView) → answer_told (told_of_failure at) ≡ None
     none None = refl

@@ -1,6 +1,7 @@
 -- What a step of a seat leaves of a kernel, and which entries its seat is told. docs/STEPS.md, "Calls";
 -- docs/QUEUES.md, "Journals".
 use Rattle.std.specs.Prelude.{ℕ, ◌≡◌, ◌≢◌, ◌↔◌, ◌+◌, ◌≤◌, Bool, true, false, ◌||◌, IsSome, List, ◌++◌, Option, Some, None, drop, length, ⊤}
+use Rattle.file_pages.specs.Fault.{FileHasCause}
 use Rattle.file_pages.specs.declared.fault.FileFault.{FileFault}
 use Rattle.file_pages.specs.declared.fault.FileFault.TheVariants.{Failed}
 use Rattle.queue_model.specs.Journal.{part_of}
@@ -140,6 +141,8 @@ pub record IsTurn {K : Type 0} (seat : ℕ) (did : Step) (old new : KernelState 
       ≡ told seat (Some a) (answer_told did) ++ untold seat (call_at new.seats seat)
   -- of the file it is told what a page or a transfer may come to, never that there is no memory
   pub page : (fault : FileFault) → did ≡ steps.Fault (faults.File fault) → IsOfPage fault
+  -- and of a transfer that has failed only where one has, in this step
+  pub cause : (fault : FileFault) → did ≡ steps.Fault (faults.File fault) → FileHasCause old.pool new.pool fault
   -- after a failure of the file each call is told of it, and nothing changes
   pub failed : new.failed ≡ (old.failed || is_failure did)
   pub failure : new.failure ≡ failure_by seat did old.failure
