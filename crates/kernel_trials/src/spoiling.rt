@@ -130,11 +130,7 @@ const MESSAGES: u32 = 48;
 const RECEIVED: u32 = 10;
 
 /// Steps a seat until it makes one of this kind, or is answered where none is named. Whether it is.
-fn goes(
-    kernel: &mut Kernel<SpoilingDevice<'_>, ShaKey>,
-    seat: u8,
-    until: Option<Kind>,
-) -> bool {
+fn goes(kernel: &mut Kernel<SpoilingDevice<'_>, ShaKey>, seat: u8, until: Option<Kind>) -> bool {
     for _ in 0..10_000 {
         match step(kernel, seat) {
             Step::Moved(kind) if until == Some(kind) => return true,
