@@ -1,5 +1,5 @@
 -- A step in which a call begins anew, as two steps of a kernel.
-use Rattle.std.proofs.Common.{◌≡◌, refl, sym, ap, ◌∙◌, ℕ, ◌≤◌, Bool, false, ◌||◌, List, [], ◌++◌, Option, Some, append-nil, length}
+use Rattle.std.proofs.Common.{◌≡◌, refl, sym, ap, ◌∙◌, ℕ, ◌≤◌, Bool, false, ◌||◌, List, [], ◌++◌, Some, append-nil, length}
 use Rattle.page_locks.proofs.ChangeLemmas.{length-with_row}
 use Rattle.interleaving_core.specs.Active.{ActiveView}
 use Rattle.interleaving_core.specs.Kernel.{KernelState, call_at, with_call}
@@ -8,7 +8,7 @@ use Rattle.interleaving_core.specs.Searches.{Counts}
 use Rattle.interleaving_core.specs.Words.{Entry, PoolState}
 use Rattle.interleaving_core.specs.declared.step.Step.{Step}
 use Rattle.interleaving_core.specs.declared.step.Step.TheVariants as steps
-use Rattle.interleaving_core.proofs.PlaceLemmas.{Seats, at_same, with_twice}
+use Rattle.interleaving_core.proofs.PlaceLemmas.{at_same, with_twice}
 
 -- what a step of a seat does beside its machine, where none has failed before
 pub record Goes {K : Type 0} (seat : ℕ) (did : Step) (old new : KernelState K) : Type 0 where

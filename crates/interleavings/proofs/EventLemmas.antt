@@ -6,7 +6,7 @@ use Rattle.queue_model.specs.declared.entry.Entry.TheVariants.{Stopped}
 use Rattle.page_locks.proofs.ChangeLemmas.{length-with_row}
 use Rattle.interleaving_core.proofs.PlaceLemmas.{Seats, at_other}
 use Rattle.interleaving_core.proofs.TurnLemmas.{new_unanswered}
-use Rattle.interleavings.specs.Words.{ActiveView, Answer, BeginFault, Call, Entry, HasCall, IsDriven, IsRefused, IsRun, IsStopped, KernelState, Moves, RecordKey, Step, answer_of_call, answer_told, call_at, call_of, entry_of, part_of, told, untold, with_call}
+use Rattle.interleavings.specs.Words.{ActiveView, Answer, BeginFault, Call, Entry, HasCall, IsDriven, IsRefused, IsRun, IsStopped, KernelState, Moves, RecordKey, Step, answer_told, call_at, call_of, entry_of, part_of, told, untold, with_call}
 use Rattle.interleavings.specs.Runs.{Happens, answer_in, call_begun, last_call, told_by}
 use Rattle.interleavings.specs.declared.event.Event.{Event}
 use Rattle.interleavings.specs.declared.event.Event.TheVariants as events

@@ -2,7 +2,7 @@
 use Rattle.std.proofs.Common.{ℕ, zero, suc, ◌≡◌, ◌+◌, ◌-◌, ◌<◌, ◌≤◌, ◌^◌, ◌==◌, nat_lt, Bool, true, false, List, [], ◌∷◌, ◌++◌, length, replicate, slice_set, slice_index_or, if◌then◌else◌, refl, sym, ap, subst, ◌∙◌, inl, inr, lit≤, lit<, arith}
 use Rattle.bucket_page.specs.declared.page.PageKind.TheVariants as kinds
 use Rattle.hash_file.specs.Chain.{chain}
-use Rattle.file_walk.specs.Files.{directory_entries, entries_in, entries_on, file_of, said_by}
+use Rattle.file_walk.specs.Files.{directory_entries, entries_in, file_of, said_by}
 use Rattle.interleavings.proofs.Names.{Contains, Covers, GREATEST_DEPTH, HasLayout, Header, IsFile, IsNew, IsPlaced, IsRightChain, IsRightStructure, IsSoundFile, LEAST_PAGES, LOCAL_DEPTHS, PageKind, Pair, Quiet, ROOT_PAGE, RecordKey, Store, append-nil, bucket_of, cases_eq, contains_head, entry_at, eq-eqb, flat_map, flat_map-cons, follower, free_behind, get_or-replicate, get_or_append_left, is_bucket, le-ltb, length-replicate, lt-ltb, ne_eqb, new_sound, page_at, pages_length, range_at, range_of, root_bucket, tiles_partition, times}
 use Rattle.interleavings.proofs.AloneLemmas.{alone}
 use Rattle.interleavings.proofs.NewLemmas.{first_says, free_at, has_pages, header_says, root_at}

@@ -1,6 +1,6 @@
 -- What seats owe the file is the rest of the system; and a file that was closed opens on its system.
-use Rattle.std.proofs.Common.{ℕ, zero, suc, ◌≡◌, ◌≢◌, ◌≤◌, ◌⊎◌, inl, inr, refl, sym, ap, ◌∙◌, subst, Bool, true, false, List, [], ◌∷◌, Option, Some, None, length}
-use Rattle.interleavings.specs.ConcurrentLaws.{LeaveAtRest, OweApart, RestTogether}
+use Rattle.std.proofs.Common.{ℕ, zero, suc, ◌≡◌, ◌≢◌, ◌≤◌, ◌⊎◌, inl, inr, refl, sym, ◌∙◌, subst, Bool, true, false, List, [], ◌∷◌, Option}
+use Rattle.interleavings.specs.ConcurrentLaws.{OweApart}
 use Rattle.interleavings.specs.Together.{AreTogether, owes_of}
 use Rattle.interleavings.specs.ConcurrentWords.{owes_at}
 use Rattle.directory.proofs.HeaderLaws.{is_today}
@@ -12,7 +12,7 @@ use Rattle.interleaving_core.specs.declared.fault.OpenFault.TheVariants as opens
 use Rattle.queue_model.proofs.JournalLemmas.{after-LeadsAlong}
 use Rattle.interleavings.specs.Words.{ActiveView, IsFileOf, KernelState, RecordKey, State, after, call_at, restarted}
 use Rattle.interleavings.specs.Refining.{Refines, calls_of}
-use Rattle.interleavings.specs.Laws.{ClosedOpens, ClosesRefine, IsOfMachine, IsOwedBy, IsOwedByNone, IsRestAt, OpensRefine, OpensOn, OwedIsTheRest}
+use Rattle.interleavings.specs.Laws.{ClosedOpens, ClosesRefine, IsOfMachine, IsRestAt, OpensRefine, OpensOn, OwedIsTheRest}
 use Rattle.interleavings.proofs.LeadLemmas.{machine}
 
 -- ---- who owes a record

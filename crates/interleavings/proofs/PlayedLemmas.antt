@@ -1,5 +1,5 @@
 -- Events over a kernel that was opened, and closed behind them, told without the kernel.
-use Rattle.std.proofs.Common.{ℕ, zero, suc, ◌≡◌, ◌+◌, ◌≤◌, ◌↔◌, refl, sym, ap, ◌∙◌, subst, Bool, true, false, ◌||◌, IsSome, IsTrue, List, [], ◌∷◌, ◌++◌, Option, Some, None, drop, length, replicate, take, append-nil, arith}
+use Rattle.std.proofs.Common.{ℕ, zero, suc, ◌≡◌, ◌+◌, ◌≤◌, ◌↔◌, refl, sym, ap, ◌∙◌, subst, Bool, true, false, ◌||◌, IsSome, IsTrue, List, [], ◌∷◌, ◌++◌, Option, Some, None, drop, length, take, arith}
 use Rattle.std.specs.List.{list_any}
 use Rattle.std.specs.Prelude.{slice_get, sum_by}
 use Rattle.std.proofs.lemmas.Option.{get_or_from_slice_get, slice_get_within}
@@ -8,13 +8,11 @@ use Rattle.std.proofs.lemmas.List.{length-replicate}
 use Rattle.std.proofs.lemmas.List.Elements.{All-take}
 use Rattle.page_device.specs.Device.{HasRisen}
 use Rattle.interleaving_core.proofs.BeginLemmas.{idle_at, none_due}
-use Rattle.interleaving_core.specs.Closing.{IsBusy, has_one}
+use Rattle.interleaving_core.specs.Closing.{has_one}
 use Rattle.interleaving_core.specs.Kernel.{due_at, due_for_stop, entries_of}
-use Rattle.interleaving_core.specs.declared.fault.CloseFault.{CloseFault}
 use Rattle.interleaving_core.specs.declared.fault.CloseFault.TheVariants as closes
-use Rattle.interleavings.specs.Words.{ActiveView, Answer, Call, Caller, Entry, HasSystem, IsFifo, IsFileOf, IsFlushedTo, IsLawful, IsLegal, IsOpened, KernelState, PoolState, RecordKey, State, after, answer_of_call, call_at, call_of, entry_of, part_of, restarted, untold}
+use Rattle.interleavings.specs.Words.{ActiveView, Answer, Call, Caller, Entry, IsFifo, IsFileOf, IsLegal, IsOpened, KernelState, PoolState, RecordKey, after, answer_of_call, call_at, call_of, entry_of, part_of, restarted, untold}
 use Rattle.interleavings.specs.Ending.{HasEnded}
-use Rattle.interleavings.specs.Headline.{IsAsPlainLists}
 use Rattle.interleavings.specs.Laws.{AnswersAsPlainLists, ClosesRefine, DrivesEnd, EventsRefine, RefinesFile, StepsRefineAndDo, StepsRefine}
 use Rattle.interleavings.specs.Refining.{Refines}
 use Rattle.interleavings.specs.Moments.{HasItsPart, HasStood, IsToldBy, TellsRightly, is_stop, marked_by, once_if}
@@ -32,7 +30,7 @@ use Rattle.interleavings.proofs.OutcomeLemmas.{come_along, fails_along}
 use Rattle.interleavings.proofs.RunLemmas.{tells_its_part}
 use Rattle.interleavings.proofs.TellingLemmas.{HasEvent, event_at, rows_along, some_same, told_by_event}
 use Rattle.interleavings.proofs.WaitingLemmas.{AreFounded, IsFoundedAt}
-use Rattle.interleavings.proofs.UnderWayLemmas.{call_on, places_along, leaves_along, marked_along, none_at}
+use Rattle.interleavings.proofs.UnderWayLemmas.{call_on, places_along, leaves_along, marked_along}
 
 -- ---- who has a call
 

@@ -1,6 +1,6 @@
 -- A step of a seat of a kernel that is led from a system: the kernel is led on, and what the step does is what its seat
 -- is told, also where its call begins anew within it.
-use Rattle.std.proofs.Common.{ℕ, suc, zero, ◌≡◌, ◌≤◌, inl, inr, refl, sym, ap, ◌∙◌, subst, Bool, true, false, Option, Some, None, length, arith}
+use Rattle.std.proofs.Common.{ℕ, ◌≡◌, ◌≤◌, inl, inr, refl, sym, ap, ◌∙◌, subst, Bool, true, false, Option, Some, None, length, arith}
 use Rattle.std.proofs.lemmas.Bool.{true≢false}
 use Rattle.interleavings.specs.ConcurrentLaws.{BeginTogether, EndTogether, StepTogether}
 use Rattle.interleavings.proofs.LoneCallCauseLemmas.{fresh_room}
@@ -16,9 +16,9 @@ use Rattle.interleaving_core.specs.declared.fault.StepFault.TheVariants as fault
 use Rattle.interleaving_core.specs.declared.step.Step.TheVariants as told
 use Rattle.interleaving_core.specs.xsi_calls.Machine.{call_turn}
 use Rattle.interleaving_core.specs.xsi_calls.Words.{Change, Store, TrialLacksRoom, Turn, World, its_plan, trials_of, world}
-use Rattle.interleavings.specs.Words.{ActiveView, IsOver, IsSeat, IsTurn, KernelState, PoolState, RecordKey, State, Step, Table, call_at, conclusion_of, lacks_room, store_of}
-use Rattle.interleavings.specs.Doing.{BeginsWoken, DoesAsTold, DoesBy, FailsByDevice, FindsNoRoom, IsInTheWay, LacksRightly, LeavesAll, MakesMove, turn_of}
-use Rattle.interleavings.specs.Refining.{Refines, RefinesIn}
+use Rattle.interleavings.specs.Words.{ActiveView, IsOver, IsSeat, IsTurn, KernelState, PoolState, RecordKey, State, Step, call_at, conclusion_of, lacks_room}
+use Rattle.interleavings.specs.Doing.{DoesBy, FindsNoRoom, LeavesAll, turn_of}
+use Rattle.interleavings.specs.Refining.{Refines}
 use Rattle.interleavings.specs.Laws.{RefinesOn, StepsRefineAndDo, StepsRefine}
 use Rattle.interleavings.proofs.DoingLemmas.{LeadsDoing, one_there}
 use Rattle.interleavings.proofs.TurnLemmas.{led_on, waits_on}

@@ -14,11 +14,10 @@ use Rattle.interleaving_core.specs.Owing.{IsMove, failed, is_end, is_failure, to
 use Rattle.interleaving_core.specs.declared.fault.StepFault.TheVariants as faults
 use Rattle.interleaving_core.specs.declared.step.Step.TheVariants as steps
 use Rattle.queue_model.specs.declared.entry.Entry.TheVariants.{Decided, Stopped}
-use Rattle.queue_model.specs.Journal.{is_of}
-use Rattle.interleavings.specs.Words.{ActiveView, Answer, Call, Entry, HasCall, IsDriven, IsRefused, IsRun, IsStep, IsStopped, IsTurn, KernelState, Moves, RecordKey, Step, answer_told, call_at, call_of, with_call}
+use Rattle.interleavings.specs.Words.{ActiveView, Answer, Call, Entry, HasCall, IsDriven, IsRun, IsStopped, IsTurn, KernelState, Moves, RecordKey, Step, answer_told, call_at, call_of, with_call}
 use Rattle.interleavings.specs.Runs.{AreOfSeats, Happens, IsOfSeat, IsSeatOf, Runs}
 use Rattle.interleavings.specs.Moments.{is_stop, marked_by, once_if}
-use Rattle.interleavings.specs.Outcomes.{call_along, call_behind, call_left, unless_over}
+use Rattle.interleavings.specs.Outcomes.{call_along, call_left, unless_over}
 use Rattle.interleavings.specs.declared.event.Event.{Event}
 use Rattle.interleavings.specs.declared.event.Event.TheVariants as events
 use Rattle.interleavings.specs.declared.event.Outcome.{Outcome}

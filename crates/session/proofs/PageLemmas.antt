@@ -1,5 +1,5 @@
 -- A session is opened, and what its pages are.
-use Rattle.std.proofs.Common.{arith, ℕ, suc, ◌≡◌, ◌≢◌, ◌<◌, ◌≤◌, IsTrue, refl, sym, ap, ◌∙◌, subst, true, false, List, [], ◌∷◌, Option, Some, None, Result, Ok, Err, IfOk, OnOk, length, map, slice_index_or}
+use Rattle.std.proofs.Common.{arith, ℕ, suc, ◌≡◌, ◌≢◌, ◌<◌, ◌≤◌, IsTrue, refl, sym, ap, ◌∙◌, subst, true, false, List, [], ◌∷◌, None, Result, Ok, Err, IfOk, OnOk, length}
 use Rattle.std.specs.Result.{is_err, result_ok}
 use Rattle.std.proofs.lemmas.Bool.{true≢false}
 use Rattle.std.proofs.lemmas.List.{ext_get_or, get_or-map, length-map}
@@ -23,11 +23,11 @@ use Rattle.record_file.specs.Files.{IsNewFile}
 use Rattle.interleavings.specs.Files.{no_queues}
 use Rattle.interleavings.specs.NewFileLaws.{NewHasNoQueues}
 use Rattle.interleaving_core.specs.Beginning.{HasSystem, IsOpened}
-use Rattle.interleaving_core.specs.Renewing.{FailsToRead, IsBetweenCalls, IsIdleOrWaits, IsRead, KeepsPages, Reads}
+use Rattle.interleaving_core.specs.Renewing.{FailsToRead, IsBetweenCalls, IsIdleOrWaits, KeepsPages, Reads}
 use Rattle.interleaving_core.specs.xsi_calls.Words.{world}
 use Rattle.interleavings.specs.LoneKernelLaws.{ClosesAKernel, OpensAKernel}
 use Rattle.interleavings.specs.LoneKernelWords.{Caller, IsFileAtRest, IsFileOf, IsFlushedTo, IsSeat, State, caller_at}
-use Rattle.session.specs.Session.{AreItsPages, GivesPage, HasFailed, Holds, IsSession, Opens, OpensNew, PageBecomes, PagesAreTheFile, SessionState, caller_of, pages_of}
+use Rattle.session.specs.Session.{AreItsPages, GivesPage, HasFailed, Holds, IsSession, Opens, OpensNew, PageBecomes, PagesAreTheFile, SessionState, pages_of}
 use Rattle.session.proofs.SessionLemmas.{KeepsSeat, same_caller, same_saved}
 
 -- ---- it is opened

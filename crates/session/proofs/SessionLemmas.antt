@@ -1,5 +1,5 @@
 -- What a session's call comes to, and that it keeps its seat.
-use Rattle.std.proofs.Common.{arith, ℕ, ◌≡◌, ◌≤◌, ◌⊎◌, refl, sym, ap, ◌∙◌, subst, inl, inr, Bool, true, false, IsSome, List, [], Option, Some, None, Result, Ok, Err, length, map, nat_le, option_map, if◌then◌else◌}
+use Rattle.std.proofs.Common.{arith, ℕ, ◌≡◌, ◌≤◌, ◌⊎◌, refl, sym, ap, ◌∙◌, subst, inl, inr, Bool, true, false, IsSome, List, [], Option, Some, None, Err, length, nat_le, option_map, if◌then◌else◌}
 use Rattle.std.proofs.lemmas.Bool.{cases_eq}
 use Rattle.std.proofs.lemmas.Bool.Decides.{nat_tests}
 use Rattle.bucket_page.specs.Pseudokeys.{sha_key}
@@ -14,7 +14,7 @@ use Rattle.interleaving_core.proofs.PlaceLemmas.{at_other, at_same, seat_of_call
 use Rattle.interleaving_core.proofs.RenewLemmas.{new_has_nothing, outlast_at}
 use Rattle.interleaving_core.specs.Beginning.{Refuses}
 use Rattle.interleaving_core.specs.Owing.{IsRun, is_failure}
-use Rattle.interleaving_core.specs.Renewing.{HasNone, IsRenewed, IsWithdrawn, Withdraws, outlasting}
+use Rattle.interleaving_core.specs.Renewing.{IsRenewed, Withdraws, outlasting}
 use Rattle.interleaving_core.specs.Words.{Entry}
 use Rattle.interleaving_core.specs.declared.fault.BeginFault.TheVariants as begins
 use Rattle.interleaving_core.specs.declared.fault.StepFault.TheVariants as faults
@@ -23,7 +23,6 @@ use Rattle.interleavings.specs.LoneKernelLaws.{AnswersLoneCalls, RefusesAtRest, 
 use Rattle.interleavings.specs.Lone.{WaitsOver}
 use Rattle.interleavings.specs.LoneKernelWords.{ActiveView, Answer, BeginFault, Call, Caller, HasCall, IsDriven, IsMove, IsRefused, IsSeat, IsStopped, IsWhole, State, Step, call_at, caller_at, with_call}
 use Rattle.session.specs.Session.{Becomes, Calls, Holds, IsSession, IsShortened, SessionState, Stops, came_of, caller_of, is_waiting, saved_of, unanswered_by}
-use Rattle.session.specs.declared.unanswered.Unanswered.{Unanswered}
 use Rattle.session.specs.declared.unanswered.Unanswered.TheVariants.{Waits, NoRoom, NoMemory, Failed}
 
 -- ---- its journal is let go

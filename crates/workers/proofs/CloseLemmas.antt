@@ -14,7 +14,7 @@ use Rattle.interleavings.proofs.ToldLemmas.{risen_since}
 use Rattle.workers.proofs.DeviceLemmas.{stored_is}
 use Rattle.workers.proofs.EntryLemmas.{part_is}
 use Rattle.workers.proofs.HeldLemmas.{place_is}
-use Rattle.workers.specs.Closing.{Each, HasItsPart, HasMissing, HasMostOfItsPart, IsBeside, IsClosed, IsFailed, IsFaulted, IsLetGo, IsSound, IsToComeBack, Remains, sits_at}
+use Rattle.workers.specs.Closing.{Each, HasItsPart, HasMissing, HasMostOfItsPart, IsBeside, IsClosed, IsFaulted, IsLetGo, IsSound, IsToComeBack, Remains, sits_at}
 use Rattle.workers.specs.Entries.{seat_of}
 use Rattle.workers.specs.Held.{IsHeld, KeepsDevice, place_of}
 use Rattle.workers.specs.Origins.{IsJournalOf, LeavesFile, Origin}

@@ -1,5 +1,5 @@
 -- Its call is over and waits: it begins anew.
-use Rattle.std.proofs.Common.{◌≡◌, sym, ap, ◌∙◌, subst, Bool, false, if◌then◌else◌, List, Option, Some, None}
+use Rattle.std.proofs.Common.{◌≡◌, sym, ap, ◌∙◌, Bool, false, if◌then◌else◌, List, Some, None}
 use Rattle.interleaving_core.specs.Active.{ActiveView}
 use Rattle.interleaving_core.specs.Kernel.{locks_of}
 use Rattle.interleaving_core.specs.Waiting.{stays_waiting}

@@ -1,4 +1,4 @@
-use Rattle.std.proofs.Common.{◌≤◌, sym, subst, arith}
+use Rattle.std.proofs.Common.{◌≤◌, arith}
 use Rattle.workers.proofs.CloseLemmas.{all_of, is_let_go}
 use Rattle.workers.proofs.service.Service.abandon.Goals as goal
 
