@@ -29,6 +29,48 @@ fn prints<R: Abort + AllocGlobal>(
     Ok(())
 }
 
+/// What a row asks for.
+#[derive(Clone, Copy)]
+enum Asked<'a> {
+    /// So many messages of a type at most, received from the queue of key 7, with their heads or bare.
+    Receive(i64, u32, bool),
+    /// Bodies of a type, sent to the queue of key 7, whose serials are told.
+    Send(i64, &'a [&'a [u8]]),
+    /// One body, of which nothing is told.
+    SendOne(i64, &'a [u8]),
+    /// Queue 1 is to hold four bytes at most.
+    Set,
+    /// A queue with this key, or with none, is made.
+    Make(Option<u32>),
+    /// A queue is removed.
+    Remove(QueueName),
+}
+
+/// The command of a row.
+fn command_of(alloc: Global, asked: Asked<'_>) -> Result<Command, Fail> {
+    Ok(match asked {
+        Asked::Receive(mtype, most, heads) => Command::Receive(Receiving {
+            queue: KEY,
+            mtype,
+            size: 1_024,
+            noerror: false,
+            most,
+            heads,
+        }),
+        Asked::Send(mtype, texts) => sending(alloc, mtype, texts, true)?,
+        Asked::SendOne(mtype, text) => sending(alloc, mtype, &[text], false)?,
+        Asked::Set => Command::Set(Setting {
+            queue: QueueName::Id(1),
+            qbytes: Some(4),
+            uid: None,
+            gid: None,
+            mode: None,
+        }),
+        Asked::Make(key) => Command::Make { key, mode: 0o600 },
+        Asked::Remove(queue) => Command::Remove { queue },
+    })
+}
+
 /// Bodies of a type, sent to the queue of key 7.
 fn sending(alloc: Global, mtype: i64, texts: &[&[u8]], tells: bool) -> Result<Command, Fail> {
     let mut bodies = Vec::new(alloc);
@@ -44,22 +86,6 @@ fn sending(alloc: Global, mtype: i64, texts: &[&[u8]], tells: bool) -> Result<Co
     }))
 }
 
-/// So many messages at most, received from the queue of key 7.
-fn receiving(mtype: i64, most: u32, heads: bool) -> Command {
-    Command::Receive(Receiving {
-        queue: KEY,
-        mtype,
-        size: 1_024,
-        noerror: false,
-        most,
-        heads,
-    })
-}
-
-fn making(key: Option<u32>) -> Command {
-    Command::Make { key, mode: 0o600 }
-}
-
 #[test]
 fn what_is_sent_is_received(rt: HostRuntime) -> Result<(), Fail> {
     let alloc = rt.alloc();
@@ -73,45 +99,27 @@ fn what_is_sent_is_received(rt: HostRuntime) -> Result<(), Fail> {
         caller,
     };
     let long: &[u8] = &[0; 1_025];
-    let setting = Setting {
-        queue: QueueName::Id(1),
-        qbytes: Some(4),
-        uid: None,
-        gid: None,
-        mode: None,
-    };
-    let odd: &[u8] = b"a\0\xff\n";
-    let rows: [(Command, Result<&[u8], Errno>); 17] = [
-        (receiving(0, 1, false), Err(Errno::ENOENT)),
-        (sending(alloc, 5, &[odd, b"c"], true)?, Ok(b"1\n2\n")),
-        (sending(alloc, 3, &[b""], false)?, Ok(b"")),
-        (sending(alloc, 5, &[b"b"], false)?, Ok(b"")),
-        (receiving(-4, 1, true), Ok(b"3 42 3 0\n")),
-        (sending(alloc, 5, &[b"d", long], true)?, Err(Errno::EINVAL)),
-        (receiving(5, 2, false), Ok(b"a\0\xff\nc")),
-        (receiving(5, 1_024, false), Ok(b"bd")),
-        (receiving(5, 1_024, false), Err(Errno::ENOMSG)),
-        (Command::Set(setting), Ok(b"")),
-        (sending(alloc, 1, &[b"abcde"], false)?, Err(Errno::EAGAIN)),
-        (making(Some(7)), Err(Errno::EEXIST)),
-        (making(None), Ok(b"2\n")),
-        (Command::Remove { queue: KEY }, Ok(b"")),
-        (
-            Command::Remove {
-                queue: QueueName::Id(1),
-            },
-            Err(Errno::EIDRM),
-        ),
-        (
-            Command::Remove {
-                queue: QueueName::Id(9),
-            },
-            Err(Errno::EINVAL),
-        ),
-        (making(Some(7)), Ok(b"3\n")),
+    let rows: [(Asked<'_>, Result<&[u8], Errno>); 17] = [
+        (Asked::Receive(0, 1, false), Err(Errno::ENOENT)),
+        (Asked::Send(5, &[b"a\0\xff\n", b"c"]), Ok(b"1\n2\n")),
+        (Asked::SendOne(3, b""), Ok(b"")),
+        (Asked::SendOne(5, b"b"), Ok(b"")),
+        (Asked::Receive(-4, 1, true), Ok(b"3 42 3 0\n")),
+        (Asked::Send(5, &[b"d", long]), Err(Errno::EINVAL)),
+        (Asked::Receive(5, 2, false), Ok(b"a\0\xff\nc")),
+        (Asked::Receive(5, 1_024, false), Ok(b"bd")),
+        (Asked::Receive(5, 1_024, false), Err(Errno::ENOMSG)),
+        (Asked::Set, Ok(b"")),
+        (Asked::SendOne(1, b"abcde"), Err(Errno::EAGAIN)),
+        (Asked::Make(Some(7)), Err(Errno::EEXIST)),
+        (Asked::Make(None), Ok(b"2\n")),
+        (Asked::Remove(KEY), Ok(b"")),
+        (Asked::Remove(QueueName::Id(1)), Err(Errno::EIDRM)),
+        (Asked::Remove(QueueName::Id(9)), Err(Errno::EINVAL)),
+        (Asked::Make(Some(7)), Ok(b"3\n")),
     ];
-    for (command, wanted) in rows {
-        prints(&rt, &mut lists, command, wanted)?;
+    for (asked, wanted) in rows {
+        prints(&rt, &mut lists, command_of(alloc, asked)?, wanted)?;
     }
     assert!(rt; ExitStatus::of_refusal(Errno::EAGAIN).number() == 3);
     assert!(rt; ExitStatus::of_refusal(Errno::EACCES).number() == 4);

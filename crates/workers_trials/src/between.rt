@@ -85,10 +85,7 @@ fn renewed(alloc: Global, shown: &Shown, stats: u32, rounds: u32) -> Result<Plan
 
 /// Queues 1 and 2 are made.
 fn two_queues(alloc: Global) -> Result<Vec<Call>, Fail> {
-    let mut calls = Vec::new(alloc);
-    calls.push(get(7))?;
-    calls.push(get(9))?;
-    Ok(calls)
+    Ok(Vec::from_array(alloc, [get(7), get(9)])?)
 }
 
 /// The scripts of seat 1, which is watched and receives from queue 1, and of seat 2.
@@ -97,20 +94,16 @@ fn beside<'a>(
     shown: &'a Shown,
     second: Vec<Deed<'a>>,
 ) -> Result<Vec<Vec<Deed<'a>>>, Fail> {
-    let mut first = Vec::new(alloc);
-    first.push(Deed::Raise(&shown.watched))?;
-    first.push(Deed::Call(receive(1, 10)))?;
-    let mut scripts = Vec::new(alloc);
-    scripts.push(first)?;
-    scripts.push(second)?;
-    Ok(scripts)
+    let first = Vec::from_array(
+        alloc,
+        [Deed::Raise(&shown.watched), Deed::Call(receive(1, 10))],
+    )?;
+    Ok(Vec::from_array(alloc, [first, second])?)
 }
 
 /// What seat 1 is answered.
 fn of_rounds(alloc: Global, rounds: u32) -> Result<Vec<Answer>, Fail> {
-    let mut answers = Vec::new(alloc);
-    answers.push(Answer::Id(1))?;
-    answers.push(Answer::Id(2))?;
+    let mut answers = Vec::from_array(alloc, [Answer::Id(1), Answer::Id(2)])?;
     for round in 0..rounds {
         let serial = u64::from(round) + 1;
         answers.push(received(alloc, serial, 2, 3, b"ab")?)?;
@@ -139,9 +132,7 @@ fn a_file_that_is_saved_while_a_call_waits_has_what_stood(rt: HostRuntime) -> Re
     assert_eq!(rt; journal.len(), 8);
     let before = journal.get(..6).unwrap_or(&[]);
     assert!(rt; is_file_of(alloc, copy_of(alloc, &mut device)?, before));
-    let mut calls = Vec::new(alloc);
-    calls.push(receive(2, 10))?;
-    calls.push(receive(2, 10))?;
+    let calls = Vec::from_array(alloc, [receive(2, 10), receive(2, 10)])?;
     let answers = answers_on(alloc, device, calls)?;
     let stood = [
         received(alloc, 2, 2, 2, b"b")?,
@@ -154,14 +145,18 @@ fn a_file_that_is_saved_while_a_call_waits_has_what_stood(rt: HostRuntime) -> Re
 /// Seat 1 receives from queue 1. Beside it seat 2 sends three messages to queue 2, receives one, saves
 /// the file, and sends to queue 1.
 fn saved(alloc: Global, shown: &Shown) -> Result<Plan<'_>, Fail> {
-    let mut second = Vec::new(alloc);
-    for (mtype, text) in [(1, b"a"), (2, b"b"), (1, b"c")] {
-        second.push(Deed::Call(send(alloc, 2, mtype, text)?))?;
-    }
-    second.push(Deed::Call(receive(2, 10)))?;
-    second.push(Deed::Await(&shown.moved))?;
-    second.push(Deed::Save)?;
-    second.push(Deed::Call(send(alloc, 1, 3, b"ab")?))?;
+    let second = Vec::from_array(
+        alloc,
+        [
+            Deed::Call(send(alloc, 2, 1, b"a")?),
+            Deed::Call(send(alloc, 2, 2, b"b")?),
+            Deed::Call(send(alloc, 2, 1, b"c")?),
+            Deed::Call(receive(2, 10)),
+            Deed::Await(&shown.moved),
+            Deed::Save,
+            Deed::Call(send(alloc, 1, 3, b"ab")?),
+        ],
+    )?;
     Ok(Plan {
         before: two_queues(alloc)?,
         scripts: beside(alloc, shown, second)?,

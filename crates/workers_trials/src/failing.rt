@@ -35,9 +35,7 @@ type Faulty = FaultyDevice<MemDevice>;
 fn calls_in_turn_are_answered_or_told_that_a_step_has_failed(rt: HostRuntime) -> Result<(), Fail> {
     let alloc = rt.alloc();
     let mut before = queue(alloc)?;
-    let mut scripts = Vec::new(alloc);
-    scripts.push(Vec::new(alloc))?;
-    scripts.push(receives(alloc)?)?;
+    let scripts = Vec::from_array(alloc, [Vec::new(alloc), receives(alloc)?])?;
     for _ in 0..MESSAGES {
         before.push(message(alloc)?)?;
     }
@@ -58,25 +56,8 @@ fn calls_in_turn_are_answered_or_told_that_a_step_has_failed(rt: HostRuntime) ->
 #[test]
 fn calls_at_once_are_answered_or_told_that_a_step_has_failed(rt: HostRuntime) -> Result<(), Fail> {
     let alloc = rt.alloc();
-    let mut sends = Vec::new(alloc);
-    for _ in 0..MESSAGES {
-        sends.push(Deed::Call(message(alloc)?))?;
-    }
-    let mut scripts = Vec::new(alloc);
-    scripts.push(sends)?;
-    scripts.push(receives(alloc)?)?;
-    let before = queue(alloc)?;
-    fail_each(
-        &rt,
-        alloc,
-        &Plan {
-            before,
-            scripts,
-            rounds: 1,
-            end: End::Closed,
-        },
-        1,
-    )
+    let plan = beside_receives(alloc, sends(alloc, MESSAGES)?)?;
+    fail_each(&rt, alloc, &plan, 1)
 }
 
 /// The same, with the file saved once half of them are sent; one of five transfers fails in turn.
@@ -85,41 +66,42 @@ fn calls_beside_a_save_are_answered_or_told_that_a_step_has_failed(
     rt: HostRuntime,
 ) -> Result<(), Fail> {
     let alloc = rt.alloc();
-    let mut sends = Vec::new(alloc);
-    for sent in 0..MESSAGES {
-        if sent == MESSAGES / 2 {
-            sends.push(Deed::Save)?;
-        }
-        sends.push(Deed::Call(message(alloc)?))?;
+    let mut first = sends(alloc, MESSAGES / 2)?;
+    first.push(Deed::Save)?;
+    for _ in MESSAGES / 2..MESSAGES {
+        first.push(Deed::Call(message(alloc)?))?;
     }
-    let mut scripts = Vec::new(alloc);
-    scripts.push(sends)?;
-    scripts.push(receives(alloc)?)?;
-    let before = queue(alloc)?;
-    fail_each(
-        &rt,
-        alloc,
-        &Plan {
-            before,
-            scripts,
-            rounds: 1,
-            end: End::Closed,
-        },
-        5,
-    )
+    let plan = beside_receives(alloc, first)?;
+    fail_each(&rt, alloc, &plan, 5)
+}
+
+/// What seat 1 does beside seat 2, which receives.
+fn beside_receives(alloc: Global, first: Vec<Deed<'static>>) -> Result<Plan<'static>, Fail> {
+    Ok(Plan {
+        before: queue(alloc)?,
+        scripts: Vec::from_array(alloc, [first, receives(alloc)?])?,
+        rounds: 1,
+        end: End::Closed,
+    })
 }
 
 /// A queue that may have as many bytes as any.
 fn queue(alloc: Global) -> Result<Vec<Call>, Fail> {
-    let mut calls = Vec::new(alloc);
-    calls.push(get(7))?;
-    calls.push(set(1, 65_536))?;
-    Ok(calls)
+    Ok(Vec::from_array(alloc, [get(7), set(1, 65_536)])?)
 }
 
 /// A message as long as any.
 fn message(alloc: Global) -> Result<Call, Fail> {
     Ok(send(alloc, 1, 1, &[b'a'; 1024])?)
+}
+
+/// So many messages.
+fn sends(alloc: Global, many: u32) -> Result<Vec<Deed<'static>>, Fail> {
+    let mut script = Vec::new(alloc);
+    for _ in 0..many {
+        script.push(Deed::Call(message(alloc)?))?;
+    }
+    Ok(script)
 }
 
 fn receives(alloc: Global) -> Result<Vec<Deed<'static>>, Fail> {

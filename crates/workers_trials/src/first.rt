@@ -28,20 +28,14 @@ fn the_first_script_is_answered_and_counted(rt: HostRuntime) -> Result<(), Fail>
 
 /// Its calls.
 fn script(alloc: Global) -> Result<Vec<Call>, Fail> {
-    let mut calls = Vec::new(alloc);
-    calls.push(get(7))?;
-    calls.push(send(alloc, 1, 5, b"a")?)?;
-    calls.push(receive(1, 1024))?;
-    calls.push(Call::Stat { id: 1 })?;
-    Ok(calls)
+    let sent = send(alloc, 1, 5, b"a")?;
+    let calls = [get(7), sent, receive(1, 1024), Call::Stat { id: 1 }];
+    Ok(Vec::from_array(alloc, calls)?)
 }
 
 /// What they are answered.
 fn answers(alloc: Global) -> Result<Vec<Answer>, Fail> {
-    let mut answers = Vec::new(alloc);
-    answers.push(Answer::Id(1))?;
-    answers.push(Answer::Sent(1))?;
-    answers.push(received(alloc, 1, 1, 5, b"a")?)?;
-    answers.push(info(0, 0, 1, 1))?;
-    Ok(answers)
+    let taken = received(alloc, 1, 1, 5, b"a")?;
+    let answers = [Answer::Id(1), Answer::Sent(1), taken, info(0, 0, 1, 1)];
+    Ok(Vec::from_array(alloc, answers)?)
 }

@@ -101,12 +101,16 @@ fn a_receive_is_answered_while_a_send_is_held(rt: HostRuntime) -> Result<(), Fai
 /// The calls that come before: two queues, and six messages of 1,024 bytes on the first. The next
 /// one splits the second bucket.
 pub fn before(alloc: Global) -> Result<Vec<Call>, Fail> {
-    let mut calls = Vec::new(alloc);
-    calls.push(get(7))?;
-    calls.push(get(9))?;
-    calls.push(send(alloc, 2, 2, b"a")?)?;
-    calls.push(send(alloc, 2, 2, b"b")?)?;
-    calls.push(receive(2, 1024))?;
+    let mut calls = Vec::from_array(
+        alloc,
+        [
+            get(7),
+            get(9),
+            send(alloc, 2, 2, b"a")?,
+            send(alloc, 2, 2, b"b")?,
+            receive(2, 1024),
+        ],
+    )?;
     for _ in 0..6 {
         calls.push(long(alloc)?)?;
     }
@@ -121,37 +125,46 @@ pub fn long(alloc: Global) -> Result<Call, Fail> {
 /// Seat 1 sends one message more, seat 2 receives from the other queue once that is held, and then
 /// seat 3 asks for the state of the queue.
 fn plan(alloc: Global, shown: &Shown) -> Result<Plan<'_>, Fail> {
-    let mut first = Vec::new(alloc);
-    first.push(Deed::Raise(&shown.watched))?;
-    first.push(Deed::Call(long(alloc)?))?;
-    let mut second = Vec::new(alloc);
-    second.push(Deed::Await(&shown.held))?;
-    second.push(Deed::Call(receive(2, 10)))?;
-    second.push(Deed::Raise(&shown.received))?;
-    let mut third = Vec::new(alloc);
-    third.push(Deed::Await(&shown.received))?;
-    third.push(Deed::Call(Call::Stat { id: 1 }))?;
-    third.push(Deed::Raise(&shown.told))?;
-    let mut scripts = Vec::new(alloc);
-    scripts.push(first)?;
-    scripts.push(second)?;
-    scripts.push(third)?;
     Ok(Plan {
         before: before(alloc)?,
-        scripts,
+        scripts: scripts(alloc, shown)?,
         rounds: 1,
         end: End::Closed,
     })
 }
 
+/// What each of them does.
+fn scripts(alloc: Global, shown: &Shown) -> Result<Vec<Vec<Deed<'_>>>, Fail> {
+    let sent = Deed::Call(long(alloc)?);
+    let first = Vec::from_array(alloc, [Deed::Raise(&shown.watched), sent])?;
+    let second = once(alloc, &shown.held, receive(2, 10), &shown.received)?;
+    let third = once(alloc, &shown.received, Call::Stat { id: 1 }, &shown.told)?;
+    Ok(Vec::from_array(alloc, [first, second, third])?)
+}
+
+/// A call once a flag is up, and then another flag.
+fn once<'a>(
+    alloc: Global,
+    awaited: &'a Flag,
+    call: Call,
+    raised: &'a Flag,
+) -> Result<Vec<Deed<'a>>, Fail> {
+    let deeds = [Deed::Await(awaited), Deed::Call(call), Deed::Raise(raised)];
+    Ok(Vec::from_array(alloc, deeds)?)
+}
+
 /// What seat 1 is answered.
 fn answers(alloc: Global) -> Result<Vec<Answer>, Fail> {
-    let mut answers = Vec::new(alloc);
-    answers.push(Answer::Id(1))?;
-    answers.push(Answer::Id(2))?;
-    answers.push(Answer::Sent(1))?;
-    answers.push(Answer::Sent(2))?;
-    answers.push(received(alloc, 1, 1, 2, b"a")?)?;
+    let mut answers = Vec::from_array(
+        alloc,
+        [
+            Answer::Id(1),
+            Answer::Id(2),
+            Answer::Sent(1),
+            Answer::Sent(2),
+            received(alloc, 1, 1, 2, b"a")?,
+        ],
+    )?;
     for serial in 1..8 {
         answers.push(Answer::Sent(serial))?;
     }

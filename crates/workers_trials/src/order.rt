@@ -29,8 +29,7 @@ fn a_receiver_has_the_messages_of_each_sender_in_order(rt: HostRuntime) -> Resul
 }
 
 fn plan(alloc: Global) -> Result<Plan<'static>, Fail> {
-    let mut before = Vec::new(alloc);
-    before.push(get(7))?;
+    let before = Vec::from_array(alloc, [get(7)])?;
     let mut scripts = Vec::new(alloc);
     for bodies in SENT {
         let mut script = Vec::new(alloc);

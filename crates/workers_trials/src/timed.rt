@@ -38,23 +38,20 @@ fn a_receive_that_waits_is_taken_back_when_its_time_is_over(rt: HostRuntime) -> 
 }
 
 fn one_is_taken_back<'a>(alloc: Global, over: &'a Flag, sent: &'a Flag) -> Result<Plan<'a>, Fail> {
-    let mut before = Vec::new(alloc);
-    before.push(get(7))?;
-    let mut first = Vec::new(alloc);
-    first.push(Deed::CallWithin(receive(1, 10), Duration::from_millis(20)))?;
-    first.push(Deed::Raise(over))?;
-    first.push(Deed::Await(sent))?;
-    first.push(Deed::CallWithin(receive(1, 10), Duration::ZERO))?;
-    let mut second = Vec::new(alloc);
-    second.push(Deed::Await(over))?;
-    second.push(Deed::Call(send(alloc, 1, 3, b"ab")?))?;
-    second.push(Deed::Raise(sent))?;
-    let mut scripts = Vec::new(alloc);
-    scripts.push(first)?;
-    scripts.push(second)?;
+    let first = Vec::from_array(
+        alloc,
+        [
+            Deed::CallWithin(receive(1, 10), Duration::from_millis(20)),
+            Deed::Raise(over),
+            Deed::Await(sent),
+            Deed::CallWithin(receive(1, 10), Duration::ZERO),
+        ],
+    )?;
+    let call = Deed::Call(send(alloc, 1, 3, b"ab")?);
+    let second = Vec::from_array(alloc, [Deed::Await(over), call, Deed::Raise(sent)])?;
     Ok(Plan {
-        before,
-        scripts,
+        before: Vec::from_array(alloc, [get(7)])?,
+        scripts: Vec::from_array(alloc, [first, second])?,
         rounds: 1,
         end: End::Closed,
     })
@@ -65,19 +62,9 @@ fn one_is_taken_back<'a>(alloc: Global, over: &'a Flag, sent: &'a Flag) -> Resul
 #[test]
 fn calls_are_answered_or_taken_back_beside_sends(rt: HostRuntime) -> Result<(), Fail> {
     let alloc = rt.alloc();
-    let mut before = Vec::new(alloc);
-    before.push(get(7))?;
-    let mut sends = Vec::new(alloc);
-    for _ in 0..CALLS {
-        sends.push(Deed::Call(send(alloc, 1, 1, b"ab")?))?;
-    }
-    let mut scripts = Vec::new(alloc);
-    scripts.push(sends)?;
-    scripts.push(hasty(alloc)?)?;
-    scripts.push(hasty(alloc)?)?;
     let plan = Plan {
-        before,
-        scripts,
+        before: Vec::from_array(alloc, [get(7)])?,
+        scripts: Vec::from_array(alloc, [sends(alloc)?, hasty(alloc)?, hasty(alloc)?])?,
         rounds: 1,
         end: End::Closed,
     };
@@ -86,6 +73,15 @@ fn calls_are_answered_or_taken_back_beside_sends(rt: HostRuntime) -> Result<(), 
     assert_eq!(rt; left.shown.saturating_add(taken_back), 1201);
     assert!(rt; is_file_of(alloc, left.device, left.journal.as_slice()));
     Ok(())
+}
+
+/// What seat 1 sends.
+fn sends(alloc: Global) -> Result<Vec<Deed<'static>>, Fail> {
+    let mut script = Vec::new(alloc);
+    for _ in 0..CALLS {
+        script.push(Deed::Call(send(alloc, 1, 1, b"ab")?))?;
+    }
+    Ok(script)
 }
 
 /// Receives that have 0, 100 and 200 microseconds by turns.

@@ -25,17 +25,11 @@ fn each(
     second: Deed<'static>,
     rounds: u32,
 ) -> Result<Plan<'static>, Fail> {
-    let mut before = Vec::new(alloc);
-    before.push(get(7))?;
-    let mut scripts = Vec::new(alloc);
-    for deed in [first, second] {
-        let mut script = Vec::new(alloc);
-        script.push(deed)?;
-        scripts.push(script)?;
-    }
+    let first = Vec::from_array(alloc, [first])?;
+    let second = Vec::from_array(alloc, [second])?;
     Ok(Plan {
-        before,
-        scripts,
+        before: Vec::from_array(alloc, [get(7)])?,
+        scripts: Vec::from_array(alloc, [first, second])?,
         rounds,
         end: End::Closed,
     })
