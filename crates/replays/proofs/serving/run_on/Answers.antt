@@ -15,8 +15,8 @@ pub returns-clause-served : goal.returns-clause-served
 returns-clause-served g c =
     let for = c.in-Ok.ensures.ok in
     let first = c.in-Ok.kernel in
-    let last = c.run-so_far.new.kernel in
-    let ran = c.run-so_far.ensures.ran in
+    let last = c.run_lines-so_far.new.kernel in
+    let ran = c.run_lines-so_far.ensures.ran in
     let fault = c.end_kernel-device.result.1 in
     let within = greatest_within c.args.script.now c.keeps_seats.ensures in
     let some = within.0 in
@@ -27,13 +27,13 @@ returns-clause-served g c =
       opened = for;
       last = last;
       told = c.flush.new.self;
-      so_far = c.run-so_far.result;
+      so_far = c.run_lines-so_far.result;
       run = record {
         replies = ran.replies;
         takes = ran.takes;
         prints = subst (Prints c.args.output.now c.flush.new.self)
             (append-nil (printed c.args.script.now.lines ran.replies))
-            (Prints-then c.args.output.now c.run-so_far.new.output c.flush.new.self _ [] ran.prints
+            (Prints-then c.args.output.now c.run_lines-so_far.new.output c.flush.new.self _ [] ran.prints
             c.flush.ensures.same);
         ends = ran.ends;
         rules = ran.rules;
@@ -47,7 +47,7 @@ returns-clause-served g c =
           let rests = c.a_kernel_opens_at_rest.ensures sha_key for.with_keys _ _ _ for.frames first for.opened
           honest has.0 has.1 (omega (arith, long, some)) (omega (arith, long, few)) in
           let goes = ran.rules has.0 0 rests (opened_decided for) in
-          let still = c.run-so_far.ensures.honest ∙ ap (λ (p : PoolState). p.honest) for.opened.pool in
+          let still = c.run_lines-so_far.ensures.honest ∙ ap (λ (p : PoolState). p.honest) for.opened.pool in
           record {
             system = has.0;
             file = has.1;
@@ -58,7 +58,7 @@ returns-clause-served g c =
           };
       unwritten = c.end_kernel-device.ensures.unwritten;
       before = λ away. c.end_kernel-device.ensures.unwritten away
-          ∙ stored_before c.args.script.now _ _ first last for c.run-so_far.ensures.stored;
+          ∙ stored_before c.args.script.now _ _ first last for c.run_lines-so_far.ensures.stored;
     })
 
 -- it was not opened
