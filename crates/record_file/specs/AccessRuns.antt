@@ -1,4 +1,4 @@
--- A find that is made in one go. docs/STEPS.md, "Search".
+-- A find that is made in one go, and a write that goes to its page so. docs/STEPS.md, "Search".
 use Rattle.std.specs.Prelude.{ℕ, ◌≡◌, List, [], ◌∷◌, ◌++◌, length, Option, Some, None}
 use Rattle.file_pages.specs.declared.fault.FileFault.{FileFault}
 use Rattle.record_file.specs.OperationRuns.{operation_at, operation_done}
@@ -7,7 +7,8 @@ use Rattle.record_file.specs.stale_search.declared.place.SearchPlace.{SearchPlac
 use Rattle.record_file.specs.stale_search.declared.place.SearchPlace.TheVariants.{Found}
 use Rattle.record_file.specs.step_rules.Runs.{MovesAlong, Stop, stop, stops_in}
 use Rattle.record_file.specs.step_rules.declared.kind.Kind.TheVariants as kinds
-use Rattle.record_file.specs.AccessWords.{RecordKey, PoolState, Table, IsSeat, IsReady, EndsRow, Progress, row_of, store_of}
+use Rattle.record_file.specs.AccessWords.{RecordKey, PoolState, Table, HasEnded, IsSeat, IsReady, EndsRow, Progress, row_of, store_of}
+use Rattle.record_file.specs.OperationWords.{with_row}
 use Rattle.record_file.specs.Accesses.{AccessView, access_key, access_locks}
 use Rattle.record_file.specs.AccessSteps.{MakesAccess}
 use Rattle.record_file.specs.Readings.{value_on}
@@ -24,7 +25,7 @@ pub record AccessStep (hash : RecordKey → ℕ) (seat : ℕ) (did : Progress Fi
   pub may : MayAccess seat old
   pub makes : MakesAccess hash seat did old.machine new.machine old.pool new.pool old.locks new.locks
 
--- a find whose search is at this place
+-- one whose search is at this place
 abbrev pub access_at : SearchPlace → AccessView → AccessView
 access_at place a = record a { operation = operation_at place a.operation }
 
@@ -66,3 +67,29 @@ AreRead (Some len) page key pool old new = (length new ≡ len) × (value_on poo
 pub record ReadsAhead (page : ℕ) (found : Option ℕ) (pool : PoolState) (old new : AccessView) : Type 0 where
   pub is : new ≡ record old { bytes = new.bytes }
   pub read : AreRead found page (access_key old) pool old.bytes new.bytes
+
+-- ---- a write
+
+-- its states from where it has not begun: on the way to the page, and where that answers and is locked, and what it
+-- takes of it has been read
+abbrev pub write_stops : ℕ → (page : ℕ) → Option ℕ → (bytes : List ℕ) → At AccessView → List (Stop (At AccessView))
+write_stops seat page found bytes old =
+    stops_in (λ (place : SearchPlace). standing access_locks seat old.pool old.locks (access_at place old.machine))
+    (way_up_to (store_of old.pool.images).header.depth page)
+    ++ stop kinds.Look (standing access_locks seat old.pool old.locks
+    (record (access_at (Found page found) old.machine) { bytes = bytes }))
+    ∷ []
+
+-- a write has gone straight to the page that answers, by these of its steps; the pool is what it was
+pub record ReachesAtOnce (seat : ℕ) (old new : AccessView) (pool : PoolState) (locks locks' : Table) : Type 0 where
+  pub page : ℕ
+  -- of its key, the length of the value there
+  pub found : Option ℕ
+  pub is : new ≡ record (access_at (Found page found) old) { bytes = new.bytes }
+  -- it had no lock, and has that of the page
+  pub bare : HasNoLock (access_locks old)
+  pub row : locks' ≡ with_row locks seat (access_locks new (row_of locks seat))
+  -- the write is still to be made
+  pub goes_on : HasEnded new.operation → ⊥
+  pub moves : (hash : RecordKey → ℕ) →
+      MovesAlong (AccessStep hash seat) (at old pool locks) (write_stops seat page found new.bytes (at old pool locks))

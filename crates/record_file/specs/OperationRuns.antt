@@ -6,7 +6,9 @@ use Rattle.record_file.specs.stale_search.SearchRuns.{At, at, standing, way_to}
 use Rattle.record_file.specs.stale_search.declared.place.SearchPlace.{SearchPlace}
 use Rattle.record_file.specs.step_rules.Runs.{Stop, stop, stops_in}
 use Rattle.record_file.specs.step_rules.declared.kind.Kind.TheVariants as kinds
-use Rattle.record_file.specs.OperationWords.{RecordKey, Progress, RecordOperation, Find, store_of}
+use Rattle.record_file.specs.OperationWords.{RecordKey, Progress, RecordOperation, Find, Insert, Replace, Delete, store_of}
+use Rattle.record_file.specs.declared.insert.InsertStage.{InsertStage}
+use Rattle.record_file.specs.declared.insert.InsertStage.TheVariants.{First, Second}
 use Rattle.record_file.specs.OperationSteps.{MakesOperation}
 use Rattle.record_file.specs.Operations.{operation_locks}
 
@@ -19,10 +21,17 @@ abbrev pub IsFind : RecordOperation → Type 0
 IsFind (Find f) = ⊤
 IsFind o = ⊥
 
--- a find whose search is at this place; of others this is not asked
+-- an insert whose first try searches, and is at this place; of a second one this is not asked
+abbrev pub stage_at : SearchPlace → InsertStage → InsertStage
+stage_at place (First t said) = First (bucket_at place t) said
+stage_at place (Second t) = Second t
+
+-- one whose search is at this place
 abbrev pub operation_at : SearchPlace → RecordOperation → RecordOperation
 operation_at place (Find f) = Find (bucket_at place f)
-operation_at place o = o
+operation_at place (Insert i) = Insert (record i { stage = stage_at place i.stage })
+operation_at place (Replace r) = Replace (bucket_at place r)
+operation_at place (Delete d) = Delete (record d { removal = bucket_at place d.removal })
 
 -- a find that has found, and given the page back
 abbrev pub operation_done : ℕ → Option ℕ → RecordOperation → RecordOperation

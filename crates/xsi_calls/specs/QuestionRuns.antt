@@ -1,4 +1,5 @@
--- A question that is asked in one go, by each machine of a call that asks it. docs/STEPS.md, "Search".
+-- A question that is asked in one go, and a write that goes to its page so, by each machine of a call. docs/STEPS.md,
+-- "Search".
 use Rattle.std.specs.Prelude.{ℕ, ◌≡◌, List, [], ◌∷◌, Some}
 use Rattle.file_pages.specs.declared.fault.FileFault.{FileFault}
 use Rattle.page_locks.specs.Table.{held}
@@ -20,7 +21,7 @@ pub record AskStep {V : Type 0} (Makes : Promise V) (seat : ℕ) (did : Progress
   pub makes : Makes did old.machine new.machine old.pool new.pool old.locks new.locks
   pub shared : did ≡ Moved kinds.ReadDepth → held new.locks seat Directory ≡ Some Read
 
--- where a machine stands on the way of a question, behind each move but the last
+-- where a machine stands on the way to a page, behind each move up to the Look
 pub record Way (S : Type 0) : Type 0 where
   -- the directory is locked, its depth was read, and the entry that names the page
   pub locked : S
@@ -48,3 +49,21 @@ pub record AsksAtOnce {V : Type 0} (Makes : Promise V) (seat : ℕ) (old new : V
     : Type 0 where
   pub way : Way (At V)
   pub moves : MovesAlong (AskStep Makes seat) (at old pool locks) (stops_on way (at new pool locks))
+
+-- its moves up to the Look
+abbrev pub stops_to : {S : Type 0} → Way S → List (Stop S)
+stops_to way =
+    stop kinds.Grant way.locked
+    ∷ stop kinds.ReadDepth way.deep
+    ∷ stop kinds.ReadEntry way.named
+    ∷ stop kinds.Grant way.arrived
+    ∷ stop kinds.Release way.alone
+    ∷ stop kinds.Look way.looked
+    ∷ []
+
+-- a write goes to its page by such moves; the pool is then what it was, and of locks the page's has come to the seat
+pub record ReachesAtOnce {V : Type 0} (Makes : Promise V) (seat : ℕ) (old new : V) (pool : PoolState)
+    (locks locks' : Table) : Type 0 where
+  pub way : Way (At V)
+  pub arrives : way.looked ≡ at new pool locks'
+  pub moves : MovesAlong (AskStep Makes seat) (at old pool locks) (stops_to way)

@@ -1,10 +1,10 @@
-//! All steps of a find, in one go.
+//! All steps of a find, in one go, and those of a write up to where its page answers.
 
 ghost use Rattle.std.specs.Prelude.{◌≡◌, true, false};
 ghost use Rattle.record_file.specs.OperationRuns.{IsFind};
 ghost use Rattle.record_file.specs.AccessWords.{EndsRow, IsReady, IsSeat, row_of};
 ghost use Rattle.record_file.specs.Accesses.{access_locks};
-ghost use Rattle.record_file.specs.AccessRuns.{FindsAtOnce, ReadsAhead};
+ghost use Rattle.record_file.specs.AccessRuns.{FindsAtOnce, ReachesAtOnce, ReadsAhead};
 
 use crate::access::Access;
 use file_pages::buffer_pool::Pool;
@@ -33,6 +33,27 @@ impl Access {
         }
         self.operation.arrive(page, found);
         true
+    }
+
+    /// All steps of a write up to the Look by which its page answers, in one go: where it has not
+    /// begun, its pages are in frames, the page that the directory names has the pseudokey and what
+    /// it writes can stand there, and nobody stands in its way. The page is locked then. Else
+    /// nothing is done, and it is left to `step`.
+    pub fn reach<D: PageDevice>(
+        &mut self,
+        pool: &mut Pool<D>,
+        locks: &mut LockTable,
+        seat: u8,
+    ) -> bool
+        requires seat { IsSeat locks.old seat }
+        requires ready { IsReady pool.old }
+        requires row { EndsRow (access_locks self.old) 3 (row_of locks.old seat) }
+        ensures pool { pool.new ≡ pool.old }
+        ensures made { result ≡ true →
+            ReachesAtOnce seat self.old self.new pool.old locks.old locks.new }
+        ensures spares { result ≡ false → (self.new ≡ self.old) × (locks.new ≡ locks.old) }
+    {
+        false
     }
 
     /// Takes the value of its key from a page that is in a frame, where one of this length stands

@@ -1,9 +1,9 @@
-//! A question of a call that is asked in one go.
+//! A question of a call that is asked in one go, and a write of it that goes to its page so.
 
 ghost use Rattle.std.specs.Prelude.{◌≡◌, Bool, false, true};
 ghost use Rattle.xsi_calls.specs.CallSteps.{MakesCall};
 ghost use Rattle.xsi_calls.specs.Machine.{call_locks, is_undecided};
-ghost use Rattle.xsi_calls.specs.Words.{AsksAtOnce, IsReady, IsSeat, row_of};
+ghost use Rattle.xsi_calls.specs.Words.{AsksAtOnce, IsReady, IsSeat, ReachesAtOnce, row_of};
 
 use crate::call_machine::CallMachine;
 use bucket_page::PseudoKey;
@@ -35,5 +35,27 @@ impl CallMachine {
             return false;
         }
         self.undecided.skip(pool, locks, keys, seat, &self.call)
+    }
+
+    /// All steps up to the Look of the next record that it inserts on trial, writes or takes out of
+    /// its trials, in one go, where it can go to its page so (`Access::reach`). Else nothing is
+    /// done, and it is left to `step`.
+    pub fn reach<D: PageDevice, K: PseudoKey>(
+        &mut self,
+        pool: &mut Pool<D>,
+        locks: &mut LockTable,
+        keys: &K,
+        seat: u8,
+    ) -> bool
+        requires seat { IsSeat locks.old seat }
+        requires ready { IsReady pool.old }
+        requires row { row_of locks.old seat ≡ call_locks self.old }
+        ensures pool { pool.new ≡ pool.old }
+        ensures made { result ≡ true → (stopped : Bool) → ReachesAtOnce
+            (MakesCall (K.of_key keys.now) seat stopped) seat self.old self.new
+            pool.old locks.old locks.new }
+        ensures spares { result ≡ false → (self.new ≡ self.old) × (locks.new ≡ locks.old) }
+    {
+        false
     }
 }
