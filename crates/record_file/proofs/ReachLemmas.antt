@@ -1,0 +1,190 @@
+-- A write that goes straight to the page that answers: what it takes there, and its lock on that page.
+use Rattle.std.proofs.Common.{◌≡◌, refl, sym, ap, ◌∙◌, subst, ℕ, ◌+◌, ◌<◌, ◌≤◌, Bool, false, List, length, Option, Some, None, IsSome, Ok, arith}
+use Rattle.page_locks.specs.Table.{held, with_lock}
+use Rattle.page_locks.specs.declared.row.TheConstants.{MAX_LOCKS}
+use Rattle.record_file.specs.stale_search.SearchRuns.{HasNoLock}
+use Rattle.record_file.specs.stale_search.declared.place.SearchPlace.{SearchPlace}
+use Rattle.record_file.specs.stale_search.declared.place.SearchPlace.TheVariants.{Found}
+use Rattle.record_file.specs.declared.insert.InsertStage.{InsertStage}
+use Rattle.record_file.specs.declared.insert.InsertStage.TheVariants.{First, Second}
+use Rattle.record_file.specs.declared.operation.RecordOperation.TheVariants as operations
+use Rattle.record_file.specs.BucketRuns.{bucket_at}
+use Rattle.record_file.specs.Inserts.{IsLent}
+use Rattle.record_file.specs.OperationRuns.{GoesToPage, operation_at, stage_at}
+use Rattle.record_file.specs.OperationWords.{BucketView, DeleteView, InsertView, Selective, with_row}
+use Rattle.record_file.specs.Words.{Page, on_page}
+use Rattle.record_file.specs.AccessWords.{Delete, EndsRow, HasEnded, HasNoFileLock, HasSuch, IsReady, IsSeat, Links, Lock, MayBeLent, PoolState, Record, RecordKey, RecordOperation, Relink, Replace, Table, found_of, linked_bytes, operation_key, operation_locks, row_of, value_of}
+use Rattle.record_file.specs.AccessRuns.{ReachesAtOnce, TakesAhead, access_at}
+use Rattle.record_file.specs.AccessSteps.{SuitsFound, SuitsLength}
+use Rattle.record_file.specs.Accesses.{AccessView, IsAccess, IsFrontOf, IsOfKind, access_locks, links_of}
+use Rattle.record_file.specs.Purposes.{Purpose, ToFind, ToInsert, ToWrite}
+use Rattle.record_file.specs.Readings.{IsReplace, IsTold, SuitsRecord, Takes, WasAllowed, value_on}
+use Rattle.record_file.proofs.AccessAheadLemmas.{goes_straight, untouched}
+use Rattle.record_file.proofs.TakingLemmas.{front_takes}
+
+-- ---- what is taken at the Look
+
+module _ (pool : PoolState) (ready : IsReady pool) (links : Option Links) (bytes : List ℕ) (written : Bool) where
+  abbrev of : RecordOperation → AccessView
+  of o = record { operation = o; links = links; bytes = bytes; written = written }
+
+  -- no page answers an insert
+  pub insert_takes : (i : InsertView) (page : ℕ) (found : Option ℕ) →
+      TakesAhead page found pool (of (operations.Insert i)) (of (operations.Insert i))
+  insert_takes i page found = record {
+    is = refl;
+    takes = record {
+      reads = untouched pool ready;
+      cause = tt;
+      operation = refl;
+      written = refl;
+      serves = λ p serves. serves;
+      rests = λ none. (refl, refl);
+      suits = λ fine. tt;
+      tells = λ p stood page' len here serves shown was. absurd cc;
+    };
+  }
+
+  -- a value is replaced by one as long
+  replaces : (r : BucketView) (p : Purpose) (stood : Option Record) → IsOfKind p (operations.Replace r) →
+      links_of p ≡ None → WasAllowed p (of (operations.Replace r)) stood →
+      SuitsRecord p (of (operations.Replace r)) stood × IsTold p (of (operations.Replace r)) stood
+  replaces r (ToFind key) stood kind none was = absurd kind
+  replaces r (ToInsert q) stood kind none was = absurd kind
+  replaces r (ToWrite (Replace q)) stood kind none was = (was, tt)
+  replaces r (ToWrite (Relink key l)) stood kind none was = absurd cc
+  replaces r (ToWrite (Delete key)) stood kind none was = absurd kind
+
+  pub replace_takes : (r : BucketView) (page len : ℕ) → links ≡ None → len ≡ length bytes →
+      TakesAhead page (Some len) pool (of (operations.Replace r)) (of (operations.Replace r))
+  replace_takes r page len none long = record {
+    is = refl;
+    takes = record {
+      reads = untouched pool ready;
+      cause = tt;
+      operation = refl;
+      written = refl;
+      serves = λ p serves. serves;
+      rests = λ unfound. absurd cc;
+      suits = λ fine. subst (λ (l : Option Links). SuitsLength l bytes (Some len)) (sym none)
+          (ap (λ (n : ℕ). Some n) long);
+      tells = λ p stood page' len' here serves shown was.
+          replaces (bucket_at (Found page (Some len)) r) p stood serves.kind (sym serves.links ∙ none) was;
+    };
+  }
+
+  -- what is deleted is there
+  deletes : (d : DeleteView) (p : Purpose) (stood : Option Record) → IsOfKind p (operations.Delete d) →
+      WasAllowed p (of (operations.Delete d)) stood →
+      SuitsRecord p (of (operations.Delete d)) stood × IsTold p (of (operations.Delete d)) stood
+  deletes d (ToFind key) stood kind was = absurd kind
+  deletes d (ToInsert q) stood kind was = absurd kind
+  deletes d (ToWrite (Replace q)) stood kind was = absurd kind
+  deletes d (ToWrite (Relink key l)) stood kind was = absurd kind
+  deletes d (ToWrite (Delete key)) stood kind was = (was, tt)
+
+  pub delete_takes : (d : DeleteView) (page : ℕ) (found : Option ℕ) → IsSome found →
+      TakesAhead page found pool (of (operations.Delete d)) (of (operations.Delete d))
+  delete_takes d page found some = record {
+    is = refl;
+    takes = record {
+      reads = untouched pool ready;
+      cause = tt;
+      operation = refl;
+      written = refl;
+      serves = λ p serves. serves;
+      rests = λ unfound. absurd cc;
+      suits = λ fine unwritten. some;
+      tells = λ p stood page' len' here serves shown was.
+          deletes (record d { removal = bucket_at (Found page found) d.removal }) p stood serves.kind was;
+    };
+  }
+
+-- the front that links are set in
+pub front_taken : (pool : PoolState) → IsReady pool → (o : RecordOperation) → IsReplace o → (links : Links)
+    (old_bytes bytes : List ℕ) (written : Bool) (page len : ℕ) → length bytes ≡ linked_bytes links →
+    linked_bytes links ≤ len →
+    ((r : Record) → HasSuch links (Some r) → value_on pool page (operation_key o) ≡ Some (value_of r) →
+    IsFrontOf links bytes r) →
+    TakesAhead page (Some len) pool
+    (record { operation = o; links = Some links; bytes = old_bytes; written = written })
+    (record { operation = o; links = Some links; bytes = bytes; written = written })
+front_taken pool ready (operations.Replace r) replace links old_bytes bytes written page len size within front = record {
+  is = refl;
+  takes = front_takes (operations.Replace (bucket_at (Found page (Some len)) r)) links old_bytes written page len refl tt
+      pool pool tt bytes (untouched pool ready) size within (λ q honest such value. front q such value);
+}
+front_taken pool ready (operations.Find f) replace links old_bytes bytes written page len size within front =
+    absurd replace
+front_taken pool ready (operations.Insert i) replace links old_bytes bytes written page len size within front =
+    absurd replace
+front_taken pool ready (operations.Delete d) replace links old_bytes bytes written page len size within front =
+    absurd replace
+
+-- ---- it stands on its page
+
+key_at : (place : SearchPlace) (o : RecordOperation) → operation_key (operation_at place o) ≡ operation_key o
+key_at place (operations.Find f) = refl
+key_at place (operations.Insert i) = refl
+key_at place (operations.Replace r) = refl
+key_at place (operations.Delete d) = refl
+
+lent_in : (place : SearchPlace) (stage : InsertStage) (bytes : ℕ) → IsLent bytes stage →
+    IsLent bytes (stage_at place stage)
+lent_in place (First t said) bytes lent = tt
+lent_in place (Second t) bytes lent = lent
+
+lent_at : (place : SearchPlace) (o : RecordOperation) (bytes : ℕ) → MayBeLent bytes o →
+    MayBeLent bytes (operation_at place o)
+lent_at place (operations.Find f) bytes lent = tt
+lent_at place (operations.Insert i) bytes lent = lent_in place i.stage bytes lent
+lent_at place (operations.Replace r) bytes lent = lent
+lent_at place (operations.Delete d) bytes lent = tt
+
+-- and is an access as before
+pub is_access_at : (place : SearchPlace) (key : RecordKey) (len : ℕ) (o o' : RecordOperation) →
+    o' ≡ operation_at place o → IsAccess key len o → IsAccess key len o'
+is_access_at place key len o o' is was =
+    subst (λ (x : RecordOperation). IsAccess key len x) (sym is) (record {
+      key_is = key_at place o ∙ was.key_is;
+      within = was.within;
+      lent = lent_at place o len was.lent;
+    })
+
+-- ---- its lock
+
+module _ (seat : ℕ) (locks : Table) (o : RecordOperation) (none : HasNoLock (operation_locks o))
+    (row : EndsRow (operation_locks o) 3 (row_of locks seat)) where
+  -- the row of its seat is what that had before
+  row_is : row.before ≡ row_of locks seat
+  row_is = sym (row.is ∙ none row.before)
+
+  pub row_bare : HasNoFileLock (row_of locks seat)
+  row_bare = subst HasNoFileLock row_is row.bare
+
+  pub row_room : length (row_of locks seat) + 3 ≤ MAX_LOCKS
+  row_room = subst (λ (r : List Lock). length r + 3 ≤ MAX_LOCKS) row_is row.room
+
+module _ (seat : ℕ) (pool : PoolState) (ready : IsReady pool) (locks locks' : Table) (seated : IsSeat locks seat)
+    (old new : AccessView) (page : ℕ) (found : Option ℕ) (goes : GoesToPage seat page found old.operation pool locks)
+    (row : EndsRow (access_locks old) 3 (row_of locks seat))
+    (granted : locks' ≡ with_lock locks seat (Page page) Selective) where
+  pub reaches : new ≡ record (access_at (Found page found) old) { bytes = new.bytes } →
+      Takes (Ok tt) pool pool (access_at (Found page found) old)
+      (record (access_at (Found page found) old) { bytes = new.bytes }) →
+      ReachesAtOnce seat old new pool locks locks'
+  reaches is takes =
+      let same : operation_at (Found page found) old.operation ≡ new.operation =
+      sym (ap (λ (a : AccessView). a.operation) is) in
+      record {
+        page = page;
+        found = found;
+        is = is;
+        bare = goes.bare;
+        row = granted ∙ ap (with_row locks seat) (sym (goes.holds (row_of locks seat))
+            ∙ ap (λ (o : RecordOperation). operation_locks o (row_of locks seat)) same);
+        goes_on = subst (λ (o : RecordOperation). HasEnded o → ⊥) same goes.goes_on;
+        moves = λ hash. goes_straight seat pool ready locks seated (row_bare seat locks old.operation goes.bare row)
+            (row_room seat locks old.operation goes.bare row) hash old.operation old.links old.bytes new.bytes old.written
+            page found goes.bare tt takes goes.moves;
+      }
