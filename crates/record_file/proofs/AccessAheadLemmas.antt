@@ -209,20 +209,21 @@ module _ (seat : ℕ) (pool : PoolState) (ready : IsReady pool) (locks : Table) 
                 tt,
               )
 
--- as many bytes as are read may be lent to it
-pub lent_to_find : (o : RecordOperation) (bytes : ℕ) → IsFind o → MayBeLent bytes o
-lent_to_find (operations.Find f) bytes find = tt
-lent_to_find (operations.Insert i) bytes find = absurd find
-lent_to_find (operations.Replace r) bytes find = absurd find
-lent_to_find (operations.Delete d) bytes find = absurd find
-
-module _ (seat : ℕ) (pool : PoolState) (ready : IsReady pool) (locks : Table) (seated : IsSeat locks seat)
-    (old new : AccessView) (find : IsFind old.operation) (none : HasNoLock (access_locks old))
-    (row : EndsRow (access_locks old) 3 (row_of locks seat)) where
-  -- the row of its seat is what that had before
+-- the row of a seat whose access has no lock is what that had before
+module _ (seat : ℕ) (locks : Table) (o : RecordOperation) (none : HasNoLock (operation_locks o))
+    (row : EndsRow (operation_locks o) 3 (row_of locks seat)) where
   row_is : row.before ≡ row_of locks seat
   row_is = sym (row.is ∙ none row.before)
 
+  pub row_bare : HasNoFileLock (row_of locks seat)
+  row_bare = subst HasNoFileLock row_is row.bare
+
+  pub row_room : length (row_of locks seat) + 3 ≤ MAX_LOCKS
+  row_room = subst (λ (r : List Lock). length r + 3 ≤ MAX_LOCKS) row_is row.room
+
+module _ (seat : ℕ) (pool : PoolState) (ready : IsReady pool) (locks : Table) (seated : IsSeat locks seat)
+    (old new : AccessView) (find : IsFind old.operation) (bare : HasNoLock (access_locks old))
+    (row : EndsRow (access_locks old) 3 (row_of locks seat)) where
   -- it, at this operation
   abbrev of : RecordOperation → AccessView
   of o = record { operation = o; links = old.links; bytes = old.bytes; written = old.written }
@@ -235,9 +236,9 @@ module _ (seat : ℕ) (pool : PoolState) (ready : IsReady pool) (locks : Table) 
     page = page;
     found = found;
     is = is;
-    bare = none;
+    bare = bare;
     given = subst (λ (a : AccessView). HasNoLock (access_locks a)) (sym is) (free old.operation find);
-    moves = λ hash. by hash old.operation find none ahead moves;
+    moves = λ hash. by hash old.operation find bare ahead moves;
   }
     where
       free : (o : RecordOperation) → IsFind o → HasNoLock (operation_locks (operation_done page found o))
@@ -252,9 +253,9 @@ module _ (seat : ℕ) (pool : PoolState) (ready : IsReady pool) (locks : Table) 
           MovesAlong (AccessStep hash seat) (at (of o) pool locks)
           (find_stops seat page found new.bytes (at (of o) pool locks))
       by hash (operations.Find f) find none ahead moves =
-          finds_straight seat pool ready locks seated (subst HasNoFileLock row_is row.bare)
-          (subst (λ (r : List Lock). length r + 3 ≤ MAX_LOCKS) row_is row.room) hash (operations.Find f) old.links
-          old.bytes new.bytes old.written page found none 0
+          finds_straight seat pool ready locks seated (row_bare seat locks old.operation bare row)
+          (row_room seat locks old.operation bare row) hash (operations.Find f) old.links old.bytes new.bytes old.written
+          page found none 0
           (read_takes f old.links old.bytes new.bytes old.written page pool ready found ahead) moves
       by hash (operations.Insert i) find none ahead moves = absurd find
       by hash (operations.Replace r) find none ahead moves = absurd find

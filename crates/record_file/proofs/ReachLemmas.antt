@@ -19,7 +19,7 @@ use Rattle.record_file.specs.AccessSteps.{SuitsFound, SuitsLength}
 use Rattle.record_file.specs.Accesses.{AccessView, IsAccess, IsFrontOf, IsOfKind, access_locks, links_of}
 use Rattle.record_file.specs.Purposes.{Purpose, ToFind, ToInsert, ToWrite}
 use Rattle.record_file.specs.Readings.{IsReplace, IsTold, SuitsRecord, Takes, WasAllowed, value_on}
-use Rattle.record_file.proofs.AccessAheadLemmas.{goes_straight, untouched}
+use Rattle.record_file.proofs.AccessAheadLemmas.{goes_straight, row_bare, row_room, untouched}
 use Rattle.record_file.proofs.TakingLemmas.{front_takes}
 
 -- ---- what is taken at the Look
@@ -152,18 +152,6 @@ is_access_at place key len o o' is was =
     })
 
 -- ---- its lock
-
-module _ (seat : ℕ) (locks : Table) (o : RecordOperation) (none : HasNoLock (operation_locks o))
-    (row : EndsRow (operation_locks o) 3 (row_of locks seat)) where
-  -- the row of its seat is what that had before
-  row_is : row.before ≡ row_of locks seat
-  row_is = sym (row.is ∙ none row.before)
-
-  pub row_bare : HasNoFileLock (row_of locks seat)
-  row_bare = subst HasNoFileLock row_is row.bare
-
-  pub row_room : length (row_of locks seat) + 3 ≤ MAX_LOCKS
-  row_room = subst (λ (r : List Lock). length r + 3 ≤ MAX_LOCKS) row_is row.room
 
 module _ (seat : ℕ) (pool : PoolState) (ready : IsReady pool) (locks locks' : Table) (seated : IsSeat locks seat)
     (old new : AccessView) (page : ℕ) (found : Option ℕ) (goes : GoesToPage seat page found old.operation pool locks)
