@@ -147,13 +147,19 @@ impl Insert {
         ensures goes { IfSome result (λ there. GoesToPage seat there.0 there.1
             (RecordOperation.Insert self.now) pool.old locks.now) }
     {
-        let InsertStage::First(first, None) = &self.stage else {
+        let InsertStage::First(first, said) = &self.stage else {
             return None;
         };
-        let Some((page, None)) = first.ahead_to_page(pool, locks, seat) else {
+        if said.is_some() {
+            return None;
+        }
+        let Some((page, found)) = first.ahead_to_page(pool, locks, seat) else {
             return None;
         };
-        Some((page, None))
+        match found {
+            None => Some((page, None)),
+            Some(_) => None,
+        }
     }
 
     /// A page that has no record of the key has answered its first try.
