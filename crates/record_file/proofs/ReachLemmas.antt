@@ -158,7 +158,7 @@ module _ (seat : ℕ) (pool : PoolState) (ready : IsReady pool) (locks locks' : 
     (row : EndsRow (access_locks old) 3 (row_of locks seat))
     (granted : locks' ≡ with_lock locks seat (Page page) Selective) where
   pub reaches : new ≡ record (access_at (Found page found) old) { bytes = new.bytes } →
-      Takes (Ok tt) pool pool (access_at (Found page found) old)
+      Takes {X = Unit} (Ok tt) pool pool (access_at (Found page found) old)
       (record (access_at (Found page found) old) { bytes = new.bytes }) →
       ReachesAtOnce seat old new pool locks locks'
   reaches is takes =
