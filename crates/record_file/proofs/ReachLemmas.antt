@@ -22,85 +22,7 @@ use Rattle.record_file.specs.Readings.{IsReplace, IsTold, SuitsRecord, Takes, Wa
 use Rattle.record_file.proofs.AccessAheadLemmas.{goes_straight, row_bare, row_room, untouched}
 use Rattle.record_file.proofs.TakingLemmas.{front_takes}
 
--- ---- what is taken at the Look
-
-module _ (pool : PoolState) (ready : IsReady pool) (links : Option Links) (bytes : List ℕ) (written : Bool) where
-  abbrev of : RecordOperation → AccessView
-  of o = record { operation = o; links = links; bytes = bytes; written = written }
-
-  -- no page answers an insert
-  pub insert_takes : (i : InsertView) (page : ℕ) (found : Option ℕ) →
-      TakesAhead page found pool (of (operations.Insert i)) (of (operations.Insert i))
-  insert_takes i page found = record {
-    is = refl;
-    takes = record {
-      reads = untouched pool ready;
-      cause = tt;
-      operation = refl;
-      written = refl;
-      serves = λ p serves. serves;
-      rests = λ none. (refl, refl);
-      suits = λ fine. tt;
-      tells = λ p stood page' len here serves shown was. absurd cc;
-    };
-  }
-
-  -- a value is replaced by one as long
-  replaces : (r : BucketView) (p : Purpose) (stood : Option Record) → IsOfKind p (operations.Replace r) →
-      links_of p ≡ None → WasAllowed p (of (operations.Replace r)) stood →
-      SuitsRecord p (of (operations.Replace r)) stood × IsTold p (of (operations.Replace r)) stood
-  replaces r (ToFind key) stood kind none was = absurd kind
-  replaces r (ToInsert q) stood kind none was = absurd kind
-  replaces r (ToWrite (Replace q)) stood kind none was = (was, tt)
-  replaces r (ToWrite (Relink key l)) stood kind none was = absurd cc
-  replaces r (ToWrite (Delete key)) stood kind none was = absurd kind
-
-  pub replace_takes : (r : BucketView) (page len : ℕ) → links ≡ None → len ≡ length bytes →
-      TakesAhead page (Some len) pool (of (operations.Replace r)) (of (operations.Replace r))
-  replace_takes r page len none long = record {
-    is = refl;
-    takes = record {
-      reads = untouched pool ready;
-      cause = tt;
-      operation = refl;
-      written = refl;
-      serves = λ p serves. serves;
-      rests = λ unfound. absurd cc;
-      suits = λ fine. subst (λ (l : Option Links). SuitsLength l bytes (Some len)) (sym none)
-          (ap (λ (n : ℕ). Some n) long);
-      tells = λ p stood page' len' here serves shown was.
-          replaces (bucket_at (Found page (Some len)) r) p stood serves.kind (sym serves.links ∙ none) was;
-    };
-  }
-
-  -- what is deleted is there
-  deletes : (d : DeleteView) (p : Purpose) (stood : Option Record) → IsOfKind p (operations.Delete d) →
-      WasAllowed p (of (operations.Delete d)) stood →
-      SuitsRecord p (of (operations.Delete d)) stood × IsTold p (of (operations.Delete d)) stood
-  deletes d (ToFind key) stood kind was = absurd kind
-  deletes d (ToInsert q) stood kind was = absurd kind
-  deletes d (ToWrite (Replace q)) stood kind was = absurd kind
-  deletes d (ToWrite (Relink key l)) stood kind was = absurd kind
-  deletes d (ToWrite (Delete key)) stood kind was = (was, tt)
-
-  pub delete_takes : (d : DeleteView) (page : ℕ) (found : Option ℕ) → IsSome found →
-      TakesAhead page found pool (of (operations.Delete d)) (of (operations.Delete d))
-  delete_takes d page found some = record {
-    is = refl;
-    takes = record {
-      reads = untouched pool ready;
-      cause = tt;
-      operation = refl;
-      written = refl;
-      serves = λ p serves. serves;
-      rests = λ unfound. absurd cc;
-      suits = λ fine unwritten. some;
-      tells = λ p stood page' len' here serves shown was.
-          deletes (record d { removal = bucket_at (Found page found) d.removal }) p stood serves.kind was;
-    };
-  }
-
--- the front that links are set in
+-- the front that links are set in is what a relink takes
 pub front_taken : (pool : PoolState) → IsReady pool → (o : RecordOperation) → IsReplace o → (links : Links)
     (old_bytes bytes : List ℕ) (written : Bool) (page len : ℕ) → length bytes ≡ linked_bytes links →
     linked_bytes links ≤ len →
@@ -120,38 +42,6 @@ front_taken pool ready (operations.Insert i) replace links old_bytes bytes writt
     absurd replace
 front_taken pool ready (operations.Delete d) replace links old_bytes bytes written page len size within front =
     absurd replace
-
--- ---- it stands on its page
-
-key_at : (place : SearchPlace) (o : RecordOperation) → operation_key (operation_at place o) ≡ operation_key o
-key_at place (operations.Find f) = refl
-key_at place (operations.Insert i) = refl
-key_at place (operations.Replace r) = refl
-key_at place (operations.Delete d) = refl
-
-lent_in : (place : SearchPlace) (stage : InsertStage) (bytes : ℕ) → IsLent bytes stage →
-    IsLent bytes (stage_at place stage)
-lent_in place (First t said) bytes lent = tt
-lent_in place (Second t) bytes lent = lent
-
-lent_at : (place : SearchPlace) (o : RecordOperation) (bytes : ℕ) → MayBeLent bytes o →
-    MayBeLent bytes (operation_at place o)
-lent_at place (operations.Find f) bytes lent = tt
-lent_at place (operations.Insert i) bytes lent = lent_in place i.stage bytes lent
-lent_at place (operations.Replace r) bytes lent = lent
-lent_at place (operations.Delete d) bytes lent = tt
-
--- and is an access as before
-pub is_access_at : (place : SearchPlace) (key : RecordKey) (len : ℕ) (o o' : RecordOperation) →
-    o' ≡ operation_at place o → IsAccess key len o → IsAccess key len o'
-is_access_at place key len o o' is was =
-    subst (λ (x : RecordOperation). IsAccess key len x) (sym is) (record {
-      key_is = key_at place o ∙ was.key_is;
-      within = was.within;
-      lent = lent_at place o len was.lent;
-    })
-
--- ---- its lock
 
 module _ (seat : ℕ) (pool : PoolState) (ready : IsReady pool) (locks locks' : Table) (seated : IsSeat locks seat)
     (old new : AccessView) (page : ℕ) (found : Option ℕ) (goes : GoesToPage seat page found old.operation pool locks)
