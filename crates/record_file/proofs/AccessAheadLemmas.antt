@@ -1,6 +1,6 @@
 -- An access that goes straight to the page that answers: each move of its operation is one of its own, and at the Look
 -- it takes what it is for; a find what that page has of its key.
-use Rattle.std.proofs.Common.{◌≡◌, refl, sym, ap, ◌∙◌, subst, ℕ, ◌+◌, ◌≤◌, Bool, true, false, List, [], ◌∷◌, length, Option, Some, None, IsTrue, Ok, arith}
+use Rattle.std.proofs.Common.{◌≡◌, refl, sym, ap, ◌∙◌, subst, ℕ, ◌+◌, ◌≤◌, Bool, true, false, List, [], ◌∷◌, length, Option, Some, None, Ok, arith}
 use Rattle.std.specs.Option.{option_map}
 use Rattle.file_pages.specs.Reads.{OnlyReads}
 use Rattle.page_locks.proofs.ChangeLemmas.{IsSeat-with_row}
@@ -27,7 +27,7 @@ use Rattle.record_file.specs.AccessSteps.{MakesAccess, SuitsFound}
 use Rattle.record_file.specs.Accesses.{AccessView, IsOfKind, IsRecordOf, IsToldIn, access_key, access_locks}
 use Rattle.record_file.specs.Purposes.{Purpose, ToFind, ToInsert, ToWrite, is_write}
 use Rattle.record_file.specs.Readings.{IsTold, SuitsRecord, Takes}
-use Rattle.record_file.specs.AccessWords.{Delete, EndsRow, HasNoFileLock, IsReady, IsSeat, Links, Lock, Look, MayBeLent, Moved, PoolState, Progress, Record, RecordKey, RecordOperation, Relink, Replace, Table, found_of, operation_found, operation_key, operation_locks, row_of, store_of, value_of}
+use Rattle.record_file.specs.AccessWords.{Delete, EndsRow, HasNoFileLock, IsReady, IsSeat, Links, Lock, Look, Moved, PoolState, Progress, Record, RecordKey, RecordOperation, Relink, Replace, Table, found_of, operation_found, operation_key, operation_locks, row_of, store_of, value_of}
 
 -- who only looks at pages in frames leaves the pool
 pub untouched : (pool : PoolState) → IsReady pool → OnlyReads true pool pool
@@ -86,7 +86,8 @@ read_takes : (f : BucketView) (links : Option Links) (bytes bytes' : List ℕ) (
     Takes {X = ℕ} (Ok 0) pool pool (a (bucket_at (places.Found page found) f) links bytes written)
     (a (bucket_at (places.Found page found) f) links bytes' written)
 read_takes f links bytes bytes' written page pool ready None is =
-    subst (λ (read : List ℕ). Takes {X = ℕ} (Ok 0) pool pool (a (bucket_at (places.Found page None) f) links bytes written)
+    subst (λ (read : List ℕ). Takes {X = ℕ} (Ok 0) pool pool
+    (a (bucket_at (places.Found page None) f) links bytes written)
     (a (bucket_at (places.Found page None) f) links read written)) (sym is)
     (none_takes (bucket_at (places.Found page None) f) links bytes written page refl 0 pool ready)
 read_takes f links bytes bytes' written page pool ready (Some len) (long, holds) =
@@ -150,8 +151,9 @@ module _ (seat : ℕ) (pool : PoolState) (ready : IsReady pool) (locks : Table) 
               MakesAccess hash seat (Moved Look) (b (places.Look page) bytes) (b (places.Found page found) bytes') pool
               pool t t'
           looks t t' op =
-              took hash seat (Moved Look) (b (places.Look page) bytes) (b (places.Found page found) bytes).operation pool
-              pool pool t t' op refl (none_at_look o page) (b (places.Found page found) bytes') (Ok x) takes refl refl
+              took hash seat (Moved Look) (b (places.Look page) bytes) (b (places.Found page found) bytes).operation
+              pool pool pool t t' op refl (none_at_look o page) (b (places.Found page found) bytes') (Ok x) takes refl
+              refl
 
           pub goes_straight :
               MovesAlong (OperationStep seat) (at o pool locks) (operation_way seat page found (at o pool locks)) →
@@ -171,8 +173,8 @@ module _ (seat : ℕ) (pool : PoolState) (ready : IsReady pool) (locks : Table) 
               (
                 record {
                   may = may_at (b (places.ReadEntry (store_of pool.images).header.depth) bytes);
-                  makes = quiet kinds.ReadEntry (b (places.ReadEntry (store_of pool.images).header.depth) bytes) _ _ _ refl
-                      (λ same. absurd cc) (told_entry hash bytes);
+                  makes = quiet kinds.ReadEntry (b (places.ReadEntry (store_of pool.images).header.depth) bytes) _ _ _
+                      refl (λ same. absurd cc) (told_entry hash bytes);
                 },
                 (
                   record {
@@ -183,8 +185,8 @@ module _ (seat : ℕ) (pool : PoolState) (ready : IsReady pool) (locks : Table) 
                   (
                     record {
                       may = may_at (b (places.ReleaseDirectory page) bytes);
-                      makes = quiet kinds.Release (b (places.ReleaseDirectory page) bytes) _ _ _ refl (λ same. absurd cc)
-                          (left hash bytes);
+                      makes = quiet kinds.Release (b (places.ReleaseDirectory page) bytes) _ _ _ refl
+                          (λ same. absurd cc) (left hash bytes);
                     },
                     (record { may = may_at (b (places.Look page) bytes); makes = looks _ _ (looked hash bytes) }, tt),
                   ),
@@ -199,8 +201,7 @@ module _ (seat : ℕ) (pool : PoolState) (ready : IsReady pool) (locks : Table) 
           finds_straight (entered, (told_depth, (told_entry, (held, (left, (looked, (given, end))))))) =
               joined (AccessStep hash seat) (at c pool locks) (write_stops seat page found bytes' (at c pool locks))
               (stop kinds.Release (at (access_done page found bytes' c) pool locks) ∷ [])
-              (goes_straight (entered, (told_depth, (told_entry, (held, (left, (looked, tt)))))))
-              (
+              (goes_straight (entered, (told_depth, (told_entry, (held, (left, (looked, tt))))))) (
                 record {
                   may = may_at (b (places.Found page found) bytes');
                   makes = quiet kinds.Release (b (places.Found page found) bytes') _ _ _ refl (λ same. absurd cc)
@@ -254,8 +255,8 @@ module _ (seat : ℕ) (pool : PoolState) (ready : IsReady pool) (locks : Table) 
           (find_stops seat page found new.bytes (at (of o) pool locks))
       by hash (operations.Find f) find none ahead moves =
           finds_straight seat pool ready locks seated (row_bare seat locks old.operation bare row)
-          (row_room seat locks old.operation bare row) hash (operations.Find f) old.links old.bytes new.bytes old.written
-          page found none 0
+          (row_room seat locks old.operation bare row) hash (operations.Find f) old.links old.bytes new.bytes
+          old.written page found none 0
           (read_takes f old.links old.bytes new.bytes old.written page pool ready found ahead) moves
       by hash (operations.Insert i) find none ahead moves = absurd find
       by hash (operations.Replace r) find none ahead moves = absurd find

@@ -3,7 +3,6 @@
 use Rattle.std.proofs.Common.{◌≡◌, refl, sym, ap, ◌∙◌, subst, ℕ, false, List, [], ◌∷◌, Option, Some, None, IfSome, IsSome}
 use Rattle.split_merge.proofs.MoveLemmas.{nothing_read}
 use Rattle.split_merge.specs.buffer_pool.Pool.{PoolState}
-use Rattle.split_merge.specs.file_pages.declared.fault.FileFault.{FileFault}
 use Rattle.split_merge.specs.stale_search.SearchRuns.{At, HasNoLock, SearchStep, at, search_at, search_stops, way_to}
 use Rattle.split_merge.specs.stale_search.declared.place.SearchPlace.{SearchPlace}
 use Rattle.split_merge.specs.stale_search.declared.place.SearchPlace.TheVariants.{Found, GrantPage, Look, ReadDepth, ReadEntry, ReleaseDirectory}
@@ -50,21 +49,21 @@ pub along_way : {S T F : Type 0} (A : Progress F → S → S → Type 0) (B : Pr
     MovesAlong B (whole old) (stops_in (λ (place : SearchPlace). whole (state place)) (way_to depth page found))
 along_way A B whole old state depth page found first each
     (entered, (told_depth, (told_entry, (held, (left, (looked, end)))))) = (
-  first kinds.Grant (state ReadDepth) entered,
-  (
-    each ReadDepth refl kinds.ReadDepth (state (ReadEntry depth)) told_depth,
-    (
-      each (ReadEntry depth) refl kinds.ReadEntry (state (GrantPage page)) told_entry,
+      first kinds.Grant (state ReadDepth) entered,
       (
-        each (GrantPage page) refl kinds.Grant (state (ReleaseDirectory page)) held,
+        each ReadDepth refl kinds.ReadDepth (state (ReadEntry depth)) told_depth,
         (
-          each (ReleaseDirectory page) refl kinds.Release (state (Look page)) left,
-          (each (Look page) refl kinds.Look (state (Found page found)) looked, tt),
+          each (ReadEntry depth) refl kinds.ReadEntry (state (GrantPage page)) told_entry,
+          (
+            each (GrantPage page) refl kinds.Grant (state (ReleaseDirectory page)) held,
+            (
+              each (ReleaseDirectory page) refl kinds.Release (state (Look page)) left,
+              (each (Look page) refl kinds.Look (state (Found page found)) looked, tt),
+            ),
+          ),
         ),
       ),
-    ),
-  ),
-)
+    )
 
 -- where its page answers a deed that writes holds it Selective
 pub holds_selective : (b : BucketView) (page : ℕ) (found : Option ℕ) → b.stage ≡ Searching →

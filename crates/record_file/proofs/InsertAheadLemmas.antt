@@ -1,5 +1,5 @@
 -- A first try that goes straight to a page without a record of its key: each of its moves is one of the insert.
-use Rattle.std.proofs.Common.{◌≡◌, refl, sym, ap, ◌∙◌, ℕ, Option, None}
+use Rattle.std.proofs.Common.{◌≡◌, refl, sym, ap, ◌∙◌, ℕ, None}
 use Rattle.std.proofs.lemmas.Bool.{true≢false}
 use Rattle.record_file.specs.stale_search.SearchRuns.{At, HasNoLock, at, standing}
 use Rattle.record_file.specs.stale_search.declared.place.SearchPlace.{SearchPlace}
@@ -57,7 +57,7 @@ module _ (seat : ℕ) (key : RecordKey) (k : ℕ) where
           (λ (place : SearchPlace). standing bucket_locks seat pool locks (bucket_at place t))
           (store_of pool.images).header.depth page None
           (λ kind new made. move_of_try kind (at t pool locks) new inv made)
-          (λ place unseen kind new made. move_of_try kind (standing bucket_locks seat pool locks (bucket_at place t)) new
-          (still_first place unseen) made)
+          (λ place unseen kind new made. move_of_try kind
+          (standing bucket_locks seat pool locks (bucket_at place t)) new (still_first place unseen) made)
           moves;
     }

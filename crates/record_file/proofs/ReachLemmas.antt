@@ -1,24 +1,16 @@
 -- A write that goes straight to the page that answers: what it takes there, and its lock on that page.
-use Rattle.std.proofs.Common.{◌≡◌, refl, sym, ap, ◌∙◌, subst, ℕ, ◌+◌, ◌<◌, ◌≤◌, Bool, false, List, length, Option, Some, None, IsSome, Ok, arith}
-use Rattle.page_locks.specs.Table.{held, with_lock}
-use Rattle.page_locks.specs.declared.row.TheConstants.{MAX_LOCKS}
-use Rattle.record_file.specs.stale_search.SearchRuns.{HasNoLock}
-use Rattle.record_file.specs.stale_search.declared.place.SearchPlace.{SearchPlace}
+use Rattle.std.proofs.Common.{◌≡◌, refl, sym, ap, ◌∙◌, subst, ℕ, ◌≤◌, Bool, List, length, Option, Some, Ok}
+use Rattle.page_locks.specs.Table.{with_lock}
 use Rattle.record_file.specs.stale_search.declared.place.SearchPlace.TheVariants.{Found}
-use Rattle.record_file.specs.declared.insert.InsertStage.{InsertStage}
-use Rattle.record_file.specs.declared.insert.InsertStage.TheVariants.{First, Second}
 use Rattle.record_file.specs.declared.operation.RecordOperation.TheVariants as operations
 use Rattle.record_file.specs.BucketRuns.{bucket_at}
-use Rattle.record_file.specs.Inserts.{IsLent}
-use Rattle.record_file.specs.OperationRuns.{GoesToPage, operation_at, stage_at}
-use Rattle.record_file.specs.OperationWords.{BucketView, DeleteView, InsertView, Selective, with_row}
-use Rattle.record_file.specs.Words.{Page, on_page}
-use Rattle.record_file.specs.AccessWords.{Delete, EndsRow, HasEnded, HasNoFileLock, HasSuch, IsReady, IsSeat, Links, Lock, MayBeLent, PoolState, Record, RecordKey, RecordOperation, Relink, Replace, Table, found_of, linked_bytes, operation_key, operation_locks, row_of, value_of}
+use Rattle.record_file.specs.OperationRuns.{GoesToPage, operation_at}
+use Rattle.record_file.specs.OperationWords.{Selective, with_row}
+use Rattle.record_file.specs.Words.{Page}
+use Rattle.record_file.specs.AccessWords.{EndsRow, HasEnded, HasSuch, IsReady, IsSeat, Links, PoolState, Record, RecordOperation, Table, linked_bytes, operation_key, operation_locks, row_of, value_of}
 use Rattle.record_file.specs.AccessRuns.{ReachesAtOnce, TakesAhead, access_at}
-use Rattle.record_file.specs.AccessSteps.{SuitsFound, SuitsLength}
-use Rattle.record_file.specs.Accesses.{AccessView, IsAccess, IsFrontOf, IsOfKind, access_locks, links_of}
-use Rattle.record_file.specs.Purposes.{Purpose, ToFind, ToInsert, ToWrite}
-use Rattle.record_file.specs.Readings.{IsReplace, IsTold, SuitsRecord, Takes, WasAllowed, value_on}
+use Rattle.record_file.specs.Accesses.{AccessView, IsFrontOf, access_locks}
+use Rattle.record_file.specs.Readings.{IsReplace, Takes, value_on}
 use Rattle.record_file.proofs.AccessAheadLemmas.{goes_straight, row_bare, row_room, untouched}
 use Rattle.record_file.proofs.TakingLemmas.{front_takes}
 
@@ -31,11 +23,13 @@ pub front_taken : (pool : PoolState) → IsReady pool → (o : RecordOperation) 
     TakesAhead page (Some len) pool
     (record { operation = o; links = Some links; bytes = old_bytes; written = written })
     (record { operation = o; links = Some links; bytes = bytes; written = written })
-front_taken pool ready (operations.Replace r) replace links old_bytes bytes written page len size within front = record {
-  is = refl;
-  takes = front_takes (operations.Replace (bucket_at (Found page (Some len)) r)) links old_bytes written page len refl tt
-      pool pool tt bytes (untouched pool ready) size within (λ q honest such value. front q such value);
-}
+front_taken pool ready (operations.Replace r) replace links old_bytes bytes written page len size within front =
+    let o : RecordOperation = operations.Replace (bucket_at (Found page (Some len)) r) in
+    record {
+      is = refl;
+      takes = front_takes o links old_bytes written page len refl tt pool pool tt bytes (untouched pool ready) size within
+          (λ q honest such value. front q such value);
+    }
 front_taken pool ready (operations.Find f) replace links old_bytes bytes written page len size within front =
     absurd replace
 front_taken pool ready (operations.Insert i) replace links old_bytes bytes written page len size within front =
@@ -63,6 +57,6 @@ module _ (seat : ℕ) (pool : PoolState) (ready : IsReady pool) (locks locks' : 
             ∙ ap (λ (o : RecordOperation). operation_locks o (row_of locks seat)) same);
         goes_on = subst (λ (o : RecordOperation). HasEnded o → ⊥) same goes.goes_on;
         moves = λ hash. goes_straight seat pool ready locks seated (row_bare seat locks old.operation goes.bare row)
-            (row_room seat locks old.operation goes.bare row) hash old.operation old.links old.bytes new.bytes old.written
-            page found goes.bare tt takes goes.moves;
+            (row_room seat locks old.operation goes.bare row) hash old.operation old.links old.bytes new.bytes
+            old.written page found goes.bare tt takes goes.moves;
       }

@@ -66,15 +66,15 @@ module _ (r r' : BucketView) (m : MergeView) (none : ended_in r.stage ≡ None) 
     sees_removal = subst (λ (facts : List Known). Sees hash seat facts pool locks change)
         (in_removal (bucket_facts deeds.Remove r) [] (merge_facts m) r.stage none) sees
 
-    pub removal_nears : Nears did (delete_left old (store_of pool.images)) (delete_left new (store_of pool'.images)) pool
-        pool'
+    pub removal_nears :
+        Nears did (delete_left old (store_of pool.images)) (delete_left new (store_of pool'.images)) pool pool'
     removal_nears =
         let s : Store = store_of pool.images in
         let t : Store = store_of pool'.images in
         let left : ℕ = bucket_left deeds.Remove r s + merge_left m s in
         let left' : ℕ = bucket_left deeds.Remove r' t + merge_left m t in
-        let near = nears_on did (merge_left m s) (bucket_left deeds.Remove r s) (bucket_left deeds.Remove r' t) pool pool'
-        (made.progress hash change tt sees_removal) in
+        let near = nears_on did (merge_left m s) (bucket_left deeds.Remove r s) (bucket_left deeds.Remove r' t) pool
+        pool' (made.progress hash change tt sees_removal) in
         let near' = subst (λ (n : ℕ). Nears did left (bucket_left deeds.Remove r' t + n) pool pool')
         (begun_left m begun s t) near in
         subst (λ (n : ℕ). Nears did n (part r'.stage left' 0 (merge_left m t)) pool pool')
@@ -90,7 +90,8 @@ module _ (r r' : BucketView) (m : MergeView) (none : ended_in r.stage ≡ None) 
         (row ∙ in_removal (bucket_locks r before) before (merge_locks m before) r.stage none) tt sees_removal fine in
         let removing : Option Ask → Turn =
         λ (ask : Option Ask). record { ask = ask; write = Some (Remove r.search.key) } in
-        subst (λ (ask : Option Ask). Step hash seat (removing ask) did (delete_facts new) pool pool' locks locks' change)
+        subst (λ (ask : Option Ask).
+        Step hash seat (removing ask) did (delete_facts new) pool pool' locks locks' change)
         (sym (in_removal (ask_in r.stage r.search) None (merge_turn m).ask r.stage none))
         (subst (λ (facts : List Known). Step hash seat (removing (ask_in r.stage r.search)) did facts pool pool' locks
         locks' change) (passed_facts m begun r'.stage r'.search) done)

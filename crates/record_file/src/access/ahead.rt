@@ -58,8 +58,7 @@ impl Access {
         let Some((page, found)) = self.operation.ahead_to_page(pool, locks, seat) else {
             return false;
         };
-        let Grant::Granted = locks.try_grant(seat, LockName::Page(page), LockKind::Selective)
-        else {
+        let Grant::Granted = locks.try_grant(seat, LockName::Page(page), LockKind::Selective) else {
             return false;
         };
         if !self.take_ahead(pool, page, found) {
@@ -89,8 +88,8 @@ impl Access {
         }
     }
 
-    /// Takes the front of the value that links are set in, where one of this length stands there and
-    /// has that front.
+    /// Takes the front of the value that links are set in, where one of this length stands there
+    /// and has that front.
     fn front_ahead<D: PageDevice>(
         &mut self,
         pool: &Pool<D>,

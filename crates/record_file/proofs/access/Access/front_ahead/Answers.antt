@@ -1,9 +1,9 @@
 -- The front of the value, with the links set in it, is what is taken.
-use Rattle.std.proofs.Common.{◌≡◌, sym, ap, ◌∙◌, ℕ, List, ◌++◌, length, take, Some, arith}
+use Rattle.std.proofs.Common.{◌≡◌, sym, ap, ◌∙◌, length, take, arith}
 use Rattle.std.proofs.lemmas.List.{length-take-le, take_at}
 use Rattle.record_file.proofs.ReadLemmas.{front_set, some_of}
 use Rattle.record_file.proofs.ReachLemmas.{front_taken}
-use Rattle.record_file.specs.AccessWords.{operation_key, value_of}
+use Rattle.record_file.specs.AccessWords.{value_of}
 use Rattle.record_file.specs.Readings.{value_on}
 use Rattle.record_file.proofs.access.Access.front_ahead.Goals as goal
 

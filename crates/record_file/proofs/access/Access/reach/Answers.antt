@@ -15,8 +15,7 @@ use Rattle.record_file.proofs.access.Access.reach.Goals as goal
 
 pub returns-then-not-take_ahead-clause-spares : goal.returns-then-not-take_ahead-clause-spares
 returns-then-not-take_ahead-clause-spares g c = λ refused.
-    let none = subst (λ (v : AccessView). HasNoLock (access_locks v)) c.self.view_is c.in-Some.ensures.goes.bare in
-    (
+    let none = subst (λ (v : AccessView). HasNoLock (access_locks v)) c.self.view_is c.in-Some.ensures.goes.bare in (
       c.take_ahead.ensures.spares c.if-not-take_ahead.true,
       c.release.ensures
           ∙ ap (λ (t : Table). without_lock t c.args.seat (Page c.in-Some.page)) c.in-Granted.ensures.ok

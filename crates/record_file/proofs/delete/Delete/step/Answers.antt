@@ -1,15 +1,13 @@
 -- The removal goes on, or the merge behind it.
-use Rattle.std.proofs.Common.{◌≡◌, refl, sym, ap, ◌∙◌, subst, ℕ, ◌+◌, Bool, true, false, List, [], Option, Some, None, inl, arith}
+use Rattle.std.proofs.Common.{refl, sym, ap, ◌∙◌, subst, ℕ, ◌+◌, Bool, true, List, [], Some, inl}
 use Rattle.split_merge.specs.Places.{merge_locks}
-use Rattle.split_merge.specs.Facts.{merge_facts, merge_turn, steps_left as merge_left}
-use Rattle.step_rules.specs.Turns.{Ask}
-use Rattle.record_file.specs.Words.{Remove, Known, Turn, Nears, Sees, Step, with_row, store_of}
+use Rattle.split_merge.specs.Facts.{merge_facts, steps_left as merge_left}
+use Rattle.record_file.specs.Words.{Known, Nears, Sees, store_of}
 use Rattle.record_file.specs.Deletes.{part}
-use Rattle.split_merge.proofs.of_stale_search.StayLemmas.{Stays-of}
-use Rattle.record_file.specs.BucketAccesses.{BucketView, ask_in, bucket_facts, bucket_left, bucket_locks, found_of}
+use Rattle.record_file.specs.BucketAccesses.{bucket_facts, bucket_left, bucket_locks}
 use Rattle.record_file.specs.declared.bucket_access.Deed.TheVariants as deeds
 use Rattle.record_file.proofs.StepLemmas.{fault_spares}
-use Rattle.record_file.proofs.PartLemmas.{in_merge, in_removal, merges_on, still_begun, turned_before}
+use Rattle.record_file.proofs.PartLemmas.{in_merge, merges_on, still_begun, turned_before}
 use Rattle.record_file.proofs.RemovalLemmas.{ends_with_removal, removal_aim, removal_nears, removal_row, removal_steps, removal_tells}
 use Rattle.record_file.proofs.delete.Delete.step.Goals as goal
 
