@@ -1,35 +1,36 @@
--- A find that goes straight to the page that answers: each move of its operation is one of its own, and at the Look it
--- takes what that page has of its key.
-use Rattle.std.proofs.Common.{◌≡◌, refl, sym, ap, ◌∙◌, subst, ℕ, ◌+◌, ◌≤◌, Bool, true, false, List, length, Option, Some, None, IsTrue, Ok, arith}
+-- An access that goes straight to the page that answers: each move of its operation is one of its own, and at the Look
+-- it takes what it is for; a find what that page has of its key.
+use Rattle.std.proofs.Common.{◌≡◌, refl, sym, ap, ◌∙◌, subst, ℕ, ◌+◌, ◌≤◌, Bool, true, false, List, [], ◌∷◌, length, Option, Some, None, Ok, arith}
 use Rattle.std.specs.Option.{option_map}
 use Rattle.file_pages.specs.Reads.{OnlyReads}
 use Rattle.page_locks.proofs.ChangeLemmas.{IsSeat-with_row}
 use Rattle.page_locks.proofs.TableLemmas.{row_of-same}
 use Rattle.page_locks.specs.declared.row.TheConstants.{MAX_LOCKS}
-use Rattle.record_file.specs.OperationRuns.{IsFind, OperationStep, operation_done, operation_stops}
+use Rattle.record_file.specs.OperationRuns.{IsFind, OperationStep, operation_at, operation_done, operation_stops, operation_way}
 use Rattle.record_file.specs.declared.operation.RecordOperation.TheVariants as operations
 use Rattle.record_file.specs.BucketAccesses.{BucketView}
 use Rattle.record_file.specs.BucketRuns.{bucket_at}
 use Rattle.record_file.specs.stale_search.SearchRuns.{HasNoLock, at, standing}
 use Rattle.record_file.specs.stale_search.declared.place.SearchPlace.{SearchPlace}
 use Rattle.record_file.specs.stale_search.declared.place.SearchPlace.TheVariants as places
-use Rattle.record_file.specs.step_rules.Runs.{MovesAlong}
+use Rattle.record_file.specs.step_rules.Runs.{MovesAlong, stop}
 use Rattle.record_file.specs.step_rules.declared.kind.Kind.{Kind}
 use Rattle.record_file.specs.step_rules.declared.kind.Kind.TheVariants as kinds
 use Rattle.record_file.proofs.AccessAimLemmas.{same_parts}
 use Rattle.record_file.proofs.AccessNames.{FileFault, MakesOperation}
 use Rattle.record_file.proofs.AccessStepLemmas.{makes_other}
+use Rattle.record_file.proofs.of_step_rules.RunLemmas.{joined}
 use Rattle.record_file.proofs.TakeLemmas.{took}
 use Rattle.record_file.proofs.TakingLemmas.{value_takes}
-use Rattle.record_file.specs.AccessRuns.{AccessStep, AreRead, FindsAtOnce, MayAccess, access_at, access_done, find_stops}
+use Rattle.record_file.specs.AccessRuns.{AccessStep, AreRead, FindsAtOnce, MayAccess, access_at, access_done, find_stops, write_stops}
 use Rattle.record_file.specs.AccessSteps.{MakesAccess, SuitsFound}
 use Rattle.record_file.specs.Accesses.{AccessView, IsOfKind, IsRecordOf, IsToldIn, access_key, access_locks}
 use Rattle.record_file.specs.Purposes.{Purpose, ToFind, ToInsert, ToWrite, is_write}
 use Rattle.record_file.specs.Readings.{IsTold, SuitsRecord, Takes}
-use Rattle.record_file.specs.AccessWords.{Delete, EndsRow, HasNoFileLock, IsReady, IsSeat, Links, Lock, Look, MayBeLent, Moved, PoolState, Progress, Record, RecordKey, RecordOperation, Relink, Replace, Table, found_of, operation_key, operation_locks, row_of, store_of, value_of}
+use Rattle.record_file.specs.AccessWords.{Delete, EndsRow, HasNoFileLock, IsReady, IsSeat, Links, Lock, Look, Moved, PoolState, Progress, Record, RecordKey, RecordOperation, Relink, Replace, Table, found_of, operation_found, operation_key, operation_locks, row_of, store_of, value_of}
 
 -- who only looks at pages in frames leaves the pool
-untouched : (pool : PoolState) → IsReady pool → OnlyReads true pool pool
+pub untouched : (pool : PoolState) → IsReady pool → OnlyReads true pool pool
 untouched pool ready = record {
   ready = ready;
   honest = refl;
@@ -79,7 +80,28 @@ module _ (f : BucketView) (links : Option Links) (bytes : List ℕ) (written : B
           (none_stands found (parts.1 ∙ shown.length_is ∙ ap (option_map length) shown.holds));
     }
 
+-- what is read ahead is taken
+read_takes : (f : BucketView) (links : Option Links) (bytes bytes' : List ℕ) (written : Bool) (page : ℕ)
+    (pool : PoolState) → IsReady pool → (found : Option ℕ) → AreRead found page f.search.key pool bytes bytes' →
+    Takes {X = ℕ} (Ok 0) pool pool (a (bucket_at (places.Found page found) f) links bytes written)
+    (a (bucket_at (places.Found page found) f) links bytes' written)
+read_takes f links bytes bytes' written page pool ready None is =
+    subst (λ (read : List ℕ). Takes {X = ℕ} (Ok 0) pool pool
+    (a (bucket_at (places.Found page None) f) links bytes written)
+    (a (bucket_at (places.Found page None) f) links read written)) (sym is)
+    (none_takes (bucket_at (places.Found page None) f) links bytes written page refl 0 pool ready)
+read_takes f links bytes bytes' written page pool ready (Some len) (long, holds) =
+    value_takes (operations.Find (bucket_at (places.Found page (Some len)) f)) links bytes bytes' written page len
+    refl pool pool 0 (untouched pool ready) long (λ honest. holds)
+
 -- ---- its moves
+
+-- before it no page has answered
+none_at_look : (o : RecordOperation) (page : ℕ) → operation_found (operation_at (places.Look page) o) ≡ None
+none_at_look (operations.Find f) page = refl
+none_at_look (operations.Insert i) page = refl
+none_at_look (operations.Replace r) page = refl
+none_at_look (operations.Delete d) page = refl
 
 module _ (seat : ℕ) (pool : PoolState) (ready : IsReady pool) (locks : Table) (seated : IsSeat locks seat)
     (bare : HasNoFileLock (row_of locks seat)) (room : length (row_of locks seat) + 3 ≤ MAX_LOCKS) (hash : RecordKey → ℕ)
@@ -111,95 +133,98 @@ module _ (seat : ℕ) (pool : PoolState) (ready : IsReady pool) (locks : Table) 
     quiet kind b o' t t' unwritten other op =
         makes_other hash seat (Moved kind) b o' pool pool t t' op unwritten (λ looked none. absurd (other looked))
 
-    module _ (f : BucketView) (links : Option Links) (bytes bytes' : List ℕ) (written : Bool) (page : ℕ)
-        (none : HasNoLock (operation_locks (operations.Find f))) where
-      -- the access of a find, whose search is at a place, and that has read these bytes
+    module _ (o : RecordOperation) (links : Option Links) (bytes bytes' : List ℕ) (written : Bool) (page : ℕ)
+        (found : Option ℕ) (none : HasNoLock (operation_locks o)) where
+      -- the access of this operation
+      abbrev c : AccessView
+      c = record { operation = o; links = links; bytes = bytes; written = written }
+
+      -- it, where its search is at a place, and that has these bytes
       abbrev b : SearchPlace → List ℕ → AccessView
-      b place read = record (access_at place (a f links read written)) { bytes = read }
+      b place read = record (access_at place c) { bytes = read }
 
-      read_takes : (found : Option ℕ) → AreRead found page f.search.key pool bytes bytes' →
-          Takes {X = ℕ} (Ok 0) pool pool (b (places.Found page found) bytes) (b (places.Found page found) bytes')
-      read_takes None is =
-          subst (λ (read : List ℕ). Takes {X = ℕ} (Ok 0) pool pool (b (places.Found page None) bytes)
-          (b (places.Found page None) read)) (sym is)
-          (none_takes (bucket_at (places.Found page None) f) links bytes written page refl 0 pool ready)
-      read_takes (Some len) (long, holds) =
-          value_takes (operations.Find (bucket_at (places.Found page (Some len)) f)) links bytes bytes' written page len
-          refl pool pool 0 (untouched pool ready) long (λ honest. holds)
+      module _ {X : Type 0} (x : X)
+          (takes : Takes (Ok x) pool pool (b (places.Found page found) bytes) (b (places.Found page found) bytes'))
+        where
+          looks : (t t' : Table) → MakesOperation hash seat bytes (Moved Look) (b (places.Look page) bytes).operation
+              (b (places.Found page found) bytes).operation pool pool t t' →
+              MakesAccess hash seat (Moved Look) (b (places.Look page) bytes) (b (places.Found page found) bytes') pool
+              pool t t'
+          looks t t' op =
+              took hash seat (Moved Look) (b (places.Look page) bytes) (b (places.Found page found) bytes).operation
+              pool pool pool t t' op refl (none_at_look o page) (b (places.Found page found) bytes') (Ok x) takes refl
+              refl
 
-      looks : (found : Option ℕ) (t t' : Table) → AreRead found page f.search.key pool bytes bytes' →
-          MakesOperation hash seat bytes (Moved Look) (b (places.Look page) bytes).operation
-          (b (places.Found page found) bytes).operation pool pool t t' →
-          MakesAccess hash seat (Moved Look) (b (places.Look page) bytes) (b (places.Found page found) bytes') pool pool
-          t t'
-      looks found t t' ahead op =
-          took {X = ℕ} hash seat (Moved Look) (b (places.Look page) bytes) (b (places.Found page found) bytes).operation
-          pool pool pool t t' op refl refl (b (places.Found page found) bytes') (Ok 0) (read_takes found ahead) refl refl
-
-      finds_straight : (found : Option ℕ) → AreRead found page f.search.key pool bytes bytes' →
-          MovesAlong (OperationStep seat) (at (operations.Find f) pool locks)
-          (operation_stops seat page found (at (operations.Find f) pool locks)) →
-          MovesAlong (AccessStep hash seat) (at (a f links bytes written) pool locks)
-          (find_stops seat page found bytes' (at (a f links bytes written) pool locks))
-      finds_straight found ahead (entered, (told_depth, (told_entry, (held, (left, (looked, (given, end))))))) = (
-        record {
-          may = may_begin (a f links bytes written) none;
-          makes = quiet kinds.Grant (a f links bytes written) _ _ _ refl (λ same. absurd cc) (entered hash bytes);
-        },
-        (
-          record {
-            may = may_at (b places.ReadDepth bytes);
-            makes = quiet kinds.ReadDepth (b places.ReadDepth bytes) _ _ _ refl (λ same. absurd cc)
-                (told_depth hash bytes);
-          },
-          (
+          pub goes_straight :
+              MovesAlong (OperationStep seat) (at o pool locks) (operation_way seat page found (at o pool locks)) →
+              MovesAlong (AccessStep hash seat) (at c pool locks)
+              (write_stops seat page found bytes' (at c pool locks))
+          goes_straight (entered, (told_depth, (told_entry, (held, (left, (looked, end)))))) = (
             record {
-              may = may_at (b (places.ReadEntry (store_of pool.images).header.depth) bytes);
-              makes = quiet kinds.ReadEntry (b (places.ReadEntry (store_of pool.images).header.depth) bytes) _ _ _ refl
-                  (λ same. absurd cc) (told_entry hash bytes);
+              may = may_begin c none;
+              makes = quiet kinds.Grant c _ _ _ refl (λ same. absurd cc) (entered hash bytes);
             },
             (
               record {
-                may = may_at (b (places.GrantPage page) bytes);
-                makes = quiet kinds.Grant (b (places.GrantPage page) bytes) _ _ _ refl (λ same. absurd cc) (held hash bytes);
+                may = may_at (b places.ReadDepth bytes);
+                makes = quiet kinds.ReadDepth (b places.ReadDepth bytes) _ _ _ refl (λ same. absurd cc)
+                    (told_depth hash bytes);
               },
               (
                 record {
-                  may = may_at (b (places.ReleaseDirectory page) bytes);
-                  makes = quiet kinds.Release (b (places.ReleaseDirectory page) bytes) _ _ _ refl (λ same. absurd cc)
-                      (left hash bytes);
+                  may = may_at (b (places.ReadEntry (store_of pool.images).header.depth) bytes);
+                  makes = quiet kinds.ReadEntry (b (places.ReadEntry (store_of pool.images).header.depth) bytes) _ _ _
+                      refl (λ same. absurd cc) (told_entry hash bytes);
                 },
                 (
-                  record { may = may_at (b (places.Look page) bytes); makes = looks found _ _ ahead (looked hash bytes) },
+                  record {
+                    may = may_at (b (places.GrantPage page) bytes);
+                    makes = quiet kinds.Grant (b (places.GrantPage page) bytes) _ _ _ refl (λ same. absurd cc)
+                        (held hash bytes);
+                  },
                   (
                     record {
-                      may = may_at (b (places.Found page found) bytes');
-                      makes = quiet kinds.Release (b (places.Found page found) bytes') _ _ _ refl (λ same. absurd cc)
-                          (given hash bytes');
+                      may = may_at (b (places.ReleaseDirectory page) bytes);
+                      makes = quiet kinds.Release (b (places.ReleaseDirectory page) bytes) _ _ _ refl
+                          (λ same. absurd cc) (left hash bytes);
                     },
-                    tt,
+                    (record { may = may_at (b (places.Look page) bytes); makes = looks _ _ (looked hash bytes) }, tt),
                   ),
                 ),
               ),
             ),
-          ),
-        ),
-      )
+          )
 
--- as many bytes as are read may be lent to it
-pub lent_to_find : (o : RecordOperation) (bytes : ℕ) → IsFind o → MayBeLent bytes o
-lent_to_find (operations.Find f) bytes find = tt
-lent_to_find (operations.Insert i) bytes find = absurd find
-lent_to_find (operations.Replace r) bytes find = absurd find
-lent_to_find (operations.Delete d) bytes find = absurd find
+          finds_straight :
+              MovesAlong (OperationStep seat) (at o pool locks) (operation_stops seat page found (at o pool locks)) →
+              MovesAlong (AccessStep hash seat) (at c pool locks) (find_stops seat page found bytes' (at c pool locks))
+          finds_straight (entered, (told_depth, (told_entry, (held, (left, (looked, (given, end))))))) =
+              joined (AccessStep hash seat) (at c pool locks) (write_stops seat page found bytes' (at c pool locks))
+              (stop kinds.Release (at (access_done page found bytes' c) pool locks) ∷ [])
+              (goes_straight (entered, (told_depth, (told_entry, (held, (left, (looked, tt))))))) (
+                record {
+                  may = may_at (b (places.Found page found) bytes');
+                  makes = quiet kinds.Release (b (places.Found page found) bytes') _ _ _ refl (λ same. absurd cc)
+                      (given hash bytes');
+                },
+                tt,
+              )
 
-module _ (seat : ℕ) (pool : PoolState) (ready : IsReady pool) (locks : Table) (seated : IsSeat locks seat)
-    (old new : AccessView) (find : IsFind old.operation) (none : HasNoLock (access_locks old))
-    (row : EndsRow (access_locks old) 3 (row_of locks seat)) where
-  -- the row of its seat is what that had before
+-- the row of a seat whose access has no lock is what that had before
+module _ (seat : ℕ) (locks : Table) (o : RecordOperation) (none : HasNoLock (operation_locks o))
+    (row : EndsRow (operation_locks o) 3 (row_of locks seat)) where
   row_is : row.before ≡ row_of locks seat
   row_is = sym (row.is ∙ none row.before)
 
+  pub row_bare : HasNoFileLock (row_of locks seat)
+  row_bare = subst HasNoFileLock row_is row.bare
+
+  pub row_room : length (row_of locks seat) + 3 ≤ MAX_LOCKS
+  row_room = subst (λ (r : List Lock). length r + 3 ≤ MAX_LOCKS) row_is row.room
+
+module _ (seat : ℕ) (pool : PoolState) (ready : IsReady pool) (locks : Table) (seated : IsSeat locks seat)
+    (old new : AccessView) (find : IsFind old.operation) (bare : HasNoLock (access_locks old))
+    (row : EndsRow (access_locks old) 3 (row_of locks seat)) where
   -- it, at this operation
   abbrev of : RecordOperation → AccessView
   of o = record { operation = o; links = old.links; bytes = old.bytes; written = old.written }
@@ -212,9 +237,9 @@ module _ (seat : ℕ) (pool : PoolState) (ready : IsReady pool) (locks : Table) 
     page = page;
     found = found;
     is = is;
-    bare = none;
+    bare = bare;
     given = subst (λ (a : AccessView). HasNoLock (access_locks a)) (sym is) (free old.operation find);
-    moves = λ hash. by hash old.operation find none ahead moves;
+    moves = λ hash. by hash old.operation find bare ahead moves;
   }
     where
       free : (o : RecordOperation) → IsFind o → HasNoLock (operation_locks (operation_done page found o))
@@ -229,9 +254,10 @@ module _ (seat : ℕ) (pool : PoolState) (ready : IsReady pool) (locks : Table) 
           MovesAlong (AccessStep hash seat) (at (of o) pool locks)
           (find_stops seat page found new.bytes (at (of o) pool locks))
       by hash (operations.Find f) find none ahead moves =
-          finds_straight seat pool ready locks seated (subst HasNoFileLock row_is row.bare)
-          (subst (λ (r : List Lock). length r + 3 ≤ MAX_LOCKS) row_is row.room) hash f old.links old.bytes new.bytes
-          old.written page none found ahead moves
+          finds_straight seat pool ready locks seated (row_bare seat locks old.operation bare row)
+          (row_room seat locks old.operation bare row) hash (operations.Find f) old.links old.bytes new.bytes
+          old.written page found none 0
+          (read_takes f old.links old.bytes new.bytes old.written page pool ready found ahead) moves
       by hash (operations.Insert i) find none ahead moves = absurd find
       by hash (operations.Replace r) find none ahead moves = absurd find
       by hash (operations.Delete d) find none ahead moves = absurd find

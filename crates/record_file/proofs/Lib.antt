@@ -29,6 +29,8 @@ pub mod FactLemmas
 pub mod FewLemmas
 pub mod OperationNames
 pub mod KindLemmas
+pub mod InsertAheadLemmas
+pub mod RemovalLemmas
 pub mod OperationCallerLemmas
 pub mod LengthLemmas
 pub mod OperationAimLemmas
@@ -48,6 +50,7 @@ pub mod TakeLemmas
 pub mod TakingLemmas
 pub mod OperationLemmas
 pub mod AccessAheadLemmas
+pub mod ReachLemmas
 pub use Rattle.step_rules.proofs as of_step_rules
 pub use Rattle.split_merge.proofs as of_split_merge
 pub use Rattle.split_merge.proofs.of_file_pages

@@ -1,16 +1,36 @@
--- Each move of a find within one bucket is one of the operation.
-use Rattle.std.proofs.Common.{ℕ, Option, Some, None, IfSome}
-use Rattle.record_file.specs.BucketRuns.{BucketStep, bucket_stops}
-use Rattle.record_file.specs.declared.bucket_access.Deed.TheVariants as deeds
-use Rattle.record_file.specs.stale_search.SearchRuns.{At, at}
+-- Each move of the machine of a kind is one of the operation: of a find that is made in one go, and of a write on the
+-- way to its page.
+use Rattle.std.proofs.Common.{◌≡◌, refl, sym, ap, ◌∙◌, subst, ℕ, Option, Some, None, IfSome, IsSome}
+use Rattle.std.proofs.lemmas.Bool.{true≢false}
+use Rattle.record_file.specs.split_merge.Places.{MergeView}
+use Rattle.record_file.specs.stale_search.SearchRuns.{At, HasNoLock, at, standing}
+use Rattle.record_file.specs.stale_search.declared.place.SearchPlace.{SearchPlace}
 use Rattle.record_file.specs.step_rules.Runs.{MovesAlong}
 use Rattle.record_file.specs.step_rules.declared.kind.Kind.{Kind}
-use Rattle.record_file.proofs.KindLemmas.{find_makes}
+use Rattle.record_file.specs.Words.{LockKind, SearchView, Selective, on_page, search_locks}
+use Rattle.record_file.specs.BucketAccesses.{SuitsKind, bucket_locks, ended_in, has_ended}
+use Rattle.record_file.specs.BucketRuns.{BucketStep, bucket_at, bucket_stops, bucket_way}
+use Rattle.record_file.specs.declared.bucket_access.BucketStage.{BucketStage}
+use Rattle.record_file.specs.declared.bucket_access.BucketStage.TheVariants.{Searching}
+use Rattle.record_file.specs.declared.bucket_access.Deed.{Deed}
+use Rattle.record_file.specs.declared.bucket_access.Deed.TheVariants as deeds
+use Rattle.record_file.specs.Deletes.{IsBegun}
+use Rattle.record_file.proofs.AheadLemmas.{along_way, holds_selective}
+use Rattle.record_file.proofs.KindLemmas.{find_makes, replace_makes}
+use Rattle.record_file.proofs.RemovalLemmas.{removal_makes}
+use Rattle.record_file.proofs.StepLemmas.{as_searching, searching}
 use Rattle.record_file.proofs.of_step_rules.RunLemmas.{lifted}
-use Rattle.record_file.specs.OperationRuns.{OperationStep, operation_stops}
-use Rattle.record_file.specs.OperationWords.{BucketView, Find, Moved, PoolState, RecordOperation, Table}
+use Rattle.record_file.specs.OperationRuns.{GoesToPage, OperationStep, operation_stops}
+use Rattle.record_file.specs.OperationWords.{BucketView, Delete, DeleteView, Find, Moved, PoolState, RecordOperation, Replace, Table, store_of}
+
+-- what an access within one bucket tells of its way to a page
+abbrev Goes : ℕ → BucketView → PoolState → Table → Option (ℕ × Option ℕ) → Type 0
+Goes seat b pool locks there = IfSome there (λ (t : ℕ × Option ℕ). (deed : Deed) → SuitsKind deed b.search.kind →
+    MovesAlong (BucketStep deed seat) (at b pool locks) (bucket_way seat t.0 t.1 (at b pool locks)))
 
 module _ (seat : ℕ) where
+  -- ---- a find
+
   abbrev find_of : At BucketView → At RecordOperation
   find_of s = at (Find s.machine) s.pool s.locks
 
@@ -35,3 +55,77 @@ module _ (seat : ℕ) where
       (operation_stops seat t.0 t.1 (at (Find f) pool locks)))
   finds_if pool locks f None moves = tt
   finds_if pool locks f (Some t) moves = finds_straight pool locks f t.0 t.1 moves
+
+  -- ---- a replace
+
+  abbrev replace_of : At BucketView → At RecordOperation
+  replace_of s = at (Replace s.machine) s.pool s.locks
+
+  move_of_replace : (kind : Kind) (old new : At BucketView) → BucketStep deeds.Replace seat (Moved kind) old new →
+      OperationStep seat (Moved kind) (replace_of old) (replace_of new)
+  move_of_replace kind old new moves hash bytes =
+      replace_makes hash seat bytes (Moved kind) old.pool new.pool old.locks new.locks old.machine new.machine
+      (moves bytes)
+
+  pub replace_goes : (pool : PoolState) (locks : Table) (r : BucketView) (there : Option (ℕ × Option ℕ)) →
+      SuitsKind deeds.Replace r.search.kind → (IsSome there → r.stage ≡ Searching) →
+      (IsSome there → HasNoLock (bucket_locks r)) → Goes seat r pool locks there →
+      IfSome there (λ (t : ℕ × Option ℕ). GoesToPage seat t.0 t.1 (Replace r) pool locks)
+  replace_goes pool locks r None suits searches none moves = tt
+  replace_goes pool locks r (Some t) suits searches none moves = record {
+    bare = none refl;
+    holds = holds_selective r t.0 t.1 (searches refl) suits;
+    lacks = tt;
+    goes_on = λ over.
+        true≢false (sym over ∙ ap (λ (stage : BucketStage). has_ended stage) (searches refl));
+    moves = lifted (BucketStep deeds.Replace seat) (OperationStep seat) replace_of move_of_replace (at r pool locks)
+        (bucket_way seat t.0 t.1 (at r pool locks)) (moves deeds.Replace suits);
+  }
+
+  -- ---- a delete, whose merge waits
+
+  module _ (m : MergeView) (begun : IsBegun m) where
+    abbrev removing : BucketView → DeleteView
+    removing r = record { removal = r; merge = m }
+
+    abbrev delete_of : At BucketView → At RecordOperation
+    delete_of s = at (Delete (removing s.machine)) s.pool s.locks
+
+    move_of_removal : (kind : Kind) (old new : At BucketView) → ended_in old.machine.stage ≡ None →
+        BucketStep deeds.Remove seat (Moved kind) old new →
+        OperationStep seat (Moved kind) (delete_of old) (delete_of new)
+    move_of_removal kind old new none moves hash bytes =
+        removal_makes old.machine new.machine m none begun seat bytes (Moved kind) old.pool new.pool old.locks new.locks
+        (moves bytes) hash
+
+    removes_straight : (pool : PoolState) (locks : Table) (v : SearchView) (page : ℕ) (found : Option ℕ) →
+        v.kind ≡ Selective → HasNoLock (search_locks v) →
+        MovesAlong (BucketStep deeds.Remove seat) (at (searching v) pool locks)
+        (bucket_way seat page found (at (searching v) pool locks)) →
+        GoesToPage seat page found (Delete (removing (searching v))) pool locks
+    removes_straight pool locks v page found kind none moves = record {
+      bare = none;
+      holds = λ before. ap (λ (k : LockKind). on_page page k before) kind;
+      lacks = tt;
+      goes_on = λ over. over;
+      moves = along_way (BucketStep deeds.Remove seat) (OperationStep seat) delete_of (at (searching v) pool locks)
+          (λ (place : SearchPlace). standing bucket_locks seat pool locks (bucket_at place (searching v)))
+          (store_of pool.images).header.depth page found
+          (λ kind new made. move_of_removal kind (at (searching v) pool locks) new refl made)
+          (λ place unseen kind new made. move_of_removal kind
+          (standing bucket_locks seat pool locks (bucket_at place (searching v))) new refl made)
+          moves;
+    }
+
+    pub delete_goes : (pool : PoolState) (locks : Table) (r : BucketView) (there : Option (ℕ × Option ℕ)) →
+        SuitsKind deeds.Remove r.search.kind → (IsSome there → r.stage ≡ Searching) →
+        (IsSome there → HasNoLock (bucket_locks r)) → Goes seat r pool locks there →
+        IfSome there (λ (t : ℕ × Option ℕ). GoesToPage seat t.0 t.1 (Delete (removing r)) pool locks)
+    delete_goes pool locks r None suits searches none moves = tt
+    delete_goes pool locks r (Some t) suits searches none moves =
+        let is = as_searching r (searches refl) in
+        subst (λ (b : BucketView). GoesToPage seat t.0 t.1 (Delete (removing b)) pool locks) (sym is)
+        (removes_straight pool locks r.search t.0 t.1 suits
+        (subst (λ (b : BucketView). HasNoLock (bucket_locks b)) is (none refl))
+        (subst (λ (b : BucketView). MovesAlong (BucketStep deeds.Remove seat) (at b pool locks)
+        (bucket_way seat t.0 t.1 (at b pool locks))) is (moves deeds.Remove suits)))

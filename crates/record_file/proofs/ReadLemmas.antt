@@ -70,6 +70,21 @@ few_linked (kinds.Message l) = omega arith
 few_linked (kinds.Type l) = omega arith
 
 -- links that were set in the front of a value stand at its front
+pub front_set : (links : Links) (r : Record) (n : ℕ) (start front : List ℕ) → HasSuch links (Some r) →
+    start ≡ take n (value_of r) → n ≡ linked_bytes links → length front ≡ n →
+    ((rest : List ℕ) → start ++ rest ≡ value_of r → front ++ rest ≡ value_of (relinked links r)) →
+    IsFrontOf links front r
+front_set links r n start front such is len whole set =
+    let long = links_within links r such in
+    let done : front ++ drop n (value_of r) ≡ value_of (relinked links r) =
+    set (drop n (value_of r)) (ap (λ (xs : List ℕ). xs ++ drop n (value_of r)) is
+    ∙ take-append-drop n (value_of r)) in
+    record {
+      within = omega (arith, whole, len, long);
+      made = ap (λ (m : ℕ). front ++ drop m (value_of r)) whole ∙ done;
+    }
+
+-- also where they were set in a copy
 pub front_of : (links : Links) (r : Record) (n : ℕ) (value : Option (List ℕ)) (room copied front behind : List ℕ) →
     HasSuch links (Some r) → value ≡ Some (value_of r) → n ≡ linked_bytes links → length room ≡ MESSAGE_BYTES →
     copied ≡ fronted (unwrap_or value []) room → length front ≡ length (take n copied) →
@@ -85,11 +100,5 @@ front_of links r n value room copied front behind such holds len size is same se
     let count = length-take n (value_of r) in
     let parts = ap length taken in
     let whole : length front ≡ n = omega (arith, same, parts, count, len, long) in
-    let done : front ++ drop n (value_of r) ≡ value_of (relinked links r) =
-    set (drop n (value_of r)) (ap (λ (xs : List ℕ). xs ++ drop n (value_of r)) taken
-    ∙ take-append-drop n (value_of r)) in
     subst (λ (xs : List ℕ). IsFrontOf links xs r) (sym (take_at front behind n whole))
-    (record {
-      within = omega (arith, whole, len, long);
-      made = ap (λ (m : ℕ). front ++ drop m (value_of r)) whole ∙ done;
-    })
+    (front_set links r n (take n copied) front such taken len whole set)

@@ -1,5 +1,5 @@
 -- A find that is made in one go, and a write that goes to its page so. docs/STEPS.md, "Search".
-use Rattle.std.specs.Prelude.{ℕ, ◌≡◌, List, [], ◌∷◌, ◌++◌, length, Option, Some, None}
+use Rattle.std.specs.Prelude.{ℕ, ◌≡◌, List, [], ◌∷◌, ◌++◌, length, Option, Some, None, Ok}
 use Rattle.file_pages.specs.declared.fault.FileFault.{FileFault}
 use Rattle.record_file.specs.OperationRuns.{operation_at, operation_done}
 use Rattle.record_file.specs.stale_search.SearchRuns.{At, HasNoLock, at, standing, way_up_to}
@@ -11,7 +11,7 @@ use Rattle.record_file.specs.AccessWords.{RecordKey, PoolState, Table, HasEnded,
 use Rattle.record_file.specs.OperationWords.{with_row}
 use Rattle.record_file.specs.Accesses.{AccessView, access_key, access_locks}
 use Rattle.record_file.specs.AccessSteps.{MakesAccess}
-use Rattle.record_file.specs.Readings.{value_on}
+use Rattle.record_file.specs.Readings.{Takes, value_on}
 
 -- where an access may be stepped
 pub record MayAccess (seat : ℕ) (s : At AccessView) : Type 0 where
@@ -79,6 +79,12 @@ write_stops seat page found bytes old =
     ++ stop kinds.Look (standing access_locks seat old.pool old.locks
     (record (access_at (Found page found) old.machine) { bytes = bytes }))
     ∷ []
+
+-- it has taken from that page what it is for, by looking alone
+pub record TakesAhead (page : ℕ) (found : Option ℕ) (pool : PoolState) (old new : AccessView) : Type 0 where
+  pub is : new ≡ record old { bytes = new.bytes }
+  pub takes : Takes {X = Unit} (Ok tt) pool pool (access_at (Found page found) old)
+      (record (access_at (Found page found) old) { bytes = new.bytes })
 
 -- a write has gone straight to the page that answers, by these of its steps; the pool is what it was
 pub record ReachesAtOnce (seat : ℕ) (old new : AccessView) (pool : PoolState) (locks locks' : Table) : Type 0 where

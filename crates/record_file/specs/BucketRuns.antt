@@ -1,4 +1,5 @@
--- A find within one bucket that is made in one go: its states on the way. docs/STEPS.md, "Search".
+-- A find within one bucket that is made in one go, and the way of any access to its page: their states.
+-- docs/STEPS.md, "Search".
 use Rattle.std.specs.Prelude.{ℕ, false, List, [], ◌∷◌, ◌++◌, Option}
 use Rattle.split_merge.specs.file_pages.declared.fault.FileFault.{FileFault}
 use Rattle.split_merge.specs.stale_search.SearchRuns.{At, at, standing, search_at, way_to}
@@ -23,9 +24,13 @@ bucket_at place b = record b { search = search_at place b.search }
 abbrev pub bucket_found : ℕ → Option ℕ → BucketView → BucketView
 bucket_found page found b = record { search = search_at (Found page found) b.search; stage = HasEnded false }
 
--- its states, from where it has not begun
-abbrev pub bucket_stops : ℕ → (page : ℕ) → Option ℕ → At BucketView → List (Stop (At BucketView))
-bucket_stops seat page found old =
+-- its states from where it has not begun, up to where its page answers
+abbrev pub bucket_way : ℕ → (page : ℕ) → Option ℕ → At BucketView → List (Stop (At BucketView))
+bucket_way seat page found old =
     stops_in (λ (place : SearchPlace). standing bucket_locks seat old.pool old.locks (bucket_at place old.machine))
     (way_to (store_of old.pool.images).header.depth page found)
+
+-- and of a find, up to where it has given that page back
+abbrev pub bucket_stops : ℕ → (page : ℕ) → Option ℕ → At BucketView → List (Stop (At BucketView))
+bucket_stops seat page found old = bucket_way seat page found old
     ++ stop Release (at (bucket_found page found old.machine) old.pool old.locks) ∷ []

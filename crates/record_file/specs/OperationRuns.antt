@@ -1,16 +1,18 @@
--- A find that is made in one go: its states on the way. docs/STEPS.md, "Search".
-use Rattle.std.specs.Prelude.{ℕ, List, [], ◌∷◌, ◌++◌, Option, ⊤}
+-- A find that is made in one go, and the way of a write to its page: their states. docs/STEPS.md, "Search".
+use Rattle.std.specs.Prelude.{ℕ, ◌≡◌, List, [], ◌∷◌, ◌++◌, Option, None, ⊤}
 use Rattle.record_file.specs.file_pages.declared.fault.FileFault.{FileFault}
 use Rattle.record_file.specs.BucketRuns.{bucket_at, bucket_found}
-use Rattle.record_file.specs.stale_search.SearchRuns.{At, at, standing, way_to}
+use Rattle.record_file.specs.stale_search.SearchRuns.{At, HasNoLock, at, standing, way_to}
 use Rattle.record_file.specs.stale_search.declared.place.SearchPlace.{SearchPlace}
-use Rattle.record_file.specs.step_rules.Runs.{Stop, stop, stops_in}
+use Rattle.record_file.specs.stale_search.declared.place.SearchPlace.TheVariants.{Found}
+use Rattle.record_file.specs.step_rules.Runs.{MovesAlong, Stop, stop, stops_in}
 use Rattle.record_file.specs.step_rules.declared.kind.Kind.TheVariants as kinds
-use Rattle.record_file.specs.OperationWords.{RecordKey, Progress, RecordOperation, Find, Insert, Replace, Delete, store_of}
+use Rattle.record_file.specs.OperationWords.{RecordKey, PoolState, Table, Lock, Selective, Progress, RecordOperation, Find, Insert, Replace, Delete, store_of}
+use Rattle.record_file.specs.Words.{on_page}
 use Rattle.record_file.specs.declared.insert.InsertStage.{InsertStage}
 use Rattle.record_file.specs.declared.insert.InsertStage.TheVariants.{First, Second}
 use Rattle.record_file.specs.OperationSteps.{MakesOperation}
-use Rattle.record_file.specs.Operations.{operation_locks}
+use Rattle.record_file.specs.Operations.{HasEnded, operation_locks}
 
 -- a step, at whatever pseudokeys, and whatever bytes are lent to it
 abbrev pub OperationStep : ℕ → Progress FileFault → (old new : At RecordOperation) → Type 0
@@ -38,10 +40,33 @@ abbrev pub operation_done : ℕ → Option ℕ → RecordOperation → RecordOpe
 operation_done page found (Find f) = Find (bucket_found page found f)
 operation_done page found o = o
 
--- its states, from where it has not begun
-abbrev pub operation_stops : ℕ → (page : ℕ) → Option ℕ → At RecordOperation → List (Stop (At RecordOperation))
-operation_stops seat page found old =
+-- its states from where it has not begun, up to where its page answers
+abbrev pub operation_way : ℕ → (page : ℕ) → Option ℕ → At RecordOperation → List (Stop (At RecordOperation))
+operation_way seat page found old =
     stops_in
     (λ (place : SearchPlace). standing operation_locks seat old.pool old.locks (operation_at place old.machine))
     (way_to (store_of old.pool.images).header.depth page found)
+
+-- and of a find, up to where it has given that page back
+abbrev pub operation_stops : ℕ → (page : ℕ) → Option ℕ → At RecordOperation → List (Stop (At RecordOperation))
+operation_stops seat page found old = operation_way seat page found old
     ++ stop kinds.Release (at (operation_done page found old.machine) old.pool old.locks) ∷ []
+
+-- ---- a write
+
+-- the page has no record of the key of an insert; of others this is not asked
+abbrev pub LacksKey : Option ℕ → RecordOperation → Type 0
+LacksKey found (Insert i) = found ≡ None
+LacksKey found o = ⊤
+
+-- a write goes straight to the page that answers, by these of its steps
+pub record GoesToPage (seat page : ℕ) (found : Option ℕ) (o : RecordOperation) (pool : PoolState) (locks : Table)
+    : Type 0 where
+  -- it has no lock, and then that of the page, to write it
+  pub bare : HasNoLock (operation_locks o)
+  pub holds : (before : List Lock) →
+      operation_locks (operation_at (Found page found) o) before ≡ on_page page Selective before
+  pub lacks : LacksKey found o
+  -- the write is still to be made
+  pub goes_on : HasEnded (operation_at (Found page found) o) → ⊥
+  pub moves : MovesAlong (OperationStep seat) (at o pool locks) (operation_way seat page found (at o pool locks))

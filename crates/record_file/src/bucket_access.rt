@@ -7,10 +7,11 @@ ghost use Rattle.std.specs.Prelude.{◌≡◌, ◌-◌, ℕ, List, IfSome, IsSom
 ghost use Rattle.page_locks.specs.declared.lock.LockName.{LockName};
 ghost use Rattle.split_merge.specs.stale_search.SearchRuns.{HasNoLock, at};
 ghost use Rattle.split_merge.specs.stale_search.Searches.{IsShared};
+ghost use Rattle.split_merge.specs.stale_search.declared.place.SearchPlace.{SearchPlace};
 ghost use Rattle.step_rules.specs.Runs.{MovesAlong};
 ghost use Rattle.record_file.specs.Words.{IsSeat, row_of, IsReady, EndsRow, Moved, Release, Selective, without_lock};
 ghost use Rattle.record_file.specs.BucketAccesses.{SuitsKind, begun_access, bucket_locks, ended_in, found_of, has_ended, has_room, is_due, kind_for};
-ghost use Rattle.record_file.specs.BucketRuns.{BucketStep, bucket_found, bucket_stops};
+ghost use Rattle.record_file.specs.BucketRuns.{BucketStep, bucket_at, bucket_found, bucket_stops, bucket_way};
 ghost use Rattle.record_file.specs.BucketSteps.{MakesBucket};
 
 use bucket_page::{RECORD_HEAD_BYTES, ROOM_BYTES, RecordKey};
@@ -159,6 +160,39 @@ impl BucketAccess {
             BucketStage::Searching => self.search.ahead(pool, locks, seat),
             _ => None,
         }
+    }
+
+    /// Where an access arrives that has not begun and goes straight to the page that the directory
+    /// names, by the Look by which that page answers. Nothing is done.
+    pub fn ahead_to_page<D: PageDevice>(
+        &self,
+        pool: &mut Pool<D>,
+        locks: &LockTable,
+        seat: u8,
+    ) -> Option<(u32, Option<usize>)>
+        requires seat { IsSeat locks.now seat }
+        requires ready { IsReady pool.old }
+        requires row { EndsRow (bucket_locks self.now) 2 (row_of locks.now seat) }
+        ensures pool { pool.new ≡ pool.old }
+        ensures searches { IsSome result → self.now.stage ≡ BucketStage.Searching }
+        ensures bare { IsSome result → HasNoLock (bucket_locks self.now) }
+        // whatever its deed
+        ensures moves { IfSome result (λ there. (deed : Deed) →
+            SuitsKind deed self.now.search.kind → MovesAlong (BucketStep deed seat)
+            (at self.now pool.old locks.now)
+            (bucket_way seat there.0 there.1 (at self.now pool.old locks.now))) }
+    {
+        match self.stage {
+            BucketStage::Searching => self.search.ahead(pool, locks, seat),
+            _ => None,
+        }
+    }
+
+    /// A page has answered.
+    pub fn stand_at(&mut self, page: u32, found: Option<usize>)
+        ensures { self.new ≡ bucket_at (SearchPlace.Found page found) self.old }
+    {
+        self.search.arrive(page, found);
     }
 
     /// A page has answered a find, and was given back.

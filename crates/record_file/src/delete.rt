@@ -1,17 +1,20 @@
 //! A record that is deleted.
 
-ghost use Rattle.std.specs.Prelude.{◌≡◌, ◌↔◌, ℕ, List, Option, true, false};
+ghost use Rattle.std.specs.Prelude.{◌≡◌, ◌↔◌, ℕ, IfSome, List, Option, true, false};
 ghost use Rattle.split_merge.specs.Steps.{TurnsAwayAt};
 ghost use Rattle.split_merge.specs.stale_search.declared.place.ApproachPlace.{ApproachPlace};
 ghost use Rattle.split_merge.specs.stale_search.declared.place.SearchPlace.{SearchPlace};
 ghost use Rattle.split_merge.specs.declared.merge_place.MergePlace.{MergePlace};
 ghost use Rattle.record_file.specs.declared.bucket_access.BucketStage.{BucketStage};
+ghost use Rattle.record_file.specs.declared.operation.RecordOperation.{RecordOperation};
 ghost use Rattle.record_file.specs.Words.{RecordKey, Lock, IsSeat, row_of, with_row, IsReady, Change, WritesOrSpares, Selective, is_fault, Sees, Step, world, EndsRow, HasNoFileLock, Nears, store_of};
 ghost use Rattle.record_file.specs.Machines.{FindsAt};
 ghost use Rattle.record_file.specs.Writers.{Owns};
 ghost use Rattle.record_file.specs.BucketAccesses.{found_of};
+ghost use Rattle.record_file.specs.BucketRuns.{bucket_at};
 ghost use Rattle.record_file.specs.BucketSteps.{TurnsAwayIn};
 ghost use Rattle.record_file.specs.Deletes.{IsOver, KeepsDelete, delete_facts, delete_left, delete_locks, delete_turn};
+ghost use Rattle.record_file.specs.OperationRuns.{GoesToPage};
 
 use crate::bucket_access::{BucketAccess, Deed};
 use bucket_page::RecordKey;
@@ -138,5 +141,35 @@ impl Delete {
             Some(false) => Progress::Ended,
             Some(true) => self.merge.step(pool, locks, seat),
         }
+    }
+
+    /// Where a removal arrives that has not begun and goes straight to the page that the directory
+    /// names. Nothing is done.
+    pub fn ahead_to_page<D: PageDevice>(
+        &self,
+        pool: &mut Pool<D>,
+        locks: &LockTable,
+        seat: u8,
+    ) -> Option<(u32, Option<usize>)>
+        requires seat { IsSeat locks.now seat }
+        requires ready { IsReady pool.old }
+        requires row { EndsRow (delete_locks self.now) 3 (row_of locks.now seat) }
+        ensures pool { pool.new ≡ pool.old }
+        ensures goes { IfSome result (λ there. GoesToPage seat there.0 there.1
+            (RecordOperation.Delete self.now) pool.old locks.now) }
+    {
+        match self.removal.ended() {
+            None => self.removal.ahead_to_page(pool, locks, seat),
+            Some(_) => None,
+        }
+    }
+
+    /// A page has answered the removal.
+    pub fn stand_at(&mut self, page: u32, found: Option<usize>)
+        ensures { self.new ≡ record self.old {
+          removal = bucket_at (SearchPlace.Found page found) self.old.removal;
+        } }
+    {
+        self.removal.stand_at(page, found);
     }
 }

@@ -1,11 +1,14 @@
 //! A record that is inserted.
 
-ghost use Rattle.std.specs.Prelude.{◌≡◌, ◌↔◌, IsSome, None, true, length};
+ghost use Rattle.std.specs.Prelude.{◌≡◌, ◌↔◌, IfSome, IsSome, None, true, length};
+ghost use Rattle.split_merge.specs.stale_search.declared.place.SearchPlace.{SearchPlace};
 ghost use Rattle.record_file.specs.declared.bucket_access.Deed.{Deed};
+ghost use Rattle.record_file.specs.declared.operation.RecordOperation.{RecordOperation};
 ghost use Rattle.record_file.specs.BucketAccesses.{begun_access};
 ghost use Rattle.record_file.specs.InsertWords.{IsReady, IsSeat, row_of, EndsRow};
 ghost use Rattle.record_file.specs.Inserts.{IsLent, IsOver, insert_locks, is_there, said_of};
 ghost use Rattle.record_file.specs.InsertSteps.{MakesInsert};
+ghost use Rattle.record_file.specs.OperationRuns.{GoesToPage, stage_at};
 
 use crate::bucket_access::{BucketAccess, Deed};
 use crate::second_try::SecondTry;
@@ -125,6 +128,47 @@ impl Insert {
                 did
             }
             InsertStage::Second(second) => second.step(pool, locks, keys, seat, value),
+        }
+    }
+
+    /// Where a first try arrives that has not begun and goes straight to the page that the
+    /// directory names, where that page has no record of the key. Nothing is done. A second try
+    /// tells none.
+    pub fn ahead_to_page<D: PageDevice>(
+        &self,
+        pool: &mut Pool<D>,
+        locks: &LockTable,
+        seat: u8,
+    ) -> Option<(u32, Option<usize>)>
+        requires seat { IsSeat locks.now seat }
+        requires ready { IsReady pool.old }
+        requires row { EndsRow (insert_locks self.now) 3 (row_of locks.now seat) }
+        ensures pool { pool.new ≡ pool.old }
+        ensures goes { IfSome result (λ there. GoesToPage seat there.0 there.1
+            (RecordOperation.Insert self.now) pool.old locks.now) }
+    {
+        let InsertStage::First(first, said) = &self.stage else {
+            return None;
+        };
+        if said.is_some() {
+            return None;
+        }
+        let Some((page, found)) = first.ahead_to_page(pool, locks, seat) else {
+            return None;
+        };
+        match found {
+            None => Some((page, None)),
+            Some(_) => None,
+        }
+    }
+
+    /// A page that has no record of the key has answered its first try.
+    pub fn stand_at(&mut self, page: u32)
+        ensures { self.new ≡
+            record self.old { stage = stage_at (SearchPlace.Found page None) self.old.stage } }
+    {
+        if let InsertStage::First(first, _) = &mut self.stage {
+            first.stand_at(page, None);
         }
     }
 }

@@ -1,11 +1,12 @@
 //! The operation.
 
-ghost use Rattle.std.specs.Prelude.{◌≡◌, ◌↔◌, true, length, IfSome, IsSome};
+ghost use Rattle.std.specs.Prelude.{◌≡◌, ◌↔◌, ℕ, true, length, IfSome, IsSome};
 ghost use Rattle.record_file.specs.stale_search.SearchRuns.{HasNoLock, at};
+ghost use Rattle.record_file.specs.stale_search.declared.place.SearchPlace.{SearchPlace};
 ghost use Rattle.record_file.specs.step_rules.Runs.{MovesAlong};
 ghost use Rattle.record_file.specs.OperationWords.{IsReady, IsSeat, row_of, EndsRow};
 ghost use Rattle.record_file.specs.Operations.{FoundAtEnd, HasEnded, MayBeLent, TriedAtEnd, begun_delete, begun_find, begun_insert, begun_replace, operation_found, operation_locks, operation_tried};
-ghost use Rattle.record_file.specs.OperationRuns.{IsFind, OperationStep, operation_done, operation_stops};
+ghost use Rattle.record_file.specs.OperationRuns.{GoesToPage, IsFind, LacksKey, OperationStep, operation_at, operation_done, operation_stops};
 ghost use Rattle.record_file.specs.OperationSteps.{MakesOperation};
 
 use crate::bucket_access::{BucketAccess, Deed};
@@ -151,6 +152,44 @@ impl RecordOperation {
         match self {
             RecordOperation::Find(find) => find.ahead(pool, locks, seat),
             _ => None,
+        }
+    }
+
+    /// Where a write arrives that has not begun and goes straight to the page that the directory
+    /// names, by the Look by which that page answers. Nothing is done. A find tells none, nor does
+    /// an insert where the key has a record there or in its second try.
+    pub fn ahead_to_page<D: PageDevice>(
+        &self,
+        pool: &mut Pool<D>,
+        locks: &LockTable,
+        seat: u8,
+    ) -> Option<(u32, Option<usize>)>
+        requires seat { IsSeat locks.now seat }
+        requires ready { IsReady pool.old }
+        requires row { EndsRow (operation_locks self.now) 3 (row_of locks.now seat) }
+        requires lent { (bytes : ℕ) × MayBeLent bytes self.now }
+        ensures pool { pool.new ≡ pool.old }
+        ensures goes { IfSome result (λ there. GoesToPage seat there.0 there.1 self.now
+            pool.old locks.now) }
+    {
+        match self {
+            RecordOperation::Find(_) => None,
+            RecordOperation::Insert(insert) => insert.ahead_to_page(pool, locks, seat),
+            RecordOperation::Replace(replace) => replace.ahead_to_page(pool, locks, seat),
+            RecordOperation::Delete(delete) => delete.ahead_to_page(pool, locks, seat),
+        }
+    }
+
+    /// A page has answered, an insert one that has no record of its key.
+    pub fn stand_at(&mut self, page: u32, found: Option<usize>)
+        requires lacks { LacksKey found self.old }
+        ensures { self.new ≡ operation_at (SearchPlace.Found page found) self.old }
+    {
+        match self {
+            RecordOperation::Find(find) => find.stand_at(page, found),
+            RecordOperation::Insert(insert) => insert.stand_at(page),
+            RecordOperation::Replace(replace) => replace.stand_at(page, found),
+            RecordOperation::Delete(delete) => delete.stand_at(page, found),
         }
     }
 

@@ -1,17 +1,19 @@
 //! All steps of a find, in one go, and those of a write up to where its page answers.
 
-ghost use Rattle.std.specs.Prelude.{◌≡◌, true, false};
+ghost use Rattle.std.specs.Prelude.{◌≡◌, Some, true, false};
 ghost use Rattle.record_file.specs.OperationRuns.{IsFind};
 ghost use Rattle.record_file.specs.AccessWords.{EndsRow, IsReady, IsSeat, row_of};
 ghost use Rattle.record_file.specs.Accesses.{access_locks};
-ghost use Rattle.record_file.specs.AccessRuns.{FindsAtOnce, ReachesAtOnce, ReadsAhead};
+ghost use Rattle.record_file.specs.AccessRuns.{FindsAtOnce, ReachesAtOnce, ReadsAhead, TakesAhead};
+ghost use Rattle.record_file.specs.Readings.{IsReplace};
 
 use crate::access::Access;
+use crate::operation::RecordOperation;
 use file_pages::buffer_pool::Pool;
 use file_pages::peek_value;
 use page_device::PageDevice;
-use page_locks::LockTable;
-use queue_records::{MAX_VALUE_BYTES, Record};
+use page_locks::{Grant, LockKind, LockName, LockTable};
+use queue_records::{Links, MAX_VALUE_BYTES, Record, relink};
 
 impl Access {
     /// All steps of a find, in one go: where it has not begun, its pages are in frames, the page
@@ -53,7 +55,65 @@ impl Access {
             ReachesAtOnce seat self.old self.new pool.old locks.old locks.new }
         ensures spares { result ≡ false → (self.new ≡ self.old) × (locks.new ≡ locks.old) }
     {
-        false
+        let Some((page, found)) = self.operation.ahead_to_page(pool, locks, seat) else {
+            return false;
+        };
+        let Grant::Granted = locks.try_grant(seat, LockName::Page(page), LockKind::Selective) else {
+            return false;
+        };
+        if !self.take_ahead(pool, page, found) {
+            locks.release(seat, LockName::Page(page));
+            return false;
+        }
+        self.operation.stand_at(page, found);
+        true
+    }
+
+    /// Takes of a page that is in a frame what a write is for, as `take` does, where that can be
+    /// written there.
+    fn take_ahead<D: PageDevice>(&mut self, pool: &Pool<D>, page: u32, found: Option<usize>) -> bool
+        requires ready { IsReady pool.now }
+        ensures made { result ≡ true → TakesAhead page found pool.now self.old self.new }
+        ensures spares { result ≡ false → self.new ≡ self.old }
+    {
+        match &self.operation {
+            RecordOperation::Find(_) => false,
+            RecordOperation::Insert(_) => true,
+            RecordOperation::Replace(_) => match (self.links, found) {
+                (Some(links), Some(len)) => self.front_ahead(pool, page, len, &links),
+                (None, Some(len)) if len == self.len => true,
+                _ => false,
+            },
+            RecordOperation::Delete(_) => found.is_some(),
+        }
+    }
+
+    /// Takes the front of the value that links are set in, where one of this length stands there
+    /// and has that front.
+    fn front_ahead<D: PageDevice>(
+        &mut self,
+        pool: &Pool<D>,
+        page: u32,
+        len: usize,
+        links: &Links,
+    ) -> bool
+        requires ready { IsReady pool.now }
+        requires replaces { IsReplace self.old.operation }
+        requires links { self.old.links ≡ Some links.now }
+        ensures made { result ≡ true → TakesAhead page (Some len) pool.now self.old self.new }
+        ensures spares { result ≡ false → self.new ≡ self.old }
+    {
+        let Some(value) = peek_value(pool, page, &self.key) else {
+            return false;
+        };
+        let bytes = links.front_bytes();
+        if value.len() != len || len < bytes {
+            return false;
+        }
+        self.bytes[..bytes].copy_from_slice(&value[..bytes]);
+        relink(&mut self.bytes[..bytes], links);
+        self.len = bytes;
+        true
     }
 
     /// Takes the value of its key from a page that is in a frame, where one of this length stands
