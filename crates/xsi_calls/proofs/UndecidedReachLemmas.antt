@@ -68,8 +68,7 @@ module _ (hash : RecordKey → ℕ) (seat : ℕ) (call : Call) (q : QuestionsVie
 
       counts_not : more ≡
           finds_behind {F = FileFault} (Moved kinds.Grant) (row_of goes.reaches.way.arrived.locks seat) more
-      counts_not = sym (none_more {F = FileFault} (Moved kinds.Grant) (row_of goes.reaches.way.arrived.locks seat) more
-          goes.once)
+      counts_not = sym (none_more (Moved kinds.Grant) (row_of goes.reaches.way.arrived.locks seat) more goes.once)
 
       pub trial_reaches : ReachesAtOnce (MakesUndecided hash seat call) seat (trying q.finds w) (trying more w') pool
           locks locks'

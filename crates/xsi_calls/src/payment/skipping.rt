@@ -33,9 +33,9 @@ impl Payment {
             pool.old locks.old locks.new }
         ensures spares { result ≡ false → (self.new ≡ self.old) × (locks.new ≡ locks.old) }
     {
-        match &mut self.stage {
-            Stage::Writing(writes) => writes.reach(plan, pool, locks, keys, seat),
-            Stage::Sweeping(_) => false,
+        if let Stage::Writing(writes) = &mut self.stage {
+            return writes.reach(plan, pool, locks, keys, seat);
         }
+        false
     }
 }

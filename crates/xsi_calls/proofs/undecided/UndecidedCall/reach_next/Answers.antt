@@ -7,8 +7,8 @@ use Rattle.xsi_calls.specs.UndecidedWords.{AnyInquiry, QuestionsView, ReachesAtO
 use Rattle.xsi_calls.proofs.UndecidedReachLemmas.{trial_reaches}
 use Rattle.xsi_calls.proofs.undecided.UndecidedCall.reach_next.Goals as goal
 
-pub returns-in-Some-clause-made : goal.returns-in-Some-clause-made
-returns-in-Some-clause-made g c = λ made.
+pub returns-else-not-reach-clause-made : goal.returns-else-not-reach-clause-made
+returns-else-not-reach-clause-made g c = λ made.
     let tried = trial_reaches (g.K.PseudoKey.of_key c.args.keys.now) c.args.seat c.args.call.now
     c.args.self.now.questions c.keep_order.ensures c.new-plan.result
     (c.new-plan.ensures ∙ ap (λ (i : AnyInquiry). plan_of c.args.call.now i) c.inquiry.ensures)
