@@ -4,7 +4,7 @@ use Rattle.page_locks.proofs.ChangeLemmas.{IsSeat-with_row}
 use Rattle.page_locks.proofs.TableLemmas.{row_of-same}
 use Rattle.page_locks.specs.Table.{with_row}
 use Rattle.record_file.specs.stale_search.SearchRuns.{At, at}
-use Rattle.step_rules.specs.Runs.{MovesAlong, Stop, end_of, stops_in}
+use Rattle.step_rules.specs.Runs.{MovesAlong, Stop, stops_in}
 use Rattle.step_rules.specs.declared.kind.Kind.{Kind}
 use Rattle.step_rules.specs.declared.progress.Progress.{Progress}
 use Rattle.step_rules.specs.declared.progress.Progress.TheVariants.{Moved}
@@ -12,17 +12,8 @@ use Rattle.xsi_calls.specs.QuestionRuns.{AskStep, Promise, ReachesAtOnce, stops_
 use Rattle.xsi_calls.specs.QuestionWords.{IsSeat, Lock, PoolState, Table, row_of}
 use Rattle.xsi_calls.proofs.QuestionRunLemmas.{way_in}
 
--- ---- moves from where this is so, which each of them keeps so
-
--- it is so where they end
-kept_along : {S F : Type 0} (A : Progress F → S → S → Type 0) (Stands : S → Type 0) →
-    ((kind : Kind) (old new : S) → Stands old → A (Moved kind) old new → Stands new) →
-    (old : S) (stops : List (Stop S)) → Stands old → MovesAlong A old stops → Stands (end_of old stops)
-kept_along A Stands each old [] stands moves = stands
-kept_along A Stands each old (next ∷ stops) stands moves =
-    kept_along A Stands each next.state stops (each next.kind old next.state stands moves.0) moves.1
-
--- where each move of one machine from there is a move of another, moves of the one are moves of the other
+-- where each move of a machine from where this is so is one of another machine, and keeps it so, moves of the one are
+-- moves of the other
 carried : {S T F : Type 0} (A : Progress F → S → S → Type 0) (B : Progress F → T → T → Type 0) (whole : S → T)
     (Stands : S → Type 0) →
     ((kind : Kind) (old new : S) → Stands old → A (Moved kind) old new →
@@ -56,19 +47,6 @@ reaches_in {V} {W} A B seat whole Stands each old new pool locks locks' stands r
   where
     among : At V → At W
     among s = at (whole s.machine) s.pool s.locks
-
--- where it arrives, what each of its moves keeps is so
-pub kept_there : {V : Type 0} (A : Promise V) (seat : ℕ) (Stands : V → Type 0) →
-    ((kind : Kind) (old new : V) (pool pool' : PoolState) (locks locks' : Table) → Stands old →
-    A (Moved kind) old new pool pool' locks locks' → Stands new) →
-    (old new : V) (pool : PoolState) (locks locks' : Table) → Stands old →
-    ReachesAtOnce A seat old new pool locks locks' → Stands new
-kept_there {V} A seat Stands each old new pool locks locks' stands reaches =
-    subst (λ (s : At V). Stands s.machine) reaches.arrives
-    (kept_along (AskStep A seat) (λ (s : At V). Stands s.machine)
-    (λ kind before behind held step.
-    each kind before.machine behind.machine before.pool behind.pool before.locks behind.locks held step.makes)
-    (at old pool locks) (stops_to reaches.way) stands reaches.moves)
 
 -- ---- the row of a seat
 

@@ -1,5 +1,5 @@
 -- A trial makes its moves, or a write that is owed.
-use Rattle.std.proofs.Common.{◌≡◌, sym, ap, ◌∙◌, subst}
+use Rattle.std.proofs.Common.{◌≡◌, sym, ◌∙◌, subst, true}
 use Rattle.xsi_calls.specs.CallSteps.{MakesCall}
 use Rattle.xsi_calls.specs.Machine.{CallView, is_paying}
 use Rattle.xsi_calls.specs.Stages.{Stage, stage_at}
@@ -25,16 +25,16 @@ returns-clause-made g c = λ made stopped.
     (sym c.is_paying.ensures ∙ c.if-not-is_paying.false) in
     let names = subst (λ (q : QuestionsView). AreNames q.names) c.questions.ensures c.keep_order.ensures in
     let goes = subst (λ (p : Plan). ReachesAtOnce (MakesPayment (g.K.PseudoKey.of_key c.args.keys.now) c.args.seat p)
-    c.args.seat c.self.inside.payment c.reach.new.self c.args.pool.now c.args.locks.now c.reach.new.locks)
-    c.plan-plan.ensures (c.reach.ensures.made made) in
+    c.args.seat c.self.inside.payment c.reach-2.new.self c.args.pool.now c.args.locks.now c.reach-2.new.locks)
+    c.plan-plan.ensures (c.reach-2.ensures.made made) in
     subst (λ (x : Stage). ReachesAtOnce (MakesCall (g.K.PseudoKey.of_key c.args.keys.now) c.args.seat stopped)
     c.args.seat c.args.self.now (record {
       caller = c.self.inside.caller;
       call = c.self.inside.call;
       undecided = c.self.inside.undecided;
       stage = x;
-    }) c.args.pool.now c.args.locks.now c.reach.new.locks)
-    (sym (paying_still i.phase i.payment c.reach.new.self i.conclusion pays))
+    }) c.args.pool.now c.args.locks.now c.reach-2.new.locks)
+    (sym (paying_still i.phase i.payment c.reach-2.new.self i.conclusion pays))
     (pays_at_once hash c.args.seat stopped i.caller i.call stage c.args.self.now i.undecided c.self.view_is i.payment
-    c.reach.new.self i.conclusion (paying_still i.phase i.payment i.payment i.conclusion pays) names c.args.pool.now
-    c.args.locks.now c.reach.new.locks c.requires.seat c.requires.row goes)
+    c.reach-2.new.self i.conclusion (paying_still i.phase i.payment i.payment i.conclusion pays) names c.args.pool.now
+    c.args.locks.now c.reach-2.new.locks c.requires.seat c.requires.row goes)
