@@ -6,10 +6,10 @@ use Rattle.xsi_calls.specs.CallSteps.{MakesCall}
 use Rattle.xsi_calls.specs.Machine.{CallView, call_locks, is_undecided}
 use Rattle.xsi_calls.specs.Stages.{Stage, Paying, Undecided}
 use Rattle.xsi_calls.specs.UndecidedSteps.{MakesUndecided}
-use Rattle.xsi_calls.specs.Words.{AreNames, Call, Caller, IsSeat, Kind, MakesPayment, Moved, PaymentStage, Plan, PoolState, QuestionsView, ReachesAtOnce, RecordKey, Table, UndecidedCall, its_plan, payment_locks, row_of}
+use Rattle.xsi_calls.specs.Words.{AreNames, Call, Caller, IsSeat, Kind, MakesPayment, Moved, PaymentStage, PoolState, ReachesAtOnce, RecordKey, Table, UndecidedCall, its_plan, payment_locks, row_of}
 use Rattle.xsi_calls.proofs.AtOnceLemmas.{moves}
 use Rattle.xsi_calls.proofs.GoLemmas.{asking, at_undecided, with_stage}
-use Rattle.xsi_calls.proofs.PayLemmas.{paying, pays_on}
+use Rattle.xsi_calls.proofs.PayLemmas.{pays_on}
 use Rattle.xsi_calls.proofs.ReachLemmas.{HasItsRow, reaches_in, row_behind}
 
 module _ (hash : RecordKey → ℕ) (seat : ℕ) (stopped : Bool) (caller : Caller) (call : Call) (stage : Stage)

@@ -1,10 +1,9 @@
 -- A trial of a call that goes to its page in one go.
-use Rattle.std.proofs.Common.{◌≡◌, ℕ, ◌+◌, min, Bool, true, Option, Some, None, if◌then◌else◌, refl, sym, ap}
+use Rattle.std.proofs.Common.{◌≡◌, ℕ, ◌+◌, min, Bool, true, Some, None, if◌then◌else◌, refl, sym, ap}
 use Rattle.std.specs.Prelude.{slice_get}
 use Rattle.file_pages.specs.declared.fault.FileFault.{FileFault}
 use Rattle.step_rules.specs.declared.kind.Kind.{Kind}
 use Rattle.step_rules.specs.declared.kind.Kind.TheVariants as kinds
-use Rattle.xsi_calls.specs.declared.trials.Trials.{Trials}
 use Rattle.xsi_calls.specs.declared.undecided.UndecidedCall.{UndecidedCall}
 use Rattle.xsi_calls.specs.declared.writes.CallWrites.{CallWrites}
 use Rattle.xsi_calls.specs.Counting.{MOST_FINDS, finds_behind}
@@ -13,7 +12,7 @@ use Rattle.xsi_calls.specs.MakeSteps.{MakesWrites}
 use Rattle.xsi_calls.specs.QuestionWords.{Moved}
 use Rattle.xsi_calls.specs.Undecided.{its_plan, untried}
 use Rattle.xsi_calls.specs.UndecidedSteps.{MakesUndecided}
-use Rattle.xsi_calls.specs.UndecidedWords.{AreNames, AskStep, At, Call, Decision, IsSeat, Lock, Plan, PoolState, Progress, QuestionsView, ReachesAtOnce, Record, RecordKey, Table, at, is_done, row_of, writes_locks}
+use Rattle.xsi_calls.specs.UndecidedWords.{AreNames, AskStep, At, Call, Decision, IsSeat, Plan, PoolState, QuestionsView, ReachesAtOnce, Record, RecordKey, Table, at, is_done, row_of, writes_locks}
 use Rattle.xsi_calls.specs.WriteRuns.{ReachesBySearch}
 use Rattle.xsi_calls.proofs.CountLemmas.{none_more}
 use Rattle.xsi_calls.proofs.QuestionRunLemmas.{way_in}
