@@ -9,7 +9,7 @@ use Rattle.xsi_calls.specs.Stages.{Stage, Undecided}
 use Rattle.xsi_calls.specs.Words.{AsksAtOnce, Call, Caller, Kind, Moved, PoolState, RecordKey, Table, UndecidedCall}
 
 module _ (hash : RecordKey → ℕ) (seat : ℕ) (caller : Caller) (call : Call) where
-  moves : (stopped : Bool) (kind : Kind) (u u' : UndecidedCall) (pool pool' : PoolState) (locks locks' : Table) →
+  pub moves : (stopped : Bool) (kind : Kind) (u u' : UndecidedCall) (pool pool' : PoolState) (locks locks' : Table) →
       MakesUndecided hash seat call (Moved kind) u u' pool pool' locks locks' →
       MakesCall hash seat stopped (Moved kind) (asking caller call u) (asking caller call u') pool pool' locks locks'
   moves stopped kind u u' pool pool' locks locks' makes =

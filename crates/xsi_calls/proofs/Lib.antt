@@ -35,6 +35,8 @@ pub mod ListenLemmas
 pub mod OpenLemmas
 pub mod QuestionFewLemmas
 pub mod QuestionRunLemmas
+pub mod ReachLemmas
+pub mod WriteReachLemmas
 pub mod QuestionAtOnceLemmas
 pub mod QuestionNames
 pub mod QuestionAimLemmas
@@ -44,6 +46,7 @@ pub mod RecordLemmas
 pub mod SweptLemmas
 pub mod WrittenLemmas
 pub mod PaymentPayLemmas
+pub mod PaymentReachLemmas
 pub mod PaymentBeginLemmas
 pub mod PaymentDecidedLemmas
 pub mod OwnLemmas
@@ -59,6 +62,7 @@ pub mod BeginLemmas
 pub mod TryLemmas
 pub mod StepLemmas
 pub mod UndecidedAtOnceLemmas
+pub mod UndecidedReachLemmas
 pub mod UndecidedDecideLemmas
 pub mod UndecidedLawLemmas
 pub mod UndecidedAimLemmas
@@ -76,6 +80,7 @@ pub mod AtOnceLemmas
 pub mod PhaseLemmas
 pub mod ReleaseLemmas
 pub mod PayLemmas
+pub mod CallReachLemmas
 pub mod RowLemmas
 pub mod LawLemmas
 pub mod AimLemmas

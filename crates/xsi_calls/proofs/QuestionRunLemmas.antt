@@ -6,7 +6,7 @@ use Rattle.step_rules.specs.declared.kind.Kind.{Kind}
 use Rattle.xsi_calls.specs.QuestionWords.{Moved, PoolState, Table}
 use Rattle.xsi_calls.specs.QuestionRuns.{AskStep, AsksAtOnce, Promise, Way, stops_on}
 
-abbrev way_in : {S T : Type 0} → (S → T) → Way S → Way T
+abbrev pub way_in : {S T : Type 0} → (S → T) → Way S → Way T
 way_in whole way = record {
   locked = whole way.locked;
   deep = whole way.deep;

@@ -16,6 +16,7 @@ pub mod Questions
 pub mod QuestionSteps
 pub mod QuestionLaws
 pub mod QuestionRuns
+pub mod WriteRuns
 pub mod PaymentWords
 pub mod Payments
 pub mod Paying

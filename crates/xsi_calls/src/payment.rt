@@ -5,6 +5,8 @@ ghost use Rattle.xsi_calls.specs.PaymentWords.{EndsRow, IsReady, IsSeat, is_move
 ghost use Rattle.xsi_calls.specs.Payments.{begun_payment, decided, payment_locks, sweep_of, unwritten};
 ghost use Rattle.xsi_calls.specs.PaySteps.{MakesPayment};
 
+mod skipping;
+
 use crate::due::Due;
 use crate::plan::PlanOf;
 use crate::writes::CallWrites;

@@ -6,6 +6,8 @@ ghost use Rattle.xsi_calls.specs.WriteWords.{EndsRow, IsReady, IsSeat, is_fault,
 ghost use Rattle.xsi_calls.specs.MakeSteps.{MakesDeed, MakesWrites, SetsOut, Settles};
 ghost use Rattle.xsi_calls.specs.Views.{decided_at, is_full, writes_locks};
 
+mod skipping;
+
 use crate::due::Due;
 use crate::plan::PlanOf;
 use bucket_page::PseudoKey;

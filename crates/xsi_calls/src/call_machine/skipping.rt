@@ -56,6 +56,14 @@ impl CallMachine {
             pool.old locks.old locks.new }
         ensures spares { result ≡ false → (self.new ≡ self.old) × (locks.new ≡ locks.old) }
     {
-        false
+        if self.is_undecided() {
+            return self.undecided.reach(pool, locks, keys, seat, &self.call);
+        }
+        if !self.is_paying() {
+            return false;
+        }
+        self.undecided.questions().keep_order();
+        let plan = self.undecided.plan(&self.call);
+        self.payment.reach(&plan, pool, locks, keys, seat)
     }
 }

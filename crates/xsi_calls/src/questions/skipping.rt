@@ -1,7 +1,8 @@
 //! A question that is asked in one go.
 
-ghost use Rattle.std.specs.Prelude.{◌≡◌, false, true};
+ghost use Rattle.std.specs.Prelude.{◌≡◌, ◌+◌, false, min, true};
 ghost use Rattle.xsi_calls.specs.QuestionWords.{IsReady, IsSeat, row_of};
+ghost use Rattle.xsi_calls.specs.Counting.{MOST_FINDS};
 ghost use Rattle.xsi_calls.specs.Questions.{questions_locks};
 ghost use Rattle.xsi_calls.specs.QuestionSteps.{MakesQuestions};
 ghost use Rattle.xsi_calls.specs.QuestionRuns.{AsksAtOnce};
@@ -59,5 +60,12 @@ impl Questions {
         };
         self.finds = self.finds.saturating_add(1);
         true
+    }
+
+    /// Counts a search of the call beside its questions.
+    pub(crate) fn count_one(&mut self)
+        ensures { self.new ≡ record self.old { finds = min (self.old.finds + 1) MOST_FINDS } }
+    {
+        self.finds = self.finds.saturating_add(1);
     }
 }

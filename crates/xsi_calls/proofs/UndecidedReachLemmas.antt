@@ -1,0 +1,124 @@
+-- A trial of a call that goes to its page in one go.
+use Rattle.std.proofs.Common.{◌≡◌, ℕ, ◌+◌, min, Bool, true, Some, None, if◌then◌else◌, refl, sym, ap}
+use Rattle.std.specs.Prelude.{slice_get}
+use Rattle.file_pages.specs.declared.fault.FileFault.{FileFault}
+use Rattle.step_rules.specs.declared.kind.Kind.{Kind}
+use Rattle.step_rules.specs.declared.kind.Kind.TheVariants as kinds
+use Rattle.xsi_calls.specs.declared.undecided.UndecidedCall.{UndecidedCall}
+use Rattle.xsi_calls.specs.declared.writes.CallWrites.{CallWrites}
+use Rattle.xsi_calls.specs.Counting.{MOST_FINDS, finds_behind}
+use Rattle.xsi_calls.specs.Knowing.{IsDecision}
+use Rattle.xsi_calls.specs.MakeSteps.{MakesWrites}
+use Rattle.xsi_calls.specs.QuestionWords.{Moved}
+use Rattle.xsi_calls.specs.Undecided.{its_plan, untried}
+use Rattle.xsi_calls.specs.UndecidedSteps.{MakesUndecided}
+use Rattle.xsi_calls.specs.UndecidedWords.{AreNames, AskStep, At, Call, Decision, IsSeat, Plan, PoolState, QuestionsView, ReachesAtOnce, Record, RecordKey, Table, at, is_done, row_of, writes_locks}
+use Rattle.xsi_calls.specs.WriteRuns.{ReachesBySearch}
+use Rattle.xsi_calls.proofs.CountLemmas.{none_more}
+use Rattle.xsi_calls.proofs.QuestionRunLemmas.{way_in}
+use Rattle.xsi_calls.proofs.ReachLemmas.{HasItsRow, row_behind}
+use Rattle.xsi_calls.proofs.StepLemmas.{begun, tried_with}
+
+module _ (hash : RecordKey → ℕ) (seat : ℕ) (call : Call) (q : QuestionsView) (names : AreNames q.names) where
+  -- ---- the trials are under way
+
+  module _ (x : Plan) (plan : x ≡ its_plan call q) (decision : Decision) where
+    -- behind so many searches
+    abbrev trying : ℕ → CallWrites → UndecidedCall
+    trying n w = record {
+      questions = record q { finds = n };
+      trials = Some (record { writes = w; decision = decision });
+    }
+
+    abbrev among : ℕ → At CallWrites → At UndecidedCall
+    among n s = at (trying n s.machine) s.pool s.locks
+
+    abbrev Stands : At CallWrites → Type 0
+    Stands s = HasItsRow seat s.locks (writes_locks s.machine q.names)
+
+    stands_on : (kind : Kind) (s s' : At CallWrites) → Stands s →
+        AskStep (MakesWrites hash seat x) seat (Moved kind) s s' → Stands s'
+    stands_on kind s s' stands step =
+        row_behind seat s.locks s'.locks (writes_locks s'.machine q.names) stands.0
+        (step.makes.row q.names names.no_file stands.1)
+
+    -- behind n searches it is one of the call, behind which there are m
+    moves : (kind : Kind) (n m : ℕ) (s s' : At CallWrites) → Stands s →
+        m ≡ finds_behind {F = FileFault} (Moved kind) (row_of s'.locks seat) n →
+        AskStep (MakesWrites hash seat x) seat (Moved kind) s s' →
+        AskStep (MakesUndecided hash seat call) seat (Moved kind) (among n s) (among m s')
+    moves kind n m s s' stands counts step = record {
+      makes = tried_with hash seat call (record q { finds = n }) s.pool s.locks x plan
+          (record { writes = s.machine; decision = decision }) names stands.1 (Moved kind) s'.machine s'.pool s'.locks
+          step.makes stands.0 m counts;
+      shared = step.shared;
+    }
+
+    module _ (w w' : CallWrites) (pool : PoolState) (locks locks' : Table) (seated : IsSeat locks seat)
+        (row : row_of locks seat ≡ writes_locks w q.names)
+        (goes : ReachesBySearch hash seat x w w' pool locks locks') where
+      -- one search more
+      abbrev more : ℕ
+      more = min (q.finds + 1) MOST_FINDS
+
+      counts : more ≡
+          finds_behind {F = FileFault} (Moved kinds.Grant) (row_of goes.reaches.way.locked.locks seat) q.finds
+      counts = sym (ap (λ (b : Bool). if b then min (q.finds + 1) MOST_FINDS else q.finds) goes.begins)
+
+      counts_not : more ≡
+          finds_behind {F = FileFault} (Moved kinds.Grant) (row_of goes.reaches.way.arrived.locks seat) more
+      counts_not = sym (none_more (Moved kinds.Grant) (row_of goes.reaches.way.arrived.locks seat) more goes.once)
+
+      pub trial_reaches : ReachesAtOnce (MakesUndecided hash seat call) seat (trying q.finds w) (trying more w') pool
+          locks locks'
+      trial_reaches =
+          let way = goes.reaches.way in
+          let m = goes.reaches.moves in
+          let old : At CallWrites = at w pool locks in
+          let s0 : Stands old = (seated, row) in
+          let s1 = stands_on kinds.Grant old way.locked s0 m.0 in
+          let s2 = stands_on kinds.ReadDepth way.locked way.deep s1 m.1.0 in
+          let s3 = stands_on kinds.ReadEntry way.deep way.named s2 m.1.1.0 in
+          let s4 = stands_on kinds.Grant way.named way.arrived s3 m.1.1.1.0 in
+          let s5 = stands_on kinds.Release way.arrived way.alone s4 m.1.1.1.1.0 in
+          record {
+            way = way_in (among more) way;
+            arrives = ap (among more) goes.reaches.arrives;
+            moves = (
+              moves kinds.Grant q.finds more old way.locked s0 counts m.0,
+              (
+                moves kinds.ReadDepth more more way.locked way.deep s1 refl m.1.0,
+                (
+                  moves kinds.ReadEntry more more way.deep way.named s2 refl m.1.1.0,
+                  (
+                    moves kinds.Grant more more way.named way.arrived s3 counts_not m.1.1.1.0,
+                    (
+                      moves kinds.Release more more way.arrived way.alone s4 refl m.1.1.1.1.0,
+                      (moves kinds.Look more more way.alone way.looked s5 refl m.1.1.1.1.1.0, tt),
+                    ),
+                  ),
+                ),
+              ),
+            );
+          }
+
+  -- ---- the first trial begins
+
+  pub begun_reaches : is_done call q ≡ true → (r : Record) → slice_get (its_plan call q).trials 0 ≡ Some r →
+      (decision : Decision) → IsDecision call q decision → (new : UndecidedCall) (pool : PoolState)
+      (locks locks' : Table) → ReachesAtOnce (MakesUndecided hash seat call) seat
+      (record { questions = q; trials = Some (record { writes = untried; decision = decision }) }) new pool locks
+      locks' →
+      ReachesAtOnce (MakesUndecided hash seat call) seat (record { questions = q; trials = None }) new pool locks locks'
+  begun_reaches done r some decision decides new pool locks locks' goes = record {
+    way = goes.way;
+    arrives = goes.arrives;
+    moves = (
+      record {
+        makes = begun hash seat call q pool locks names done r some decision decides (Moved kinds.Grant)
+            goes.way.locked.machine goes.way.locked.pool goes.way.locked.locks goes.moves.0.makes;
+        shared = goes.moves.0.shared;
+      },
+      goes.moves.1,
+    );
+  }
