@@ -1,4 +1,4 @@
--- The decision before the first trial, and the trials that then begin.
+-- The decision before the first trial.
 use Rattle.std.proofs.Common.{◌≡◌, ap, ◌∙◌, subst, Option, None, Result, Ok}
 use Rattle.xsi_calls.specs.declared.writes.CallWrites.{CallWrites}
 use Rattle.xsi_calls.specs.WriteWords.{AccessView}
@@ -6,11 +6,6 @@ use Rattle.xsi_inquiry.specs.Telling.{Gives}
 use Rattle.xsi_calls.specs.UndecidedWords.{AnyInquiry, Call, Decision, Due, IsFiled, IsRight, KnowsOf, NotASystem, QuestionsView, Roomful, State, Trying, caller_of, locked_of, plan_of}
 use Rattle.xsi_calls.specs.Undecided.{its_plan, untried}
 use Rattle.xsi_calls.specs.Knowing.{IsDecision}
-
-pub new_is : (w : CallWrites) → w.due ≡ Trying 0 → w.access ≡ None → w ≡ untried
-new_is w due rests =
-    ap (λ (d : Due). record { due = d; access = w.access }) due
-    ∙ ap (λ (o : Option AccessView). record { due = Trying 0; access = o }) rests
 
 pub decision_of : (call : Call) (q : QuestionsView) (i : AnyInquiry) → i ≡ q.inquiry →
     (result : Result Decision NotASystem) → ((room : Roomful) (s : State) → IsFiled s → KnowsOf call i room s →

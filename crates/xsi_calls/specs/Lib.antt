@@ -25,6 +25,7 @@ pub mod PaymentLaws
 pub mod UndecidedWords
 pub mod UndecidedBelow
 pub mod Undecided
+pub mod Lending
 pub mod Knowing
 pub mod UndecidedSteps
 pub mod Deciding

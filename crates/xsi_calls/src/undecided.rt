@@ -17,8 +17,7 @@ use crate::due::Due;
 use crate::plan::PlanOf;
 use crate::questions::Questions;
 use crate::step_rules::Progress;
-use crate::trials::Trials;
-use crate::writes::CallWrites;
+use crate::trials::TrialsPlace;
 use bucket_page::PseudoKey;
 use buffer_pool::Pool;
 use call_decisions::{AnyInquiry, Settled, decide};
@@ -33,7 +32,7 @@ use xsi_inquiry::{Inquiry, NotASystem, Room};
 #[derive(Drop)]
 pub struct UndecidedCall {
     questions: Questions,
-    trials: Option<Trials>,
+    trials: TrialsPlace,
 }
 
 impl UndecidedCall {
@@ -47,7 +46,7 @@ impl UndecidedCall {
     {
         UndecidedCall {
             questions: Questions::begin(by, call, room),
-            trials: None,
+            trials: TrialsPlace::new(),
         }
     }
 
@@ -61,7 +60,7 @@ impl UndecidedCall {
             KnowsNear call.now self.new.questions s }
     {
         self.questions.begin_again(by, call);
-        self.trials = None;
+        self.trials.close();
     }
 
     /// Becomes another call, in the place of one that is over. The bytes that it is answered have
@@ -74,7 +73,7 @@ impl UndecidedCall {
             KnowsNear call.now self.new.questions s }
     {
         self.questions.renew(by, call, room);
-        self.trials = None;
+        self.trials.close();
     }
 
     /// What it has asked, and the names that it holds.
@@ -134,7 +133,7 @@ impl UndecidedCall {
         ensures { MakesUndecided (K.of_key keys.now) seat call.now result self.old self.new
             pool.old pool.new locks.old locks.new }
     {
-        if self.trials.is_some() {
+        if self.trials.have_begun() {
             return self.go_on(pool, locks, keys, seat, call);
         }
         if self.questions.is_done(call) {
@@ -159,7 +158,7 @@ impl UndecidedCall {
             IsDecided hash seat call.now s self.old decided records pool locks change) }
     {
         self.questions.keep_order();
-        let Some(trials) = &self.trials else {
+        let Some(trials) = self.trials.get() else {
             let decision = decide(call, self.questions.inquiry())?;
             return Ok(Decided {
                 settled: Some(Settled::of(decision, stopped)),
@@ -167,7 +166,7 @@ impl UndecidedCall {
             });
         };
         let decided = trials.settle(stopped);
-        self.trials = None;
+        self.trials.close();
         Ok(decided)
     }
 
@@ -215,10 +214,7 @@ impl UndecidedCall {
         let Ok(decision) = decide(call, self.questions.inquiry()) else {
             return Progress::Fault(FileFault::Failed);
         };
-        self.trials = Some(Trials {
-            writes: CallWrites::new(),
-            decision,
-        });
+        self.trials.begin(decision);
         self.go_on(pool, locks, keys, seat, call)
     }
 
@@ -240,7 +236,7 @@ impl UndecidedCall {
     {
         self.questions.keep_order();
         let plan = PlanOf::new(call, self.questions.inquiry());
-        match &mut self.trials {
+        match self.trials.get_mut() {
             Some(trials) => {
                 let did = trials.writes.step(&plan, pool, locks, keys, seat);
                 self.questions.count(did, locks, seat);

@@ -37,6 +37,14 @@ impl CallWrites {
         }
     }
 
+    /// Nothing is inserted or written any more, in the place of one that may not be at rest.
+    pub(crate) fn renew(&mut self)
+        ensures { self.new ≡ record { due = Due.Trying 0; access = None } }
+    {
+        self.due = Due::Trying(0);
+        self.access.close();
+    }
+
     /// Is at rest, with this due, in the place of one that is at rest.
     pub fn begin_at(&mut self, due: Due)
         requires rests { self.old.access ≡ None }

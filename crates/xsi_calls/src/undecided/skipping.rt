@@ -7,9 +7,7 @@ ghost use Rattle.xsi_calls.specs.Undecided.{undecided_locks};
 ghost use Rattle.xsi_calls.specs.UndecidedSteps.{MakesUndecided};
 
 use crate::plan::PlanOf;
-use crate::trials::Trials;
 use crate::undecided::UndecidedCall;
-use crate::writes::CallWrites;
 use bucket_page::PseudoKey;
 use buffer_pool::Pool;
 use call_decisions::decide;
@@ -38,7 +36,7 @@ impl UndecidedCall {
             pool.old locks.now }
         ensures spares { result ≡ false → self.new ≡ self.old }
     {
-        if self.trials.is_some() {
+        if self.trials.have_begun() {
             return false;
         }
         self.questions.skip(pool, locks, keys, seat, call)
@@ -64,7 +62,7 @@ impl UndecidedCall {
             pool.old locks.old locks.new }
         ensures spares { result ≡ false → (self.new ≡ self.old) × (locks.new ≡ locks.old) }
     {
-        if self.trials.is_some() {
+        if self.trials.have_begun() {
             return self.reach_next(pool, locks, keys, seat, call);
         }
         if !self.questions.is_done(call) {
@@ -94,7 +92,7 @@ impl UndecidedCall {
     {
         self.questions.keep_order();
         let plan = PlanOf::new(call, self.questions.inquiry());
-        match &mut self.trials {
+        match self.trials.get_mut() {
             Some(trials) => {
                 if !trials.writes.reach(&plan, pool, locks, keys, seat) {
                     return false;
@@ -134,12 +132,9 @@ impl UndecidedCall {
         let Ok(decision) = decide(call, self.questions.inquiry()) else {
             return false;
         };
-        self.trials = Some(Trials {
-            writes: CallWrites::new(),
-            decision,
-        });
+        self.trials.begin(decision);
         if !self.reach_next(pool, locks, keys, seat, call) {
-            self.trials = None;
+            self.trials.close();
             return false;
         }
         true

@@ -1,5 +1,5 @@
 -- What it comes to where nothing was inserted on trial, and by its trials.
-use Rattle.std.proofs.Common.{◌≡◌, sym, ap, ◌∙◌, subst, Option, Ok}
+use Rattle.std.proofs.Common.{◌≡◌, sym, ap, ◌∙◌, subst, Option, Ok, option_copied}
 use Rattle.call_decisions.specs.Anything.{decided_of}
 use Rattle.xsi_calls.specs.declared.trials.Trials.{Trials}
 use Rattle.xsi_calls.specs.UndecidedWords.{AnyInquiry, Settled}
@@ -14,13 +14,14 @@ use Rattle.xsi_calls.proofs.undecided.UndecidedCall.decide.Goals as goal
 
 pub returns-in_default-clause-due : goal.returns-in_default-clause-due
 returns-in_default-clause-due c =
-    sym (ap (λ (o : Option Trials). (trials_in o).due) (none_by c.args.self.now.trials c.in_default.not-Some))
+    sym (ap (λ (o : Option Trials). (trials_in o).due)
+    (sym c.get.ensures ∙ ap option_copied (none_by c.get.result c.in_default.not-Some)))
 
 pub returns-in_default-clause-decided : goal.returns-in_default-clause-decided
 returns-in_default-clause-decided c = λ hash seat s records pool locks change is mark.
     let call = c.args.call.now in
     let q = c.args.self.now.questions in
-    let none = none_by c.args.self.now.trials c.in_default.not-Some in
+    let none = sym c.get.ensures ∙ ap option_copied (none_by c.get.result c.in_default.not-Some) in
     let asking = subst (λ (o : Option Trials). IsUndecidedIn hash seat c.args.call.now s c.args.self.now.questions o
     records pool locks change) none is in
     let (done, idle) = subst (λ (o : Option Trials). CanDecideIn c.args.call.now c.args.self.now.questions o) none
@@ -40,14 +41,15 @@ returns-in_default-clause-decided c = λ hash seat s records pool locks change i
 
 pub returns-clause-due : goal.returns-clause-due
 returns-clause-due c =
-    c.settle-decided.ensures.due ∙ sym (ap (λ (o : Option Trials). (trials_in o).due) c.in-Some.is)
+    c.settle-decided.ensures.due
+    ∙ sym (ap (λ (o : Option Trials). (trials_in o).due) (sym c.get.ensures ∙ ap option_copied c.in-Some.is))
 
 pub returns-clause-decided : goal.returns-clause-decided
 returns-clause-decided c = λ hash seat s records pool locks change is mark.
     let call = c.args.call.now in
     let q = c.args.self.now.questions in
-    let t = c.in-Some.trials in
-    let some = c.in-Some.is in
+    let t = c.in-Some.trials.now in
+    let some = sym c.get.ensures ∙ ap option_copied c.in-Some.is in
     let trying = subst (λ (o : Option Trials). IsUndecidedIn hash seat c.args.call.now s c.args.self.now.questions o
     records pool locks change) some is in
     let over = subst (λ (o : Option Trials). CanDecideIn c.args.call.now c.args.self.now.questions o) some
@@ -56,4 +58,4 @@ returns-clause-decided c = λ hash seat s records pool locks change is mark.
     subst (λ (o : Option Trials). IsDecidedIn hash seat c.args.call.now s c.args.self.now.questions
     c.settle-decided.result.settled (trials_in o) records pool locks change) (sym some)
     (subst (λ (o : Option Settled). IsDecidedIn hash seat c.args.call.now s c.args.self.now.questions o
-    c.in-Some.trials.writes records pool locks change) (sym c.settle-decided.ensures.settled) settles)
+    c.in-Some.trials.now.writes records pool locks change) (sym c.settle-decided.ensures.settled) settles)

@@ -2,10 +2,9 @@
 use Rattle.std.proofs.Common.{sym, ap, ◌∙◌, subst, not, Option, Some}
 use Rattle.std.specs.Prelude.{slice_get}
 use Rattle.xsi_calls.specs.declared.trials.Trials.{Trials}
-use Rattle.xsi_calls.specs.declared.writes.CallWrites.{CallWrites}
 use Rattle.xsi_calls.specs.UndecidedSteps.{MakesUndecided}
 use Rattle.xsi_calls.specs.UndecidedWords.{AnyInquiry, ReachesAtOnce, plan_of}
-use Rattle.xsi_calls.proofs.BeginLemmas.{decision_of, new_is}
+use Rattle.xsi_calls.proofs.BeginLemmas.{decision_of}
 use Rattle.xsi_calls.proofs.HeldLemmas.{some_of}
 use Rattle.xsi_calls.proofs.UndecidedReachLemmas.{begun_reaches}
 use Rattle.xsi_calls.proofs.undecided.UndecidedCall.reach_first.Goals as goal
@@ -16,12 +15,9 @@ returns-clause-made g c = λ made.
     let (r, some) = some_of c.trial.result (c.is_none.ensures ∙ ap not c.if-is_none.false) in
     let decides = decision_of c.args.call.now c.args.self.now.questions c.inquiry-2.result.now c.inquiry-2.ensures
     c.decide.result c.decide.ensures.right c.in-Ok.decision c.in-Ok.is in
-    let goes = subst (λ (w : CallWrites). ReachesAtOnce (MakesUndecided (g.K.PseudoKey.of_key c.args.keys.now)
-    c.args.seat c.args.call.now) c.args.seat (record {
-      questions = c.args.self.now.questions;
-      trials = Some (record { writes = w; decision = c.in-Ok.decision });
-    }) c.reach_next.new.self c.args.pool.now c.args.locks.now c.reach_next.new.locks)
-    (new_is c.new.result c.new.ensures.due c.new.ensures.rests) (c.reach_next.ensures.made c.if-not-reach_next.false) in
+    let goes = subst (λ (o : Option Trials). ReachesAtOnce (MakesUndecided (g.K.PseudoKey.of_key c.args.keys.now)
+    c.args.seat c.args.call.now) c.args.seat (record { questions = c.args.self.now.questions; trials = o }) c.reach_next.new.self c.args.pool.now c.args.locks.now c.reach_next.new.locks)
+    c.begin.ensures (c.reach_next.ensures.made c.if-not-reach_next.false) in
     subst (λ (o : Option Trials). ReachesAtOnce (MakesUndecided (g.K.PseudoKey.of_key c.args.keys.now) c.args.seat
     c.args.call.now) c.args.seat (record { questions = c.args.self.now.questions; trials = o }) c.reach_next.new.self
     c.args.pool.now c.args.locks.now c.reach_next.new.locks) (sym c.requires.untried)

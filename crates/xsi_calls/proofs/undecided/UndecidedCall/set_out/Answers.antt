@@ -1,12 +1,11 @@
 -- Nothing is inserted on trial, or the first trial begins.
 use Rattle.std.proofs.Common.{◌≡◌, sym, ap, ◌∙◌, subst, not, Option, Some, None}
 use Rattle.std.specs.Prelude.{slice_get}
-use Rattle.xsi_calls.specs.declared.writes.CallWrites.{CallWrites}
 use Rattle.xsi_calls.specs.declared.trials.Trials.{Trials}
 use Rattle.xsi_calls.specs.Undecided.{its_plan, locks_in}
 use Rattle.xsi_calls.specs.UndecidedSteps.{MakesUndecided}
 use Rattle.xsi_calls.specs.UndecidedWords.{AnyInquiry, Ended, plan_of}
-use Rattle.xsi_calls.proofs.BeginLemmas.{decision_of, new_is}
+use Rattle.xsi_calls.proofs.BeginLemmas.{decision_of}
 use Rattle.xsi_calls.proofs.HeldLemmas.{none_of, some_of}
 use Rattle.xsi_calls.proofs.StepLemmas.{begun, rests}
 use Rattle.xsi_calls.proofs.undecided.UndecidedCall.set_out.Goals as goal
@@ -31,12 +30,9 @@ returns g c =
     let (r, some) = some_of c.trial.result (c.is_none.ensures ∙ ap not c.if-is_none.false) in
     let decides = decision_of c.args.call.now c.args.self.now.questions c.inquiry-2.result.now c.inquiry-2.ensures
     c.decide.result c.decide.ensures.right c.in-Ok.decision c.in-Ok.is in
-    let made = subst (λ (w : CallWrites). MakesUndecided (g.K.PseudoKey.of_key c.args.keys.now) c.args.seat
-    c.args.call.now c.go_on.result (record {
-      questions = c.args.self.now.questions;
-      trials = Some (record { writes = w; decision = c.in-Ok.decision });
-    }) c.go_on.new.self c.args.pool.now c.go_on.new.pool c.args.locks.now c.go_on.new.locks)
-    (new_is c.new.result c.new.ensures.due c.new.ensures.rests) c.go_on.ensures in
+    let made = subst (λ (o : Option Trials). MakesUndecided (g.K.PseudoKey.of_key c.args.keys.now) c.args.seat
+    c.args.call.now c.go_on.result (record { questions = c.args.self.now.questions; trials = o }) c.go_on.new.self c.args.pool.now c.go_on.new.pool c.args.locks.now c.go_on.new.locks)
+    c.begin.ensures c.go_on.ensures in
     subst (λ (o : Option Trials). MakesUndecided (g.K.PseudoKey.of_key c.args.keys.now) c.args.seat c.args.call.now
     c.go_on.result (record { questions = c.args.self.now.questions; trials = o }) c.go_on.new.self c.args.pool.now
     c.go_on.new.pool c.args.locks.now c.go_on.new.locks) (sym c.requires.untried)

@@ -9,7 +9,7 @@ use Rattle.xsi_calls.proofs.undecided.UndecidedCall.skip.Goals as goal
 
 pub returns-clause-made : goal.returns-clause-made
 returns-clause-made g c = λ made.
-    let none = none_of c.args.self.now.trials (sym c.is_some.ensures ∙ c.if-is_some.false) in
+    let none = none_of c.args.self.now.trials (sym c.have_begun.ensures ∙ c.if-have_begun.false) in
     subst (λ (o : Option Trials). AsksAtOnce (MakesUndecided (g.K.PseudoKey.of_key c.args.keys.now) c.args.seat
     c.args.call.now) c.args.seat (record { questions = c.args.self.now.questions; trials = o })
     (record { questions = c.skip.new.self; trials = o }) c.args.pool.now c.args.locks.now) (sym none)
