@@ -1,6 +1,6 @@
 -- Moves of a seat's call that are made in one go, of which none is a Decide: what they leave of the call, and that each
 -- is a step of a kernel.
-use Rattle.std.proofs.Common.{◌≡◌, ◌≢◌, refl, sym, ap, ◌∙◌, subst, ℕ, Bool, true, false, true≢false, IsSome, inl, List, [], ◌∷◌, ◌++◌, Option, Some, None, length, append-nil, arith}
+use Rattle.std.proofs.Common.{◌≡◌, refl, sym, ap, ◌∙◌, subst, ℕ, Bool, true, false, true≢false, IsSome, inl, List, [], ◌∷◌, ◌++◌, Option, Some, None, length, append-nil, arith}
 use Rattle.std.specs.Prelude.{⊤}
 use Rattle.std.specs.Option.{is_some}
 use Rattle.file_pages.specs.declared.fault.FileFault.{FileFault}
@@ -38,7 +38,7 @@ pub record IsAsFar (first : CallView) (draft : Option Draft) (m : CallView) : Ty
 module _ (hash : RecordKey → ℕ) (seat : ℕ) (stopped : Bool) (kind : Kind) (other : kind ≡ kinds.Decide → ⊥)
     (m m' : CallView) (pool pool' : PoolState) (locks locks' : Table)
     (makes : MakesCall hash seat stopped (progress.Moved kind) m m' pool pool' locks locks') where
-  pub no_decide : ◌≢◌ {A = Progress FileFault} (progress.Moved kind) (progress.Moved kinds.Decide)
+  pub no_decide : ◌≡◌ {A = Progress FileFault} (progress.Moved kind) (progress.Moved kinds.Decide) → ⊥
   no_decide is = other cc
 
   come_on : conclusion_of m' ≡ conclusion_of m
