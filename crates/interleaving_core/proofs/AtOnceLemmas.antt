@@ -116,10 +116,10 @@ module _ (seat : ℕ) where
   look = record { other = λ e. absurd cc; uncounted = λ locks locks'. refl }
 
   pub quiet_to : (w : Way (At CallView)) → AreQuiet seat (to_look w)
-  quiet_to w = (read_entry, grant, release, look, tt)
+  quiet_to w = (read_entry, (grant, (release, (look, tt))))
 
   pub quiet_on : (w : Way (At CallView)) (new : At CallView) → AreQuiet seat (to_answer w new)
-  quiet_on w new = (read_entry, grant, release, look, release, tt)
+  quiet_on w new = (read_entry, (grant, (release, (look, (release, tt)))))
 
 -- ---- what they leave of the call
 
