@@ -1,6 +1,6 @@
 -- A question of a seat's call that is asked in one go, and a write that goes to its page so, are so many steps of a
 -- kernel.
-use Rattle.std.proofs.Common.{◌≡◌, refl, sym, ap, ◌∙◌, subst, ℕ, suc, ◌-◌, true, false, List, [], ◌∷◌, Option, Some, None, length, slice_set, slice_index_or}
+use Rattle.std.proofs.Common.{◌≡◌, refl, sym, ap, ◌∙◌, subst, ℕ, suc, ◌-◌, Bool, true, false, List, [], ◌∷◌, Option, Some, None, length, slice_set, slice_index_or}
 use Rattle.step_rules.specs.Runs.{MovesAlong, Stop, end_of, stop}
 use Rattle.step_rules.specs.declared.kind.Kind.{Kind}
 use Rattle.step_rules.specs.declared.kind.Kind.TheVariants as kinds
