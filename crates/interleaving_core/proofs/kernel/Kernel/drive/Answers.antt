@@ -39,8 +39,8 @@ reach-requires g c =
     subst (λ (k : KernelState g.row.K.Denot). IsSeat k.locks c.args.seat) (sym (c.skip.ensures.spares c.if-skip.false))
     c.loop-moves.invariant.moved.seated
 
-pub overflow_add-moves-2 : goal.overflow_add-moves-2
-overflow_add-moves-2 g c =
+pub overflow_add-moves-then-reach : goal.overflow_add-moves-then-reach
+overflow_add-moves-then-reach g c =
     let few = c.loop-moves.invariant.few in
     let room = c.reach.ensures.few c.if-reach.true in
     omega (arith, few, room)
