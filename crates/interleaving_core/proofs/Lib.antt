@@ -9,6 +9,7 @@ pub mod BetweenLemmas
 pub mod FailureLemmas
 pub mod KernelLemmas
 pub mod AtOnceLemmas
+pub mod SkipLemmas
 pub mod SparedLemmas
 pub mod BeginLemmas
 pub mod RunLemmas

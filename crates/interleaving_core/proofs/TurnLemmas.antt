@@ -49,12 +49,12 @@ pub record Does (seat : ℕ) (did : Step) (at left : Option ActiveView) (pool po
 
 -- ---- an answer
 
-some_by : (c : Option Conclusion) (bytes : List ℕ) → IsSome (answer_by c bytes) → IsSome c
+pub some_by : (c : Option Conclusion) (bytes : List ℕ) → IsSome (answer_by c bytes) → IsSome c
 some_by None bytes some = absurd cc
 some_by (Some c) bytes some = refl
 
 -- what a call has come to stays
-stays_at : (did : Progress FileFault) (m m' : CallView) → KeepsCall did m m' → (c : Option Conclusion) →
+pub stays_at : (did : Progress FileFault) (m m' : CallView) → KeepsCall did m m' → (c : Option Conclusion) →
     conclusion_of m ≡ c → IsSome c → answer_of_call m' ≡ answer_of_call m
 stays_at did m m' keeps None is some = absurd cc
 stays_at did m m' keeps (Some c) is some =
@@ -64,7 +64,7 @@ stays_at did m m' keeps (Some c) is some =
     ∙ ap (λ (r : Roomful). answer_by (conclusion_of m) r.bytes) room
 
 -- an answer comes at a Decide
-comes_at : (did : Progress FileFault) (m m' : CallView) → KeepsCall did m m' → (c c' : Option Conclusion) →
+pub comes_at : (did : Progress FileFault) (m m' : CallView) → KeepsCall did m m' → (c c' : Option Conclusion) →
     conclusion_of m ≡ c → conclusion_of m' ≡ c' → answer_of_call m ≡ None → did ≢ progress.Moved Decide →
     answer_of_call m' ≡ None
 comes_at did m m' keeps None None is is' none other =
@@ -79,7 +79,7 @@ none_kept : (seat : ℕ) (x : Option Answer) → entries_by seat x None ≡ []
 none_kept seat None = refl
 none_kept seat (Some x) = refl
 
-none_left : (x : Option Answer) → draft_by x None ≡ None
+pub none_left : (x : Option Answer) → draft_by x None ≡ None
 none_left None = refl
 none_left (Some x) = refl
 
@@ -103,7 +103,7 @@ owed_by seat did m m' keeps (Some d) kept =
     kept.unanswered
     ∙ joins seat m'.call d (kept.call ∙ sym keeps.call) (answer_of_call m')
 
-added_by : (seat : ℕ) (did : Progress FileFault) (m m' : CallView) → KeepsCall did m m' → (draft : Option Draft) →
+pub added_by : (seat : ℕ) (did : Progress FileFault) (m m' : CallView) → KeepsCall did m m' → (draft : Option Draft) →
     IsDrafted m draft → did ≢ progress.Moved Decide → entries_by seat (answer_of_call m') draft ≡ []
 added_by seat did m m' keeps None kept other = none_kept seat (answer_of_call m')
 added_by seat did m m' keeps (Some d) kept other =

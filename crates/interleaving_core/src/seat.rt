@@ -2,7 +2,7 @@
 
 ghost use Rattle.std.specs.Prelude.{◌≡◌, ◌↔◌, ◌+◌, ◌≤◌, IfErr, IfOk, IfSome, IsTrue, None, Some, false, length, option_map, true, vec_capacity};
 ghost use Rattle.interleaving_core.specs.Active.{ActiveView, HasBegunAt};
-ghost use Rattle.interleaving_core.specs.AtOnce.{SeatAsks};
+ghost use Rattle.interleaving_core.specs.AtOnce.{SeatAsks, SeatReaches};
 ghost use Rattle.interleaving_core.specs.Closing.{has_one};
 ghost use Rattle.interleaving_core.specs.Kernel.{due_at, locks_of};
 ghost use Rattle.interleaving_core.specs.Renewing.{IsIdleOrWaits, IsNewWhileWaiting, MayGiveBack, outlasting};
@@ -192,6 +192,35 @@ impl Seat {
         }
         match &mut self.last {
             Some(active) => active.skip(pool, locks, keys, many, seat),
+            None => false,
+        }
+    }
+
+    /// All steps by which a write of its call goes to its page, in one go, while the journal has so
+    /// many entries, where it can go so (`Active::reach`). Else nothing is done, and it is left to
+    /// `advance`.
+    pub(crate) fn reach<D: PageDevice, K: PseudoKey>(
+        &mut self,
+        pool: &mut Pool<D>,
+        locks: &mut LockTable,
+        keys: &K,
+        many: usize,
+        seat: u8,
+    ) -> bool
+        requires seat { IsSeat locks.old seat }
+        requires ready { IsReady pool.old }
+        requires row { row_of locks.old seat ≡ locks_of self.old }
+        ensures pool { pool.new ≡ pool.old }
+        ensures made { result ≡ true → SeatReaches (K.of_key keys.now) seat many
+            self.old self.new pool.old locks.old locks.new }
+        ensures spares { result ≡ false → self.new ≡ self.old }
+        ensures locks { result ≡ false → locks.new ≡ locks.old }
+    {
+        if !self.is_busy {
+            return false;
+        }
+        match &mut self.last {
+            Some(active) => active.reach(pool, locks, keys, many, seat),
             None => false,
         }
     }

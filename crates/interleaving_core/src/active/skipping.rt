@@ -1,10 +1,10 @@
-//! A question of a call at a seat that is asked in one go.
+//! A question of a call at a seat that is asked in one go, and a write of it that goes to its page so.
 
 ghost use Rattle.std.specs.Prelude.{◌≡◌, false, true};
-ghost use Rattle.interleaving_core.specs.AtOnce.{Asks};
+ghost use Rattle.interleaving_core.specs.AtOnce.{Asks, Reaches};
 ghost use Rattle.interleaving_core.specs.Words.{IsReady, IsSeat, call_locks, row_of};
 
-use crate::active::Active;
+use crate::active::{Active, decided_by};
 use bucket_page::PseudoKey;
 use buffer_pool::Pool;
 use page_device::PageDevice;
@@ -37,6 +37,36 @@ impl Active {
             return false;
         }
         self.decided = many;
+        true
+    }
+
+    /// All steps by which a write goes to its page, in one go, while the journal has so many entries:
+    /// where its seat was not told that it waits, and it can go so (`CallMachine::reach`). Else
+    /// nothing is done, and it is left to `step`.
+    pub(crate) fn reach<D: PageDevice, K: PseudoKey>(
+        &mut self,
+        pool: &mut Pool<D>,
+        locks: &mut LockTable,
+        keys: &K,
+        many: usize,
+        seat: u8,
+    ) -> bool
+        requires seat { IsSeat locks.old seat }
+        requires ready { IsReady pool.old }
+        requires row { row_of locks.old seat ≡ call_locks self.old.machine }
+        ensures pool { pool.new ≡ pool.old }
+        ensures made { result ≡ true → Reaches (K.of_key keys.now) seat many
+            self.old self.new pool.old locks.old locks.new }
+        ensures spares { result ≡ false → self.new ≡ self.old }
+        ensures locks { result ≡ false → locks.new ≡ locks.old }
+    {
+        if self.wait.is_some() {
+            return false;
+        }
+        if !self.machine.reach(pool, locks, keys, seat) {
+            return false;
+        }
+        self.decided = decided_by(&self.machine, many, self.decided);
         true
     }
 }

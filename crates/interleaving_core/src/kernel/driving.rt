@@ -16,10 +16,14 @@ use step_rules::Kind;
 /// The steps of a question that is asked in one go.
 const QUESTION_STEPS: u32 = 7;
 
+/// The steps by which a write goes to its page in one go.
+const WRITE_STEPS: u32 = 6;
+
 impl<D: PageDevice + Drop, K: PseudoKey + Drop> Kernel<D, K> {
     /// Steps a seat until its call does not move: it is answered, waits, is blocked, meets a fault,
     /// or there is none. A call that still moves after `MOST_STEPS` fails the kernel. The steps of a
-    /// question in whose way nothing stands are made in one go.
+    /// question in whose way nothing stands are made in one go, and those by which a write goes to
+    /// its page.
     pub fn drive(&mut self, seat: u8) -> Step
         requires { IsSeat self.old.locks seat }
         ensures run { IsRun seat (answer_told result) self.old self.new }
@@ -32,6 +36,10 @@ impl<D: PageDevice + Drop, K: PseudoKey + Drop> Kernel<D, K> {
         while moves < MOST_STEPS {
             if self.skip(seat, MOST_STEPS - moves) {
                 moves += QUESTION_STEPS;
+                continue;
+            }
+            if self.reach(seat, MOST_STEPS - moves) {
+                moves += WRITE_STEPS;
                 continue;
             }
             match self.step(seat) {
@@ -65,6 +73,33 @@ impl<D: PageDevice + Drop, K: PseudoKey + Drop> Kernel<D, K> {
         let place = seat as usize - 1;
         let many = self.journal.len();
         if !self.seats[place].skip(&mut self.pool, &self.locks, &self.keys, many, seat) {
+            return false;
+        }
+        self.searches.are_sound();
+        self.searches.note(seat, Kind::ReadDepth, true, false);
+        self.searches.are_sound();
+        true
+    }
+
+    /// All steps by which the next write of the seat's call goes to its page, in one go, where so many
+    /// steps may be made and it can go so (`Seat::reach`). Else nothing is done, and it is left to
+    /// `step`. They are counted as those of `skip`.
+    fn reach(&mut self, seat: u8, most: u32) -> bool
+        requires { IsSeat self.old.locks seat }
+        ensures made { result ≡ true →
+            Moves (K.of_key self.old.keys) seat WRITE_STEPS self.old self.new }
+        ensures few { result ≡ true → WRITE_STEPS ≤ most }
+        ensures spares { result ≡ false → self.new ≡ self.old }
+    {
+        if most < WRITE_STEPS {
+            return false;
+        }
+        if self.failure.is_some() {
+            return false;
+        }
+        let place = seat as usize - 1;
+        let many = self.journal.len();
+        if !self.seats[place].reach(&mut self.pool, &mut self.locks, &self.keys, many, seat) {
             return false;
         }
         self.searches.are_sound();

@@ -1,10 +1,10 @@
--- Each step goes on from those before it, each of which moved; so do those of a question.
-use Rattle.std.proofs.Common.{◌≡◌, ◌<◌, ap, sym, subst, true, None, arith}
+-- Each step goes on from those before it, each of which moved; so do those of a question, and of a write on its way.
+use Rattle.std.proofs.Common.{◌≡◌, ◌<◌, ◌∙◌, ap, sym, subst, true, None, arith}
 use Rattle.interleaving_core.specs.Kernel.{KernelState}
 use Rattle.interleaving_core.specs.Owing.{failed, failure_by}
 use Rattle.interleaving_core.specs.Words.{IsSeat}
 use Rattle.interleaving_core.specs.declared.kernel.TheConstants.{MOST_STEPS}
-use Rattle.interleaving_core.specs.declared.kernel.driving.TheConstants.{QUESTION_STEPS}
+use Rattle.interleaving_core.specs.declared.kernel.driving.TheConstants.{QUESTION_STEPS, WRITE_STEPS}
 use Rattle.interleaving_core.proofs.DriveLemmas.{HasMoved, is_spent, moves_after, moves_on, none_made, rests_at}
 use Rattle.interleaving_core.proofs.RunLemmas.{no_move, runs_on}
 use Rattle.interleaving_core.proofs.kernel.Kernel.drive.Goals as goal
@@ -34,19 +34,45 @@ loop-moves-preserved-then-skip g c =
           c.loop-moves.invariant.moved QUESTION_STEPS c.skip.new.self (c.skip.ensures.made c.if-skip.true);
     }
 
+pub reach-requires : goal.reach-requires
+reach-requires g c =
+    subst (λ (k : KernelState g.row.K.Denot). IsSeat k.locks c.args.seat) (sym (c.skip.ensures.spares c.if-skip.false))
+    c.loop-moves.invariant.moved.seated
+
+pub overflow_add-moves-then-reach : goal.overflow_add-moves-then-reach
+overflow_add-moves-then-reach g c =
+    let few = c.loop-moves.invariant.few in
+    let room = c.reach.ensures.few c.if-reach.true in
+    omega (arith, few, room)
+
+pub loop-moves-preserved-then-reach : goal.loop-moves-preserved-then-reach
+loop-moves-preserved-then-reach g c =
+    let test = c.loop-moves-test.true in
+    let room = c.reach.ensures.few c.if-reach.true in
+    let so_far = subst (λ (k : KernelState g.row.K.Denot). HasMoved g.K.PseudoKey.of_key c.args.seat
+    c.loop-moves.moves c.args.self.now k) (sym (c.skip.ensures.spares c.if-skip.false)) c.loop-moves.invariant.moved in
+    record {
+      few = omega (arith, test, room);
+      moved = moves_after g.K.PseudoKey.of_key c.args.seat c.loop-moves.moves c.args.self.now c.skip.new.self so_far
+          WRITE_STEPS c.reach.new.self (c.reach.ensures.made c.if-reach.true);
+    }
+
 pub step-requires : goal.step-requires
 step-requires g c =
-    subst (λ (k : KernelState g.row.K.Denot). IsSeat k.locks c.args.seat) (sym (c.skip.ensures.spares c.if-skip.false))
+    subst (λ (k : KernelState g.row.K.Denot). IsSeat k.locks c.args.seat)
+    (sym (c.reach.ensures.spares c.if-reach.false ∙ c.skip.ensures.spares c.if-skip.false))
     c.loop-moves.invariant.moved.seated
 
 pub loop-moves-preserved : goal.loop-moves-preserved
 loop-moves-preserved g c =
     let test = c.loop-moves-test.true in
     let so_far = subst (λ (k : KernelState g.row.K.Denot). HasMoved g.K.PseudoKey.of_key c.args.seat
-    c.loop-moves.moves c.args.self.now k) (sym (c.skip.ensures.spares c.if-skip.false)) c.loop-moves.invariant.moved in
+    c.loop-moves.moves c.args.self.now k)
+    (sym (c.reach.ensures.spares c.if-reach.false ∙ c.skip.ensures.spares c.if-skip.false))
+    c.loop-moves.invariant.moved in
     record {
       few = omega (arith, test);
-      moved = moves_on g.K.PseudoKey.of_key c.args.seat c.loop-moves.moves c.args.self.now c.skip.new.self so_far
+      moved = moves_on g.K.PseudoKey.of_key c.args.seat c.loop-moves.moves c.args.self.now c.reach.new.self so_far
           c.step.result c.step.new.self (record { turn = c.step.ensures.turn; makes = c.step.ensures.makes })
           c.in-Moved.field-0 c.in-Moved.is;
     }
@@ -57,12 +83,14 @@ returns-in_default g c =
     let test = c.loop-moves-test.true in
     let few : c.loop-moves.moves < MOST_STEPS = omega (arith, test) in
     let so_far = subst (λ (k : KernelState g.row.K.Denot). HasMoved g.K.PseudoKey.of_key c.args.seat
-    c.loop-moves.moves c.args.self.now k) (sym (c.skip.ensures.spares c.if-skip.false)) c.loop-moves.invariant.moved in
+    c.loop-moves.moves c.args.self.now k)
+    (sym (c.reach.ensures.spares c.if-reach.false ∙ c.skip.ensures.spares c.if-skip.false))
+    c.loop-moves.invariant.moved in
     record {
-      run = runs_on c.args.seat c.step.result c.args.self.now c.skip.new.self c.step.new.self so_far.run
+      run = runs_on c.args.seat c.step.result c.args.self.now c.reach.new.self c.step.new.self so_far.run
           c.step.ensures.turn;
       rests = rests;
-      driven = rests_at g.K.PseudoKey.of_key c.args.seat c.loop-moves.moves c.args.self.now c.skip.new.self so_far
+      driven = rests_at g.K.PseudoKey.of_key c.args.seat c.loop-moves.moves c.args.self.now c.reach.new.self so_far
           c.step.result c.step.new.self (record { turn = c.step.ensures.turn; makes = c.step.ensures.makes })
           few rests;
     }

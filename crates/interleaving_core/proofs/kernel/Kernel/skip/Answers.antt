@@ -4,8 +4,8 @@ use Rattle.std.specs.Option.{is_some}
 use Rattle.std.specs.Vec.{vec_len}
 use Rattle.interleaving_core.specs.Kernel.{KernelState}
 use Rattle.interleaving_core.specs.Words.{IsSeat}
-use Rattle.interleaving_core.proofs.AtOnceLemmas.{asked_at_once}
 use Rattle.interleaving_core.proofs.KernelLemmas.{is_counted, row_there}
+use Rattle.interleaving_core.proofs.SkipLemmas.{asked_at_once}
 use Rattle.interleaving_core.proofs.kernel.Kernel.skip.Goals as goal
 
 pub skip-requires-clause-row : goal.skip-requires-clause-row
@@ -51,15 +51,13 @@ invariant_of-self-2 g c =
     let many : vec_len c.self.inside.journal ≡ length c.self.inside.journal.items = search rules in
     (asked_at_once g.K.PseudoKey.of_key c.args.seat c.index_mut.result.now c.skip.new.self _ c.args.self.now
     c.skip.new.pool c.note.new.self c.self.view_is c.self.invariant c.requires c.index_mut.ensures.value
-    (sym c.is_some.ensures ∙ c.if-is_some.false) c.len-many.result (c.len-many.ensures ∙ many)
-    (c.skip.ensures.made c.if-not-skip.false) c.skip.ensures.pool c.are_sound.ensures c.are_sound-2.ensures
-    c.note.ensures).whole
+    (sym c.is_some.ensures ∙ c.if-is_some.false) c.len-many.result (c.len-many.ensures ∙ many) c.skip.ensures.pool
+    c.are_sound.ensures c.are_sound-2.ensures c.note.ensures (c.skip.ensures.made c.if-not-skip.false)).whole
 
 pub returns-clause-made : goal.returns-clause-made
 returns-clause-made g c = λ made.
     let many : vec_len c.self.inside.journal ≡ length c.self.inside.journal.items = search rules in
     (asked_at_once g.K.PseudoKey.of_key c.args.seat c.index_mut.result.now c.skip.new.self _ c.args.self.now
     c.skip.new.pool c.note.new.self c.self.view_is c.self.invariant c.requires c.index_mut.ensures.value
-    (sym c.is_some.ensures ∙ c.if-is_some.false) c.len-many.result (c.len-many.ensures ∙ many)
-    (c.skip.ensures.made c.if-not-skip.false) c.skip.ensures.pool c.are_sound.ensures c.are_sound-2.ensures
-    c.note.ensures).moves
+    (sym c.is_some.ensures ∙ c.if-is_some.false) c.len-many.result (c.len-many.ensures ∙ many) c.skip.ensures.pool
+    c.are_sound.ensures c.are_sound-2.ensures c.note.ensures (c.skip.ensures.made c.if-not-skip.false)).moves
