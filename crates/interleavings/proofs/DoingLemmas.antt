@@ -4,7 +4,6 @@ use Rattle.std.proofs.lemmas.Bool.{true≢false}
 use Rattle.interleavings.specs.Together.{AreTogether, IsUnderWay}
 use Rattle.interleavings.specs.LoneCallWords.{call_left}
 use Rattle.interleavings.proofs.SeatLemmas.{well}
-use Rattle.interleavings.proofs.LoneCallCauseLemmas.{fresh_room}
 use Rattle.interleaving_core.specs.Active.{is_waiting}
 use Rattle.interleaving_core.specs.Fault.{of_page}
 use Rattle.interleaving_core.specs.Owing.{is_failure}
@@ -18,7 +17,7 @@ use Rattle.step_rules.specs.declared.progress.Progress.TheVariants as progress
 use Rattle.interleavings.specs.Words.{ActiveView, Answer, Call, Caller, FileFault, KernelState, PoolState, Progress, RecordKey, State, Step, after as journal_after, answer_of_call, call_at, conclusion_of, is_fault, lacks_room, outcome, store_of}
 use Rattle.interleavings.specs.Doing.{DoesBy, FindsNoRoom, LacksRightly, LeavesAll, turn_of}
 use Rattle.interleavings.specs.Refining.{Refines, RefinesIn, calls_of}
-use Rattle.interleavings.proofs.LackingLemmas.{turns_full}
+use Rattle.interleavings.proofs.LackingLemmas.{fresh_room, turns_full}
 use Rattle.interleavings.proofs.LeadLemmas.{machine}
 
 -- a kernel is led on by a step of this call

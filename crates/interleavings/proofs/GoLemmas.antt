@@ -1,7 +1,7 @@
 -- A step of a call beside others leaves them together: over the same system, or over that after its answer.
 use Rattle.std.proofs.Common.{ℕ, ◌≡◌, ◌≢◌, ◌⊎◌, inl, inr, refl, sym, ap, ◌∙◌, subst, Bool, true, false, List, Option, Some, None, IsSome}
 use Rattle.std.proofs.lemmas.Bool.{cases_eq, true≢false}
-use Rattle.interleavings.proofs.LoneCallPlaceLemmas.{sees_at}
+use Rattle.interleavings.proofs.SeesLemmas.{sees_at}
 use Rattle.interleavings.proofs.StopLemmas.{keeps_stopped}
 use Rattle.interleavings.proofs.of_xsi_calls.AimLemmas.{call_aimed}
 use Rattle.step_rules.specs.Walking.{IsOwnStep}

@@ -3,7 +3,7 @@ use Rattle.std.proofs.Common.{ℕ, ◌≡◌, ◌⊎◌, inl, inr, refl, sym, ap
 use Rattle.std.proofs.lemmas.Bool.{eqb-true}
 use Rattle.std.proofs.lemmas.Option.{get_or_from_slice_get, slice_get_within}
 use Rattle.std.proofs.lemmas.List.Elements.{All-take}
-use Rattle.interleavings.proofs.LoneCallCauseLemmas.{fresh_room}
+use Rattle.interleavings.proofs.LackingLemmas.{fresh_room, over_concluded}
 use Rattle.interleavings.specs.Serving.{lacks_by}
 use Rattle.step_rules.specs.declared.progress.Progress.TheVariants as progress
 use Rattle.interleaving_core.proofs.AnewLemmas.{begins_from}
@@ -14,12 +14,11 @@ use Rattle.interleaving_core.specs.Waiting.{stays_waiting}
 use Rattle.interleaving_core.specs.declared.fault.StepFault.TheVariants as faults
 use Rattle.interleaving_core.specs.declared.step.Step.TheVariants as steps
 use Rattle.interleaving_core.specs.xsi_calls.CallSteps.{KeepsCall}
-use Rattle.interleaving_core.specs.xsi_calls.Machine.{IsOverAt, answer_by, conclusion_at}
-use Rattle.interleaving_core.specs.xsi_calls.Stages.{Paying, Releasing, Stage, Undecided}
+use Rattle.interleaving_core.specs.xsi_calls.Machine.{answer_by}
 use Rattle.interleaving_core.specs.xsi_calls.Words.{has_no_room}
 use Rattle.interleaving_core.specs.xsi_calls.declared.conclusion.Conclusion.{Conclusion}
 use Rattle.interleaving_core.specs.xsi_calls.declared.conclusion.Conclusion.TheVariants as conclusions
-use Rattle.interleavings.specs.Words.{ActiveView, Answer, CallView, FileFault, IsDriven, IsOver, IsSeat, IsStep, KernelState, PoolState, Progress, RecordKey, State, Step, Table, Entry, call_at, conclusion_of, lacks_room}
+use Rattle.interleavings.specs.Words.{ActiveView, Answer, CallView, FileFault, IsDriven, IsSeat, IsStep, KernelState, PoolState, Progress, RecordKey, State, Step, Table, Entry, call_at, conclusion_of, lacks_room}
 use Rattle.interleavings.specs.Laws.{EventsRefine, StepsRefine, StepsRefineAndDo}
 use Rattle.interleavings.specs.Outcomes.{lapsed_by}
 use Rattle.interleavings.specs.Refining.{Refines}
@@ -50,18 +49,6 @@ no_room_idle told = cc
 no_room_failed : (at : Option ActiveView) → no_room ≡ told_of_failure at → ⊥
 no_room_failed None told = cc
 no_room_failed (Some a) told = cc
-
-come_apart : (done : Conclusion) → ◌≡◌ {A = Option Conclusion} (Some done) None → ⊥
-come_apart done both = cc
-
--- a call that is over has come to something
-over_concluded : (m : CallView) → IsOver m → conclusion_of m ≡ None → ⊥
-over_concluded m over none = by m.stage refl over
-  where
-    by : (stage : Stage) → m.stage ≡ stage → IsOverAt m.call m.undecided stage → ⊥
-    by Undecided is over = over
-    by (Paying payment done) is over = come_apart done (sym (ap conclusion_at is) ∙ none)
-    by (Releasing done) is over = come_apart done (sym (ap conclusion_at is) ∙ none)
 
 module _ (hash : RecordKey → ℕ) (seat : ℕ) (stopped : Bool) (a : ActiveView) (left : Option ActiveView)
     (pool pool' : PoolState) (locks locks' : Table) (journal journal' : List Entry) where

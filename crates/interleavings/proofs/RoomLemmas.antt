@@ -3,7 +3,7 @@ use Rattle.std.proofs.Common.{ℕ, zero, suc, ◌≡◌, ◌≤◌, ◌⊎◌, �
 use Rattle.std.specs.List.{list_any}
 use Rattle.std.proofs.lemmas.Bool.{eqb-false, eqb-true}
 use Rattle.std.proofs.lemmas.List.Elements.{All-cons, All-head, All-nil, All-tail}
-use Rattle.interleavings.proofs.LoneCallCauseLemmas.{fresh_room}
+use Rattle.interleavings.proofs.LackingLemmas.{fresh_room}
 use Rattle.interleaving_core.proofs.PlaceLemmas.{at_other, at_same}
 use Rattle.interleaving_core.proofs.RunLemmas.{others_stay}
 use Rattle.interleaving_core.specs.Owing.{is_failure}

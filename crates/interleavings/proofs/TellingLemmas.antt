@@ -118,7 +118,7 @@ module _ {K : Type 0} (hash : RecordKey → ℕ) (base : State) (seat : ℕ) (ol
 -- ---- it is blocked
 
 -- whoever stands in the way holds a lock
-record HoldsSome (seat other : ℕ) (t : Table) : Type 0 where
+pub record HoldsSome (seat other : ℕ) (t : Table) : Type 0 where
   pub another : other ≢ seat
   pub some : row_of t other ≡ [] → ⊥
 
@@ -133,7 +133,7 @@ module _ (seat other : ℕ) (w : World) where
         true≢false (sym opposes.against ∙ free);
   }
 
-  stands_by : (ask : Option Ask) → StandsInWay ask seat other w → HoldsSome seat other w.locks
+  pub stands_by : (ask : Option Ask) → StandsInWay ask seat other w → HoldsSome seat other w.locks
   stands_by None stands = absurd stands
   stands_by (Some (ForLock name kind)) stands = opposes_by name kind stands
   stands_by (Some (ForEntry depth k)) stands = absurd stands

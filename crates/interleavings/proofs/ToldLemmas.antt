@@ -3,7 +3,7 @@
 use Rattle.std.proofs.Common.{ℕ, ◌≡◌, ◌≤◌, inl, inr, refl, sym, ap, ◌∙◌, subst, Bool, true, false, Option, Some, None, length, arith}
 use Rattle.std.proofs.lemmas.Bool.{true≢false}
 use Rattle.interleavings.specs.ConcurrentLaws.{BeginTogether, EndTogether, StepTogether}
-use Rattle.interleavings.proofs.LoneCallCauseLemmas.{fresh_room}
+use Rattle.interleavings.proofs.LackingLemmas.{fresh_room}
 use Rattle.page_device.specs.Device.{HasRisen}
 use Rattle.step_rules.specs.Turns.{DoesTied, StandsInWay}
 use Rattle.interleaving_core.proofs.AnewLemmas.{begins_from, ends_waiting, over_waits, waits_from, woken_from}

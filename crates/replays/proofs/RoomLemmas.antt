@@ -4,7 +4,8 @@ use Rattle.step_rules.specs.declared.kind.Kind.{Kind}
 use Rattle.step_rules.specs.declared.progress.Progress.TheVariants as progress
 use Rattle.bucket_page.specs.Pseudokeys.{sha_key}
 use Rattle.bucket_page.specs.declared.pseudokey.ShaKey.{ShaKey}
-use Rattle.interleavings.proofs.LoneCallCauseLemmas.{fresh_room}
+use Rattle.interleavings.proofs.LackingLemmas.{fresh_room}
+use Rattle.interleavings.proofs.LoneCallLemmas.{under_way}
 use Rattle.interleavings.specs.Serving.{lacks_by, lacks_room}
 use Rattle.interleavings.specs.LoneCallWords.{CallView, Change, Conclusion, FileFault, PoolState, Progress, Records, Table, call_owes, conclusion_of, has_no_room}
 use Rattle.interleaving_core.proofs.PlaceLemmas.{at_same, length-with_call, seat_of_call}
@@ -190,9 +191,11 @@ module _ (law : AnswersByTheRules ShaKey) (seat : ℕ) (c : Caller) (call : Call
     by_machine (progress.Moved k) come makes there told lacks =
         let same = same_call come then_served.active (sym there ∙ then_served.there) in
         let lone = way.served.served.lone in
-        let does = makes.step s lone.records lone.change lone.calls way.served.mark refl in
-        lacks_since seat s (progress.Moved k) was come.machine lone.records before.pool after.pool before.locks
-        after.locks lone.change makes.aim does way.cause (λ room full. record {
+        let calls = lone.together in
+        let does = makes.step lone.now calls.records calls.change
+        (under_way sha_key seat c call s was before.pool before.locks lone).calls (lone.mark ∙ way.served.mark) refl in
+        lacks_since seat lone.now (progress.Moved k) was come.machine calls.records before.pool after.pool before.locks
+        after.locks calls.change makes.aim does way.cause (λ room full. record {
           from = from;
           begins = begins;
           moves = moves;

@@ -1,24 +1,17 @@
--- What a call sees and holds at each of its places, and that it goes on there.
-use Rattle.std.proofs.Common.{ℕ, ◌≡◌, refl, subst, List, Option, Some, None}
-use Rattle.type_chains.specs.Entries.{counter_of}
+-- What a call sees and holds at each of its places.
+use Rattle.std.proofs.Common.{ℕ, ◌≡◌, refl, List, Option, Some, None}
 use Rattle.xsi_calls.proofs.Below.{operation_aside}
-use Rattle.xsi_calls.specs.Below.{AccessView, IsUndecidedIn, Work, counter_key, facts_in, locks_behind, locks_in, locks_under, owes_in, sweep_locks}
+use Rattle.xsi_calls.specs.Below.{AccessView, IsUndecidedIn, Work, facts_in, locks_behind, locks_in, locks_under, sweep_locks}
 use Rattle.xsi_calls.specs.declared.question.Question.{Question}
 use Rattle.xsi_calls.specs.declared.payment.Stage.TheVariants.{Sweeping, Writing}
 use Rattle.xsi_calls.specs.Calling.{IsCallingAt}
-use Rattle.xsi_calls.specs.CallSteps.{GoesOnAt}
-use Rattle.xsi_calls.specs.Machine.{facts_at, locks_at, owes_at}
-use Rattle.xsi_calls.specs.Words.{IsPaying, Lock, Owes, Plan, QuestionsView, Sees, IsBehind, guard_of, kind_of, payment_facts}
+use Rattle.xsi_calls.specs.Machine.{facts_at, locks_at}
+use Rattle.xsi_calls.specs.Words.{IsPaying, Lock, Plan, QuestionsView, Sees, guard_of, kind_of, payment_facts}
 use Rattle.xsi_calls.specs.declared.payment.Stage.{Stage as PaymentStage}
 use Rattle.xsi_calls.specs.declared.trials.Trials.{Trials}
 use Rattle.xsi_calls.specs.declared.undecided.UndecidedCall.{UndecidedCall}
 use Rattle.xsi_calls.specs.Stages.{Stage, Undecided, Paying, Releasing}
-use Rattle.interleavings.specs.LoneCallWords.{Call, Change, IsFiled, PoolState, RecordKey, Records, StandsAt, State, Table, overlaid, record_of, row_of, store_of}
-
--- once nothing is owed the records of this system will stand
-pub record WillBe (o : Owes) (records : Records) (s : State) : Type 0 where
-  pub filed : IsFiled s
-  pub owed : (key : RecordKey) → overlaid o records key ≡ record_of s key
+use Rattle.interleavings.specs.LoneCallWords.{Call, Change, PoolState, RecordKey, Records, State, Table}
 
 -- ---- it sees a sound world
 
@@ -41,41 +34,6 @@ module _ (hash : RecordKey → ℕ) (seat : ℕ) (call : Call) (s : State) (u : 
   sees_at Undecided is = sees_in hash seat call s u.questions u.trials records pool locks change is
   sees_at (Paying v conclusion) is = pays_sees hash seat u.questions.names _ v records pool locks change is.pays
   sees_at (Releasing conclusion) is = is.sees
-
-  -- ---- it goes on after a step of its own, where all these records stand in the file
-
-  module _ (stands : (key : RecordKey) → StandsAt (store_of pool.images) key (records key)) where
-    asks_on : (o : Option Trials) → Sees hash seat (facts_in u.questions o) pool locks change →
-        row_of locks seat ≡ locks_in u.questions o →
-        WillBe (owes_in call u.questions o) records s →
-        IsBehind hash seat call s u.questions o records pool locks change →
-        IsUndecidedIn hash seat call s u.questions o records pool locks change
-    asks_on None sees row will on = record {
-      faces = record {
-        right = on.right;
-        sees = sees;
-        agrees = record {
-          filed = will.filed;
-          stands = λ key under. subst (StandsAt (store_of pool.images) key) (will.owed key) (stands key);
-          counter = counter_of s;
-          counts = subst (StandsAt (store_of pool.images) counter_key) (will.owed counter_key) (stands counter_key);
-          given = λ id has none. refl;
-        };
-        knows = on.knows;
-      };
-      row = row;
-      alike = λ key under. will.owed key;
-    }
-    asks_on (Some t) sees row will on = on
-
-    -- over the system that it is about until it decides
-    pub calls_at : (stage : Stage) → Sees hash seat (facts_at u stage) pool locks change →
-        row_of locks seat ≡ locks_at u stage → (stage ≡ Undecided → WillBe (owes_at call u stage) records s) →
-        GoesOnAt hash seat call s u stage records pool locks change →
-        IsCallingAt hash seat call s u stage records pool locks change
-    calls_at Undecided sees row will on = asks_on u.trials sees row (will refl) on
-    calls_at (Paying v conclusion) sees row will on = on
-    calls_at (Releasing conclusion) sees row will on = on
 
 -- ---- behind its names its seat has locks of the file alone
 
