@@ -31,13 +31,7 @@ use Rattle.interleavings.specs.Words.{RecordKey}
 -- where nothing is under way the phase is quiet
 quiet_is : (c : Change) → is_nothing (under_way_in c) ≡ is_quiet c
 quiet_is Quiet = refl
-quiet_is (Taken new) = refl
-quiet_is (Filled old new) = refl
-quiet_is (Linked old new whole) = refl
-quiet_is (Absorbed left right whole) = refl
-quiet_is (Buried left right whole) = refl
-quiet_is (Drained left right) = refl
-quiet_is (Freed right) = refl
+quiet_is _ = refl
 
 -- a step that leaves the phase
 module _ (old new : World) where
@@ -128,26 +122,7 @@ begins_where_read seat t is = ap is_shared is
 
 begins_by_reading : (kind : Kind) (seat : ℕ) (t : Table) → begins_search kind seat t ≡ true → kind ≡ kinds.ReadDepth
 begins_by_reading kinds.ReadDepth seat t is = refl
-begins_by_reading kinds.Grant seat t is = absurd (true≢false (sym is))
-begins_by_reading kinds.Release seat t is = absurd (true≢false (sym is))
-begins_by_reading kinds.ReadEntry seat t is = absurd (true≢false (sym is))
-begins_by_reading kinds.Look seat t is = absurd (true≢false (sym is))
-begins_by_reading kinds.Hop seat t is = absurd (true≢false (sym is))
-begins_by_reading kinds.WriteRecord seat t is = absurd (true≢false (sym is))
-begins_by_reading kinds.Decide seat t is = absurd (true≢false (sym is))
-begins_by_reading kinds.TakePage seat t is = absurd (true≢false (sym is))
-begins_by_reading kinds.CopyDirectory seat t is = absurd (true≢false (sym is))
-begins_by_reading kinds.RaiseDepth seat t is = absurd (true≢false (sym is))
-begins_by_reading kinds.WriteNew seat t is = absurd (true≢false (sym is))
-begins_by_reading kinds.WriteOld seat t is = absurd (true≢false (sym is))
-begins_by_reading kinds.Retarget seat t is = absurd (true≢false (sym is))
-begins_by_reading kinds.SetCounts seat t is = absurd (true≢false (sym is))
-begins_by_reading kinds.WriteLeft seat t is = absurd (true≢false (sym is))
-begins_by_reading kinds.Tombstone seat t is = absurd (true≢false (sym is))
-begins_by_reading kinds.Convert seat t is = absurd (true≢false (sym is))
-begins_by_reading kinds.WriteFree seat t is = absurd (true≢false (sym is))
-begins_by_reading kinds.LinkFree seat t is = absurd (true≢false (sym is))
-begins_by_reading kinds.LowerDepth seat t is = absurd (true≢false (sym is))
+begins_by_reading _ seat t is = absurd (true≢false (sym is))
 
 -- what is so where a seat has gone on to another page
 record HasGoneOn (kind : Kind) (seat : ℕ) (t t' : Table) : Type 0 where
@@ -173,26 +148,7 @@ gone_on seat t t' is =
 
 goes_by_hopping : (kind : Kind) (seat : ℕ) (t t' : Table) → goes_on kind seat t t' ≡ true → HasGoneOn kind seat t t'
 goes_by_hopping kinds.Hop seat t t' is = gone_on seat t t' is
-goes_by_hopping kinds.Grant seat t t' is = absurd (true≢false (sym is))
-goes_by_hopping kinds.Release seat t t' is = absurd (true≢false (sym is))
-goes_by_hopping kinds.ReadDepth seat t t' is = absurd (true≢false (sym is))
-goes_by_hopping kinds.ReadEntry seat t t' is = absurd (true≢false (sym is))
-goes_by_hopping kinds.Look seat t t' is = absurd (true≢false (sym is))
-goes_by_hopping kinds.WriteRecord seat t t' is = absurd (true≢false (sym is))
-goes_by_hopping kinds.Decide seat t t' is = absurd (true≢false (sym is))
-goes_by_hopping kinds.TakePage seat t t' is = absurd (true≢false (sym is))
-goes_by_hopping kinds.CopyDirectory seat t t' is = absurd (true≢false (sym is))
-goes_by_hopping kinds.RaiseDepth seat t t' is = absurd (true≢false (sym is))
-goes_by_hopping kinds.WriteNew seat t t' is = absurd (true≢false (sym is))
-goes_by_hopping kinds.WriteOld seat t t' is = absurd (true≢false (sym is))
-goes_by_hopping kinds.Retarget seat t t' is = absurd (true≢false (sym is))
-goes_by_hopping kinds.SetCounts seat t t' is = absurd (true≢false (sym is))
-goes_by_hopping kinds.WriteLeft seat t t' is = absurd (true≢false (sym is))
-goes_by_hopping kinds.Tombstone seat t t' is = absurd (true≢false (sym is))
-goes_by_hopping kinds.Convert seat t t' is = absurd (true≢false (sym is))
-goes_by_hopping kinds.WriteFree seat t t' is = absurd (true≢false (sym is))
-goes_by_hopping kinds.LinkFree seat t t' is = absurd (true≢false (sym is))
-goes_by_hopping kinds.LowerDepth seat t t' is = absurd (true≢false (sym is))
+goes_by_hopping _ seat t t' is = absurd (true≢false (sym is))
 
 -- ---- what a step counts
 

@@ -54,11 +54,9 @@ pub behind : {K : Type 0} (hash : RecordKey → ℕ) (seat : ℕ) (caller : Call
     StandsBehind hash seat caller call s did new × (is_failure did ≡ true → HasRisen old.pool.faults new.pool.faults)
 behind hash seat caller call s left old new (steps.Moved kind) is = (is.served, λ fails. absurd cc)
 behind hash seat caller call s left old new (steps.Blocked other) is = absurd is
-behind hash seat caller call s left old new steps.Waiting is = (is, λ fails. absurd cc)
-behind hash seat caller call s left old new (steps.Answered answer) is = (is, λ fails. absurd cc)
 behind hash seat caller call s left old new steps.Idle is = absurd is
 behind hash seat caller call s left old new (steps.Fault (faults.File fault)) is = (is.0, λ fails. is.1)
-behind hash seat caller call s left old new (steps.Fault faults.NoRoom) is = (is, λ fails. absurd cc)
+behind hash seat caller call s left old new _ is = (is, λ fails. absurd cc)
 
 -- ---- it begins anew within a step
 

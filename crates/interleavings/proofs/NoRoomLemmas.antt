@@ -127,13 +127,8 @@ step_told hash seat old new step = by old.failed refl (call_at old.seats seat) r
     }
 
 lapse_is : (did : Step) → lapsed did ≡ 1 → did ≡ no_room
-lapse_is (steps.Moved kind) is = absurd cc
-lapse_is (steps.Blocked other) is = absurd cc
-lapse_is steps.Waiting is = absurd cc
-lapse_is (steps.Answered answer) is = absurd cc
-lapse_is steps.Idle is = absurd cc
-lapse_is (steps.Fault (faults.File fault)) is = absurd cc
 lapse_is (steps.Fault faults.NoRoom) is = refl
+lapse_is _ is = absurd cc
 
 module _ {K : Type 0} (does : StepsRefineAndDo K) (steps_on : StepsRefine K) (hash : RecordKey → ℕ) (base : State)
     (seat : ℕ) (old new : KernelState K) (led : Refines hash base old) where

@@ -40,13 +40,8 @@ module _ {K : Type 0} (does : StepsRefineAndDo K) (hash : RecordKey → ℕ) (ba
   told_risen : (a : ActiveView) (did : Step) (before behind : Change) (old new : KernelState K) →
       DoesBy hash base seat a did before behind old new → is_failure did ≡ true →
       HasRisen old.pool.faults new.pool.faults
-  told_risen a (steps.Moved kind) before behind old new is fails = absurd cc
-  told_risen a (steps.Blocked other) before behind old new is fails = absurd cc
-  told_risen a steps.Waiting before behind old new is fails = absurd cc
-  told_risen a (steps.Answered answer) before behind old new is fails = absurd cc
-  told_risen a steps.Idle before behind old new is fails = absurd cc
   told_risen a (steps.Fault (faults.File fault)) before behind old new is fails = is.device.risen
-  told_risen a (steps.Fault faults.NoRoom) before behind old new is fails = absurd cc
+  told_risen a _ before behind old new is fails = absurd cc
 
   pub step_risen : (did : Step) (old new : KernelState K) → Refines hash base old → IsStep hash seat did old new →
       old.failed ≡ false → is_failure did ≡ true → HasRisen old.pool.faults new.pool.faults

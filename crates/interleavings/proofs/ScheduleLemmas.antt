@@ -69,26 +69,12 @@ module _ {K : Type 0} (begins : BeginsRefine K) (refuses : RefusalsRefine K) (st
       begins hash base seat call old new is led has
   event_leads (events.Begin seat call) (outcomes.Refused back fault) old new is led refused =
       refuses hash base seat call (back, fault) old new led refused
-  event_leads (events.Begin seat call) (outcomes.Stepped did) old new is led x = absurd x
-  event_leads (events.Begin seat call) (outcomes.Driven did) old new is led x = absurd x
-  event_leads (events.Begin seat call) outcomes.Stopped old new is led x = absurd x
-  event_leads (events.Step seat) outcomes.Begun old new is led x = absurd x
-  event_leads (events.Step seat) (outcomes.Refused back fault) old new is led x = absurd x
   event_leads (events.Step seat) (outcomes.Stepped did) old new is led step =
       steps hash base seat did old new is led step
-  event_leads (events.Step seat) (outcomes.Driven did) old new is led x = absurd x
-  event_leads (events.Step seat) outcomes.Stopped old new is led x = absurd x
-  event_leads (events.Drive seat) outcomes.Begun old new is led x = absurd x
-  event_leads (events.Drive seat) (outcomes.Refused back fault) old new is led x = absurd x
-  event_leads (events.Drive seat) (outcomes.Stepped did) old new is led x = absurd x
   event_leads (events.Drive seat) (outcomes.Driven did) old new is led driven =
       drives hash base seat did old new is led driven.driven
-  event_leads (events.Drive seat) outcomes.Stopped old new is led x = absurd x
-  event_leads events.Stop outcomes.Begun old new is led x = absurd x
-  event_leads events.Stop (outcomes.Refused back fault) old new is led x = absurd x
-  event_leads events.Stop (outcomes.Stepped did) old new is led x = absurd x
-  event_leads events.Stop (outcomes.Driven did) old new is led x = absurd x
   event_leads events.Stop outcomes.Stopped old new is led stop = stops hash base old new led stop
+  event_leads _ _ old new is led never = absurd never
 
   pub events_lead : (es : List Event) (os : List Outcome) (old new : KernelState K) → AreOfSeats (length old.locks) es →
       Refines hash base old → Runs hash es os old new → Refines hash base new

@@ -246,11 +246,4 @@ module _ {K : Type 0} (does : StepsRefineAndDo K) (steps : StepsRefine K) (hash 
   told_by_event (events.Drive seat) (outcomes.Driven did) is drives = told_drive seat did is drives.driven
   told_by_event (events.Begin seat call) o is happens = tt
   told_by_event events.Stop o is happens = tt
-  told_by_event (events.Step seat) outcomes.Begun is never = absurd never
-  told_by_event (events.Step seat) (outcomes.Refused back fault) is never = absurd never
-  told_by_event (events.Step seat) (outcomes.Driven did) is never = absurd never
-  told_by_event (events.Step seat) outcomes.Stopped is never = absurd never
-  told_by_event (events.Drive seat) outcomes.Begun is never = absurd never
-  told_by_event (events.Drive seat) (outcomes.Refused back fault) is never = absurd never
-  told_by_event (events.Drive seat) (outcomes.Stepped did) is never = absurd never
-  told_by_event (events.Drive seat) outcomes.Stopped is never = absurd never
+  told_by_event _ _ is never = absurd never

@@ -1,5 +1,5 @@
-//! Laws of calls that are made one at a time, on a kernel. The functions do nothing; their contracts
-//! are the laws.
+//! Laws of calls that are made one at a time, on a kernel. The functions do nothing; their
+//! contracts are the laws.
 
 ghost use Rattle.interleavings.specs.LoneCalls.{GoesOnAlone};
 ghost use Rattle.interleavings.specs.LoneKernelLaws.{AnswersByTheRules, AnswersLoneCalls, BeginsOnAKernel, ClosesAKernel, DrivesByTheRules, OpensAKernel, RefusesAtRest, StopsAKernel, StopsAWaitingCall};
