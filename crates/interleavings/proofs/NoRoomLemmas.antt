@@ -3,6 +3,7 @@ use Rattle.std.proofs.Common.{ℕ, ◌≡◌, ◌⊎◌, inl, inr, refl, sym, ap
 use Rattle.std.proofs.lemmas.Bool.{eqb-true}
 use Rattle.std.proofs.lemmas.Option.{get_or_from_slice_get, slice_get_within}
 use Rattle.std.proofs.lemmas.List.Elements.{All-take}
+use Rattle.interleavings.proofs.EventLemmas.{places_along}
 use Rattle.interleavings.proofs.LackingLemmas.{fresh_room, over_concluded}
 use Rattle.interleavings.specs.Serving.{lacks_by}
 use Rattle.step_rules.specs.declared.progress.Progress.TheVariants as progress
@@ -28,7 +29,7 @@ use Rattle.interleavings.specs.declared.event.Event.{Event}
 use Rattle.interleavings.specs.declared.event.Event.TheVariants as events
 use Rattle.interleavings.specs.declared.event.Outcome.{Outcome}
 use Rattle.interleavings.specs.declared.event.Outcome.TheVariants as outcomes
-use Rattle.interleavings.proofs.TellingLemmas.{HasEvent, event_at, rows_along}
+use Rattle.interleavings.proofs.TellingLemmas.{HasEvent, event_at}
 use Rattle.interleavings.proofs.UnderWayLemmas.{moves_fail_not}
 use Rattle.interleavings.proofs.RoomLemmas.{LacksAt, finds_along, moves_find}
 
@@ -211,6 +212,6 @@ tells_no_room {K} does steps_on lead hash es os old new are runs base led seat m
 
     its_seat : IsOfSeat (length at.before.locks) e
     its_seat = subst (λ (n : ℕ). IsOfSeat n e)
-        (sym (rows_along hash (take many es) (take many os) old at.before at.first))
+        (sym (places_along hash (take many es) (take many os) old at.before at.first).seats)
         (subst (IsOfSeat (length old.locks)) (get_or_from_slice_get es many e e is_e)
         (are many e (slice_get_within es many e is_e)))

@@ -24,13 +24,14 @@ use Rattle.interleavings.specs.declared.event.Outcome.{Outcome}
 use Rattle.interleavings.specs.declared.playing.EndFault.{EndFault}
 use Rattle.interleavings.specs.declared.playing.EndFault.TheVariants.{Busy, Close}
 use Rattle.interleavings.specs.declared.playing.Played.{Played}
-use Rattle.interleavings.proofs.RisenLemmas.{later_along, risen_along, risen_within}
+use Rattle.interleavings.proofs.EventLemmas.{places_along}
+use Rattle.interleavings.proofs.RisenLemmas.{risen_along, risen_within}
 use Rattle.interleavings.proofs.FoundedLemmas.{founded_along}
 use Rattle.interleavings.proofs.OutcomeLemmas.{come_along, fails_along}
 use Rattle.interleavings.proofs.RunLemmas.{tells_its_part}
-use Rattle.interleavings.proofs.TellingLemmas.{HasEvent, event_at, rows_along, some_same, told_by_event}
+use Rattle.interleavings.proofs.TellingLemmas.{HasEvent, event_at, some_same, told_by_event}
 use Rattle.interleavings.proofs.WaitingLemmas.{AreFounded, IsFoundedAt}
-use Rattle.interleavings.proofs.UnderWayLemmas.{call_on, places_along, leaves_along, marked_along}
+use Rattle.interleavings.proofs.UnderWayLemmas.{call_on, leaves_along, marked_along}
 
 -- ---- who has a call
 
@@ -249,7 +250,7 @@ module _ {K : Type 0} (of : K → RecordKey → ℕ) (keys : K) (content : List 
 
             its_seat : IsOfSeat (length at.before.locks) e
             its_seat = subst (λ (n : ℕ). IsOfSeat n e)
-                (sym (rows_along hash (take many es) (take many os) old at.before at.first))
+                (sym (places_along hash (take many es) (take many os) old at.before at.first).seats)
                 (subst (IsOfSeat (length old.locks)) (get_or_from_slice_get es many e e is_e)
                 (are_rows many e (slice_get_within es many e is_e)))
 
@@ -315,14 +316,14 @@ module _ {K : Type 0} (of : K → RecordKey → ℕ) (keys : K) (content : List 
       step_reason : StepsRefineAndDo K → DrivesEnd K → (was : ℕ) → was ≤ old.pool.faults →
           played.fault ≡ Some (Close closes.Failed) → HasRisen was faults
       step_reason does drives was before failed =
-          risen_within before (later_along hash es os old new runs) ended.later
+          risen_within before (places_along hash es os old new runs).later ended.later
           (risen_along does drives lead hash led.base es os old new are_rows led.led runs opened.failed
           (ended.failed.0 failed))
 
     pub has_reason : EventsRefine K → (IsTrue honest → RefinesFile hash content old) → StepsRefineAndDo K →
         DrivesEnd K → (was : ℕ) → was ≤ old.pool.faults → HasReason honest was faults played
     has_reason lead led does drives was before =
-        let later = later_along hash es os old new runs in
+        let later = (places_along hash es os old new runs).later in
         record {
           device = λ device. risen_within (omega (arith, before, later)) ended.later (omega arith)
               (ended.device device);

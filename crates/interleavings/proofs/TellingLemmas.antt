@@ -25,7 +25,6 @@ use Rattle.interleavings.specs.declared.event.Event.{Event}
 use Rattle.interleavings.specs.declared.event.Event.TheVariants as events
 use Rattle.interleavings.specs.declared.event.Outcome.{Outcome}
 use Rattle.interleavings.specs.declared.event.Outcome.TheVariants as outcomes
-use Rattle.interleavings.proofs.EventLemmas.{event_keeps}
 use Rattle.interleavings.proofs.ScheduleLemmas.{moves_led}
 use Rattle.interleavings.proofs.UnderWayLemmas.{call_on, drive_leaves, turn_leaves}
 use Rattle.interleavings.proofs.WaitingLemmas.{AreFounded, founded_there}
@@ -200,15 +199,6 @@ module _ {K : Type 0} (does : StepsRefineAndDo K) (hash : RecordKey → ℕ) (ba
       apart clash = cc
 
 -- ---- whatever it is told
-
--- no event changes how many seats there are
-pub rows_along : {K : Type 0} (hash : RecordKey → ℕ) (es : List Event) (os : List Outcome) (old new : KernelState K) →
-    Runs hash es os old new → length new.locks ≡ length old.locks
-rows_along {K} hash [] [] old new same = ap (λ (k : KernelState K). length k.locks) same
-rows_along hash [] (o ∷ os) old new never = absurd never
-rows_along hash (e ∷ es) [] old new never = absurd never
-rows_along hash (e ∷ es) (o ∷ os) old new runs =
-    rows_along hash es os runs.between new runs.rest ∙ (event_keeps hash e o old runs.between runs.first).seats
 
 module _ {K : Type 0} (does : StepsRefineAndDo K) (steps : StepsRefine K) (hash : RecordKey → ℕ) (base : State)
     (callers : List Caller) (under_way : ℕ → Option Call) (old new : KernelState K) (led : Refines hash base old)
