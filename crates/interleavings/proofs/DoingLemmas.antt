@@ -1,5 +1,6 @@
 -- What a step of a seat does to the file and the locks is what the seat is told.
 use Rattle.std.proofs.Common.{ℕ, ◌≡◌, refl, sym, ap, ◌∙◌, subst, Bool, true, false, Option, Some, None}
+use Rattle.std.proofs.lemmas.Option.{none-some, same_Some}
 use Rattle.std.proofs.lemmas.Bool.{true≢false}
 use Rattle.interleavings.specs.Together.{AreTogether, IsUnderWay}
 use Rattle.interleavings.specs.LoneCallWords.{call_left}
@@ -28,13 +29,6 @@ pub record LeadsDoing {K : Type 0} (hash : RecordKey → ℕ) (base : State) (se
   pub does : DoesBy hash base seat by did before behind old new
   pub lacks : LacksRightly hash seat by did before new
 
--- a call that is there
-pub one_there : (x y : ActiveView) → ◌≡◌ {A = Option ActiveView} (Some x) (Some y) → x ≡ y
-one_there x y is = cc
-
-none_there : (x : ActiveView) → ◌≡◌ {A = Option ActiveView} None (Some x) → ⊥
-none_there x is = cc
-
 module _ {K : Type 0} (hash : RecordKey → ℕ) (base : State) (seat : ℕ) (a : ActiveView) (did : Step)
     (old new : KernelState K) (led : Refines hash base old) (there : call_at old.seats seat ≡ Some a)
     (sound : old.failed ≡ false) where
@@ -62,7 +56,7 @@ module _ {K : Type 0} (hash : RecordKey → ℕ) (base : State) (seat : ℕ) (a 
   pub waiting_lacks : StaysWaiting did a (call_at new.seats seat) old.pool new.pool old.locks new.locks old.journal
       new.journal → LacksRightly hash seat a did phase new
   waiting_lacks stays come left sound_still room lacks =
-      let same = one_there _ come (sym stays.left_is ∙ left) in
+      let same = same_Some _ come (sym stays.left_is ∙ left) in
       absurd (true≢false (sym (ap (λ (x : ActiveView). lacks_room x.machine) same ∙ lacks) ∙ room))
 
   module _ (turn : MakesTurn hash seat old.stopped did a (call_at new.seats seat) old.pool new.pool old.locks new.locks
@@ -140,17 +134,17 @@ module _ {K : Type 0} (hash : RecordKey → ℕ) (base : State) (seat : ℕ) (a 
       over_lacks : (waits : Bool) → IsLeftWhenOver waits come (call_at new.seats seat) → (x : ActiveView) →
           call_at new.seats seat ≡ Some x → lacks_room x.machine ≡ true → FindsNoRoom hash a phase new
       over_lacks true (again, left, begins) x there_now lacks =
-          let same = one_there again x (sym left ∙ there_now) in
+          let same = same_Some again x (sym left ∙ there_now) in
           absurd (true≢false (sym (ap (λ (y : ActiveView). lacks_room y.machine) same ∙ lacks)
           ∙ fresh_room again.machine begins.begins.new))
-      over_lacks false left x there_now lacks = absurd (none_there x (sym left ∙ there_now))
+      over_lacks false left x there_now lacks = absurd (nsame_Some x (sym left ∙ there_now))
 
       pub made_lacks : LacksRightly hash seat a did phase new
       made_lacks x there_now sound_still room lacks = by turn.did refl turn.left_is
         where
           come_on : call_at new.seats seat ≡ Some come → FindsNoRoom hash a phase new
           come_on left = come_lacks room (ap (λ (y : ActiveView). lacks_room y.machine)
-              (one_there come x (sym left ∙ there_now)) ∙ lacks)
+              (same_Some come x (sym left ∙ there_now)) ∙ lacks)
 
           by : (p : Progress FileFault) → turn.did ≡ p → IsLeft p come (call_at new.seats seat) →
               FindsNoRoom hash a phase new

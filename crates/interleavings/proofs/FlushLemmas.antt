@@ -1,5 +1,6 @@
 -- A kernel that refines a system, and its pages between calls: those that wait are taken back, and begin again.
 use Rattle.std.proofs.Common.{ℕ, zero, suc, ◌≡◌, ◌≤◌, ◌<◌, inl, inr, refl, sym, ap, ◌∙◌, subst, true, List, Option, Some, None, length, arith}
+use Rattle.std.proofs.lemmas.Option.{none-some}
 use Rattle.std.specs.List.{All}
 use Rattle.std.proofs.lemmas.Bool.{cases_eq}
 use Rattle.buffer_pool.specs.Pool.{KeepsImages}
@@ -65,11 +66,8 @@ none_left seats i = by (call_at (cleared (length seats) seats) i) refl
     by None is = refl
     by (Some a) is =
         let there = seat_of_call (cleared (length seats) seats) i a is in
-        absurd (none_some (sym (gone (length seats) i seats (omega arith) there.0
+        absurd (none-some a (sym (gone (length seats) i seats (omega arith) there.0
         (subst (λ (m : ℕ). i ≤ m) (many_cleared (length seats) seats) there.1)) ∙ is))
-      where
-        none_some : ◌≡◌ {A = Option ActiveView} None (Some a) → ⊥
-        none_some clash = cc
 
 -- the call that is taken back next waits
 waits_next : (n : ℕ) (seats : List (Option ActiveView)) → All IsIdleOrWaits seats → (a : ActiveView) →
@@ -126,13 +124,10 @@ module _ {K : Type 0} (hash : RecordKey → ℕ) (base : State) (k : KernelState
     callers = led.callers;
     rows = led.rows ∙ sym (many_cleared (length k.seats) k.seats);
     seated = led.seated ∙ sym (many_cleared (length k.seats) k.seats);
-    sits = λ i a there. absurd (none_some a (sym (none_left k.seats i) ∙ there));
+    sits = λ i a there. absurd (none-some a (sym (none_left k.seats i) ∙ there));
     together = λ sound. (counted_in hash led.now (record k { seats = bare }) counted_k.calls.change bare_together
         counted_k.phase bare_counted).all;
   }
-    where
-      none_some : (a : ActiveView) → ◌≡◌ {A = Option ActiveView} None (Some a) → ⊥
-      none_some a clash = cc
 
 -- ---- its pages
 

@@ -1,5 +1,6 @@
 -- A step of a call beside others leaves them together: over the same system, or over that after its answer.
 use Rattle.std.proofs.Common.{ℕ, ◌≡◌, ◌≢◌, ◌⊎◌, inl, inr, refl, sym, ap, ◌∙◌, subst, Bool, true, false, List, Option, Some, None, IsSome}
+use Rattle.std.proofs.lemmas.Option.{none-some, same_Some}
 use Rattle.std.proofs.lemmas.Bool.{cases_eq, true≢false}
 use Rattle.interleavings.proofs.SeesLemmas.{sees_at}
 use Rattle.interleavings.proofs.StopLemmas.{keeps_stopped}
@@ -71,10 +72,7 @@ module _ (hash : RecordKey → ℕ) (seat : ℕ) (s : State) (stopped : Bool) (d
 
   -- the call of the seat is the one
   its_own : (n : ℕ) (c : IsStillToCount n s seats) → c.seat ≡ seat → c.maker ≡ old
-  its_own n c is = some_same (sym c.there ∙ ap seats is ∙ there)
-    where
-      some_same : Some c.maker ≡ Some old → c.maker ≡ old
-      some_same same = cc
+  its_own n c is = same_Some c.maker old (sym c.there ∙ ap seats is ∙ there)
 
   -- it owes the Counter at its own seat
   maker_owes : (n : ℕ) (c : IsStillToCount n s seats) → owes_at (owes_of (seats c.seat)) counter_key ≡ true
@@ -283,10 +281,7 @@ module _ (hash : RecordKey → ℕ) (seat : ℕ) (s : State) (stopped : Bool) (d
     }
 
     decided_now : new.stage ≡ Undecided → u ≡ s
-    decided_now un = absurd (none_is_some (sym (ap conclusion_at un) ∙ is))
-      where
-        none_is_some : {x : Conclusion} → ◌≡◌ {A = Option Conclusion} None (Some x) → ⊥
-        none_is_some clash = cc
+    decided_now un = absurd (none-some c (sym (ap conclusion_at un) ∙ is))
 
     together_then : AreTogetherIn hash u seats' pool' locks' step.step.after
     together_then = steps.together hash seat s stopped did old new seats seats' pool pool' locks locks' t seated there

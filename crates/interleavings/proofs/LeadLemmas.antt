@@ -1,5 +1,6 @@
 -- What is led from a system stays so by each thing that a kernel does.
 use Rattle.std.proofs.Common.{ℕ, ◌≡◌, refl, sym, ap, ◌∙◌, subst, List, [], ◌∷◌, ◌++◌, Option, Some, None, IsSome, option_map}
+use Rattle.std.proofs.lemmas.Option.{none-some}
 use Rattle.std.proofs.lemmas.Bool.{true≢false}
 use Rattle.std.proofs.lemmas.List.{append-nil}
 use Rattle.interleavings.specs.ConcurrentLaws.{AreTheOthers, LeadsBy}
@@ -39,10 +40,7 @@ none_joins seat old come o kept same = by (answer_of_call old) refl o kept
         entries_by seat (answer_of_call come) x ≡ []
     by None is x drafted = ap (λ (y : Option Answer). entries_by seat y x) (same ∙ is)
     by (Some answer) is None drafted = ap (λ (y : Option Answer). entries_by seat y None) (same ∙ is)
-    by (Some answer) is (Some d) drafted = absurd (none_some (sym drafted.unanswered ∙ is))
-      where
-        none_some : ◌≡◌ {A = Option Answer} None (Some answer) → ⊥
-        none_some clash = cc
+    by (Some answer) is (Some d) drafted = absurd (none-some answer (sym drafted.unanswered ∙ is))
 
 -- its entry does where it has come to its answer
 one_joins : (seat : ℕ) (old come : CallView) (o : Option Draft) → IsDrafted old o → answer_of_call old ≡ None →

@@ -1,5 +1,6 @@
 -- What a step of a lone call leaves of a kernel.
 use Rattle.std.proofs.Common.{ℕ, ◌≡◌, ◌≢◌, ◌<◌, refl, sym, ap, ◌∙◌, subst, Bool, true, false, true≢false, IsSome, inl, inr, List, Option, Some, None, length, arith}
+use Rattle.std.proofs.lemmas.Option.{none-some, same_Some}
 use Rattle.std.proofs.lemmas.Bool.{cases_eq}
 use Rattle.page_device.specs.Device.{HasRisen}
 use Rattle.step_rules.specs.declared.progress.Progress.TheVariants as progress
@@ -23,7 +24,7 @@ use Rattle.interleavings.proofs.DriveLemmas.{are_both, new_so, still_so}
 use Rattle.interleavings.proofs.LackingLemmas.{over_concluded}
 use Rattle.interleavings.proofs.LoneCallLemmas.{begins_alone, fits, goes_alone, leaves_at_rest}
 use Rattle.interleavings.proofs.RestingLemmas.{at_rest_too}
-use Rattle.interleavings.proofs.WaitLemmas.{awake_apart, awake_goes}
+use Rattle.interleavings.proofs.WaitLemmas.{awake_goes}
 
 -- where a call has come to waiting the rules have no answer, and the system is as it was
 waits_so : (o : Option Conclusion) (caller : Caller) (call : Call) (bytes : List ℕ) (s now : State) →
@@ -113,8 +114,7 @@ module _ (begins : BeginTogether) (few_steps : HaveFewSteps) {K : Type 0} (hash 
       few = few_steps x.machine (store_of new.pool.images) begun.new;
       waits = λ stays. none;
       asleep = λ since some.
-          let same : length old.journal ≡ since = cc in
-          subst (λ (n : ℕ). IsAsleep hash caller call s x.machine n new) same asleep;
+          subst (λ (n : ℕ). IsAsleep hash caller call s x.machine n new) (same_Some _ since some) asleep;
       quiet = new_so (record x { wait = Some (length old.journal) }) new.journal begun.new;
       others = others;
       sound = goes.failed ∙ ap is_failure t.told_is;
@@ -255,7 +255,7 @@ module _ (begins : BeginTogether) (few_steps : HaveFewSteps) {K : Type 0} (hash 
             served = (on (progress.Moved kind) makes).served refl;
             few = omega (arith, fewer, few);
             waits = λ stays. absurd (awake_goes come.wait come.machine.call new.journal turn.marked.awake stays);
-            asleep = λ since some. absurd (awake_apart come.wait since turn.marked.awake some);
+            asleep = λ since some. absurd (none-some since (sym turn.marked.awake ∙ some));
             quiet = quiet;
             others = others;
             sound = goes.failed ∙ ap is_failure told;

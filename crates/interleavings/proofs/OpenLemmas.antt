@@ -1,5 +1,6 @@
 -- A kernel that is led from a system: it is opened, calls begin, it is stopped, and what it says.
 use Rattle.std.proofs.Common.{ℕ, ◌≡◌, ◌≤◌, inl, inr, refl, sym, ap, ◌∙◌, subst, Bool, true, false, List, [], ◌∷◌, ◌++◌, Option, Some, None, length}
+use Rattle.std.proofs.lemmas.Option.{none-some}
 use Rattle.std.proofs.lemmas.Bool.{cases_eq}
 use Rattle.std.proofs.lemmas.List.{length-replicate}
 use Rattle.interleavings.specs.ConcurrentLaws.{AreTheOthers, BeginTogether, LeaveAtRest, RestTogether, StopTogether}
@@ -36,7 +37,7 @@ opens_led rests K hash keys content honest callers frames k opened true_to_it ha
         rows = ap length opened.locks ∙ length-replicate (length callers) []
             ∙ sym (length-replicate (length callers) None) ∙ ap length (sym opened.seats);
         seated = ap length opened.callers ∙ sym (length-replicate (length callers) None) ∙ ap length (sym opened.seats);
-        sits = λ seat a there. absurd (none_some a (sym (idle_at (length callers) seat)
+        sits = λ seat a there. absurd (none-some a (sym (idle_at (length callers) seat)
             ∙ ap (λ (x : List (Option ActiveView)). call_at x seat) (sym opened.seats) ∙ there));
         callers = λ seat caller sits. opened.fitting seat caller (sym (ap (λ (cs : List Caller). caller_at cs seat)
             opened.callers) ∙ sits);
@@ -57,9 +58,6 @@ opens_led rests K hash keys content honest callers frames k opened true_to_it ha
     idle : (seat : ℕ) → calls_of k.seats seat ≡ None
     idle seat = ap machine (ap (λ (x : List (Option ActiveView)). call_at x seat) opened.seats
         ∙ idle_at (length callers) seat)
-
-    none_some : (a : ActiveView) → ◌≡◌ {A = Option ActiveView} None (Some a) → ⊥
-    none_some a clash = cc
 
 -- ---- a call begins
 

@@ -2,7 +2,7 @@
 use Rattle.std.proofs.Common.{ℕ, zero, suc, ◌≡◌, ◌+◌, ◌≤◌, ◌↔◌, refl, sym, ap, ◌∙◌, subst, Bool, true, false, ◌||◌, IsSome, IsTrue, List, [], ◌∷◌, ◌++◌, Option, Some, None, drop, length, take, arith}
 use Rattle.std.specs.List.{list_any}
 use Rattle.std.specs.Prelude.{slice_get, sum_by}
-use Rattle.std.proofs.lemmas.Option.{get_or_from_slice_get, slice_get_within}
+use Rattle.std.proofs.lemmas.Option.{get_or_from_slice_get, none-some, same_Some, slice_get_within}
 use Rattle.std.proofs.lemmas.Bool.{true≢false}
 use Rattle.std.proofs.lemmas.List.{length-replicate}
 use Rattle.std.proofs.lemmas.List.Elements.{All-take}
@@ -29,7 +29,7 @@ use Rattle.interleavings.proofs.RisenLemmas.{risen_along, risen_within}
 use Rattle.interleavings.proofs.FoundedLemmas.{founded_along}
 use Rattle.interleavings.proofs.OutcomeLemmas.{come_along, fails_along}
 use Rattle.interleavings.proofs.RunLemmas.{tells_its_part}
-use Rattle.interleavings.proofs.TellingLemmas.{HasEvent, event_at, some_same, told_by_event}
+use Rattle.interleavings.proofs.TellingLemmas.{HasEvent, event_at, told_by_event}
 use Rattle.interleavings.proofs.WaitingLemmas.{AreFounded, IsFoundedAt}
 use Rattle.interleavings.proofs.UnderWayLemmas.{call_on, leaves_along, marked_along}
 
@@ -161,17 +161,11 @@ module _ {K : Type 0} (of : K → RecordKey → ℕ) (keys : K) (content : List 
         stood_at many moment.between moment.before moment.behind
 
     sound_by : played.fault ≡ None → new.failed ≡ false
-    sound_by none = not_true new.failed (λ broken. none_some (sym none ∙ ended.failed.1 broken))
-      where
-        none_some : ◌≡◌ {A = Option EndFault} None (Some (Close closes.Failed)) → ⊥
-        none_some clash = cc
+    sound_by none = not_true new.failed (λ broken. none-some _ (sym none ∙ ended.failed.1 broken))
 
     idle_by : played.fault ≡ None → (seat : ℕ) → call_at new.seats seat ≡ None
     idle_by none = none_has new.seats (not_true (list_any has_one new.seats)
-        (λ one. none_some (sym none ∙ ended.busy.1 (record { sound = sound_by none; call = one }))))
-      where
-        none_some : ◌≡◌ {A = Option EndFault} None (Some Busy) → ⊥
-        none_some clash = cc
+        (λ one. none-some _ (sym none ∙ ended.busy.1 (record { sound = sound_by none; call = one }))))
 
     call_then : (seat : ℕ) → call_on seat new ≡ call_under_way seat es os
     call_then seat = under_way seat es os new are_seats runs
@@ -268,8 +262,8 @@ module _ {K : Type 0} (of : K → RecordKey → ℕ) (keys : K) (content : List 
             here = record {
               moment = stood_at (suc many) at.behind at.through at.rest;
               told = λ f p is_f is_p.
-                  let same_e : e ≡ f = some_same e f (sym is_e ∙ is_f) in
-                  let same_o : o ≡ p = some_same o p (sym is_o ∙ is_p) in
+                  let same_e : e ≡ f = same_Some e f (sym is_e ∙ is_f) in
+                  let same_o : o ≡ p = same_Some o p (sym is_o ∙ is_p) in
                   subst (λ (x : Event). IsToldBy callers led.base
                   (λ seat. call_under_way seat (take many es) (take many os)) x p at.behind.journal) same_e
                   (subst (λ (y : Outcome). IsToldBy callers led.base
@@ -279,13 +273,9 @@ module _ {K : Type 0} (of : K → RecordKey → ℕ) (keys : K) (content : List 
         pub rightly : Rightly
         rightly = by (slice_get es many) refl (slice_get os many) refl
           where
-            apart : {X : Type 0} (o : Option X) (x : X) → o ≡ None → o ≡ Some x → ⊥
-            apart None x none some = cc
-            apart (Some y) x none some = cc
-
             by : (f : Option Event) → slice_get es many ≡ f → (p : Option Outcome) → slice_get os many ≡ p → Rightly
-            by None none p is_o = past (λ e o is_e is. apart (slice_get es many) e none is_e)
-            by (Some e) is_e None none = past (λ f o is_f is. apart (slice_get os many) o none is)
+            by None none p is_o = past (λ e o is_e is. none-some e (sym none ∙ is_e))
+            by (Some e) is_e None none = past (λ f o is_f is. none-some o (sym none ∙ is))
             by (Some e) is_e (Some o) is_o = here e o is_e is_o
 
       pub plays_plain : StepsRefineAndDo K → StepsRefine K → AnswersAsPlainLists K → ClosesRefine K →

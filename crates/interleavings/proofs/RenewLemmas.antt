@@ -1,5 +1,6 @@
 -- A kernel that refines a system: a call is taken back, and the journal is taken out.
 use Rattle.std.proofs.Common.{ℕ, ◌≡◌, ◌≢◌, ◌≤◌, inl, inr, refl, sym, ap, ◌∙◌, subst, Bool, true, false, List, [], Option, Some, None, length, map, option_map}
+use Rattle.std.proofs.lemmas.Option.{none-some}
 use Rattle.std.proofs.Math.Path.{fun_ext}
 use Rattle.std.proofs.lemmas.Bool.{cases_eq, true≢false}
 use Rattle.std.proofs.lemmas.List.{length-map}
@@ -40,12 +41,9 @@ module _ (hash : RecordKey → ℕ) (seat : ℕ) (s : State) (m : CallView) (sea
   free : (key : RecordKey) → owes_at (owes_of (seats seat)) key ≡ false
   free key = by (owes_at (owes_of (seats seat)) key) refl
     where
-      none_some : ◌≡◌ {A = Option LockKind} None (Some Exclusive) → ⊥
-      none_some clash = cc
-
       by : (b : Bool) → owes_at (owes_of (seats seat)) key ≡ b → b ≡ false
       by false is = refl
-      by true is = absurd (none_some (sym (ap (λ (ls : List Lock). kind_of ls (guard_of key)) (t.rows seat ∙ row))
+      by true is = absurd (none-some Exclusive (sym (ap (λ (ls : List Lock). kind_of ls (guard_of key)) (t.rows seat ∙ row))
           ∙ owes_held hash s t.records pool locks t.change seat (seats seat) (t.rows seat) (t.calls seat) key is))
 
   uncounting : (c : IsStillToCount t.counter.next_id s seats) → c.seat ≢ seat
@@ -78,12 +76,9 @@ module _ {K : Type 0} (hash : RecordKey → ℕ) (base : State) (seat : ℕ) (ca
 
   sits : (i : ℕ) (a : ActiveView) → call_at without i ≡ Some a → caller_at old.callers i ≡ Some a.machine.caller
   sits i a at = elim (cases_eq i seat) [
-    | inl same ↦ absurd (none_some (sym (at_same old.seats seat None is.0 is.1) ∙ ap (call_at without) (sym same) ∙ at))
+    | inl same ↦ absurd (none-some a (sym (at_same old.seats seat None is.0 is.1) ∙ ap (call_at without) (sym same) ∙ at))
     | inr apart ↦ led.sits i a (sym (at_other old.seats seat i None apart) ∙ at)
   ]
-    where
-      none_some : ◌≡◌ {A = Option ActiveView} None (Some a) → ⊥
-      none_some clash = cc
 
   module _ (sound : old.failed ≡ false) where
     abbrev counted_then : AreCounted hash led.now old
@@ -148,12 +143,9 @@ module _ (journal : List Entry) (seats : List (Option ActiveView)) where
       call_at outlast seat ≡ Some a → caller_at callers seat ≡ Some a.machine.caller
   same_callers callers sits seat a there = by (call_at seats seat) refl (sym (outlast_at journal seats seat) ∙ there)
     where
-      none_some : ◌≡◌ {A = Option ActiveView} None (Some a) → ⊥
-      none_some clash = cc
-
       by : (o : Option ActiveView) → call_at seats seat ≡ o → option_map (outlasting journal) o ≡ Some a →
           caller_at callers seat ≡ Some a.machine.caller
-      by None at is = absurd (none_some is)
+      by None at is = absurd (none-some a is)
       by (Some b) at is =
           let same : outlasting journal b ≡ a = cc in
           sits seat b at ∙ ap (λ (x : ActiveView). Some x.machine.caller) same

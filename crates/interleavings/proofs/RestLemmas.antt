@@ -1,5 +1,6 @@
 -- Calls of several seats begin, end, and leave the file at rest.
 use Rattle.std.proofs.Common.{ℕ, ◌≡◌, ◌≢◌, inl, inr, refl, sym, ap, ◌∙◌, subst, Bool, true, false, List, [], Option, Some, None}
+use Rattle.std.proofs.lemmas.Option.{none-some}
 use Rattle.std.proofs.lemmas.Bool.{cases_eq}
 use Rattle.hash_file.proofs.Ties.{quiet_exact}
 use Rattle.hash_file.specs.Change.{Quiet}
@@ -205,10 +206,7 @@ begin_together begins hash seat caller call s m seats seats' pool locks t free c
       apart = subst (IsApartAt m.call m.undecided) (sym begun.new.stage)
           (begin_apart m.call m.undecided.questions begun.new.knows);
     }))
-    (λ c its. none_some (sym free ∙ ap seats (sym its) ∙ c.there))
-  where
-    none_some : {x : CallView} → ◌≡◌ {A = Option CallView} None (Some x) → ⊥
-    none_some clash = cc
+    (λ c its. none-some c.maker (sym free ∙ ap seats (sym its) ∙ c.there))
 
 -- ---- a call ends
 

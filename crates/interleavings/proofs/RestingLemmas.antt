@@ -1,5 +1,6 @@
 -- A kernel opens at rest, and a call begins on it.
 use Rattle.std.proofs.Common.{ℕ, refl, ◌≡◌, ◌≤◌, sym, ap, ◌∙◌, subst, Option, Some, length, arith, Bool, true, false, [], ◌∷◌, ◌++◌}
+use Rattle.std.proofs.lemmas.Option.{none-some}
 use Rattle.queue_model.specs.declared.entry.Entry.TheVariants.{Stopped}
 use Rattle.interleavings.proofs.CloseLemmas.{closes_at_rest}
 use Rattle.interleavings.proofs.OpenedOpenLemmas.{opens_at_rest}
@@ -12,7 +13,7 @@ use Rattle.interleavings.specs.Lone.{RestsOver, ServesOver}
 use Rattle.interleavings.specs.LoneKernelLaws.{BeginsOnAKernel, ClosesAKernel, OpensAKernel, RefusesAtRest, StopsAKernel}
 use Rattle.interleavings.proofs.DriveLemmas.{new_so}
 use Rattle.interleavings.proofs.LoneCallLemmas.{begins_alone, stops_at_rest}
-use Rattle.interleavings.proofs.WaitLemmas.{awake_apart, awake_goes}
+use Rattle.interleavings.proofs.WaitLemmas.{awake_goes}
 
 -- ---- it is opened
 
@@ -70,7 +71,7 @@ module _ (begins : BeginTogether) (few : HaveFewSteps) {K : Type 0} (hash : Reco
         (whole.fitting seat has.caller has.sits) has.fits has.begun.begins;
     few = few has.active.machine (store_of old.pool.images) has.begun.begins.new;
     waits = λ stays. absurd (awake_goes has.active.wait has.active.machine.call old.journal has.begun.awake stays);
-    asleep = λ since some. absurd (awake_apart has.active.wait since has.begun.awake some);
+    asleep = λ since some. absurd (none-some since (sym has.begun.awake ∙ some));
     quiet = new_so has.active old.journal has.begun.begins.new;
     others = λ other apart. at_other old.seats seat other (Some has.active) apart ∙ rests.idle other;
     sound = rests.sound;

@@ -1,5 +1,6 @@
 -- A call lacks room only where it has found none, at a step of the events so far.
 use Rattle.std.proofs.Common.{ℕ, zero, suc, ◌≡◌, ◌≤◌, ◌⊎◌, ◌==◌, inl, inr, refl, sym, ap, ◌∙◌, subst, Bool, true, false, true≢false, ◌&&◌, ◌||◌, List, [], ◌∷◌, Option, Some, None, length, arith}
+use Rattle.std.proofs.lemmas.Option.{same_Some}
 use Rattle.std.specs.List.{list_any}
 use Rattle.std.proofs.lemmas.Bool.{eqb-false, eqb-true}
 use Rattle.std.proofs.lemmas.List.Elements.{All-head}
@@ -18,7 +19,6 @@ use Rattle.interleavings.specs.declared.event.Event.{Event}
 use Rattle.interleavings.specs.declared.event.Event.TheVariants as events
 use Rattle.interleavings.specs.declared.event.Outcome.{Outcome}
 use Rattle.interleavings.specs.declared.event.Outcome.TheVariants as outcomes
-use Rattle.interleavings.proofs.DoingLemmas.{one_there}
 use Rattle.interleavings.proofs.EventLemmas.{rows_behind}
 use Rattle.interleavings.proofs.OutcomeLemmas.{fails_along}
 use Rattle.interleavings.proofs.ScheduleLemmas.{moves_led, one_leads}
@@ -187,7 +187,7 @@ module _ {K : Type 0} (does : StepsRefineAndDo K) (steps : StepsRefine K) (hash 
           let own = ap (λ (x : List (Option ActiveView)). call_at x seat) seats
           ∙ ap (call_at (with_call old.seats other (Some has.active))) (sym (eqb-true other seat here))
           ∙ at_same old.seats other (Some has.active) is.0 is.1 in
-          let same = one_there has.active lacks.active (sym own ∙ lacks.there) in
+          let same = same_Some has.active lacks.active (sym own ∙ lacks.there) in
           absurd (true≢false (sym (ap (λ (x : ActiveView). lacks_room x.machine) same ∙ lacks.lacked)
           ∙ fresh_room has.active.machine has.begun.begins.new))
       by false apart = record {

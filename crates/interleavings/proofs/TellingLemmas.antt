@@ -1,5 +1,6 @@
 -- What a seat is told of an event that waits or is blocked, beside the journal as it then stands.
 use Rattle.std.proofs.Common.{ℕ, zero, suc, ◌≡◌, ◌≢◌, inl, inr, refl, sym, ap, ◌∙◌, subst, Bool, true, false, true≢false, IsSome, List, [], ◌∷◌, Option, Some, None, drop, length, option_map, take}
+use Rattle.std.proofs.lemmas.Option.{none-some, same_Some}
 use Rattle.std.specs.Prelude.{slice_get}
 use Rattle.page_locks.specs.Locks.{is_against, kind_of}
 use Rattle.page_locks.specs.Table.{Opposes, held}
@@ -41,23 +42,17 @@ pub record HasEvent {K : Type 0} (hash : RecordKey → ℕ) (many : ℕ) (es : L
   pub through : Runs hash (take (suc many) es) (take (suc many) os) old behind
   pub rest : Runs hash (drop (suc many) es) (drop (suc many) os) behind new
 
-pub some_same : {X : Type 0} (x y : X) → ◌≡◌ {A = Option X} (Some x) (Some y) → x ≡ y
-some_same x y is = cc
-
-none_some : {X : Type 0} (x : X) → ◌≡◌ {A = Option X} None (Some x) → ⊥
-none_some x is = cc
-
 pub event_at : {K : Type 0} (hash : RecordKey → ℕ) (many : ℕ) (es : List Event) (os : List Outcome) (e : Event)
     (o : Outcome) (old new : KernelState K) → Runs hash es os old new → slice_get es many ≡ Some e →
     slice_get os many ≡ Some o → HasEvent hash many es os e o old new
-event_at hash many [] os e o old new runs is_e is_o = absurd (none_some e is_e)
+event_at hash many [] os e o old new runs is_e is_o = absurd (none-some e is_e)
 event_at hash many (x ∷ es) [] e o old new never is_e is_o = absurd never
 event_at hash zero (x ∷ es) (y ∷ os) e o old new runs is_e is_o = record {
   before = old;
   behind = runs.between;
   first = refl;
-  happens = subst (λ (f : Event). Happens hash f o old runs.between) (some_same x e is_e)
-      (subst (λ (p : Outcome). Happens hash x p old runs.between) (some_same y o is_o) runs.first);
+  happens = subst (λ (f : Event). Happens hash f o old runs.between) (same_Some x e is_e)
+      (subst (λ (p : Outcome). Happens hash x p old runs.between) (same_Some y o is_o) runs.first);
   through = record { between = runs.between; first = runs.first; rest = refl };
   rest = runs.rest;
 }

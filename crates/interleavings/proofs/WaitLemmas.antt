@@ -14,15 +14,7 @@ use Rattle.interleavings.specs.LoneKernelLaws.{StopsAWaitingCall}
 use Rattle.interleavings.proofs.DriveLemmas.{new_so}
 use Rattle.interleavings.proofs.LoneCallLemmas.{begins_alone, fits, stops_at_rest}
 
-pub none_apart : {A : Type 0} (x : Option A) → x ≡ None → IsSome x → ⊥
-none_apart None none some = cc
-none_apart (Some a) none some = cc
-
 -- ---- a call that does not wait
-
-pub awake_apart : (wait : Option ℕ) (since : ℕ) → wait ≡ None → wait ≡ Some since → ⊥
-awake_apart None since none some = cc
-awake_apart (Some n) since none some = cc
 
 pub awake_goes : (wait : Option ℕ) (call : Call) (journal : List Entry) → wait ≡ None →
     stays_waiting wait call journal ≡ true → ⊥
