@@ -6,7 +6,7 @@ use Rattle.std.specs.Option.{option_map}
 use Rattle.std.proofs.lemmas.Bool.{cases_lt}
 use Rattle.std.proofs.lemmas.List.Elements.{All-contains}
 use Rattle.page_device.specs.Sealed.{IsSealed}
-use Rattle.buffer_pool.specs.Pool.{payloads_of}
+use Rattle.buffer_pool.specs.Pool.{PoolState, payloads_of}
 use Rattle.directory.specs.declared.layout.TheConstants.{FIRST_DIRECTORY_PAGE, ROOT_PAGE}
 use Rattle.directory.specs.Pages.{entries_at}
 use Rattle.directory.specs.Reading as header
@@ -59,7 +59,10 @@ use Rattle.interleavings.specs.file_check.Whole.{IsFileOf}
 use Rattle.interleavings.proofs.PageLemmas.{is_right, may_behind, said_is}
 use Rattle.interleavings.proofs.OpenedSameLemmas.{chain_back, contents_same, index_back, placed_back, spares_back}
 use Rattle.interleavings.proofs.StoredLemmas.{image_is, images_are, long, says_same, shown, spells_directory, store_is}
+use Rattle.interleaving_core.specs.Closing.{IsFlushedTo}
+use Rattle.page_locks.specs.Table.{Table}
 use Rattle.interleavings.specs.OpenedLaws.{ClosesAtRest, restarted}
+use Rattle.interleavings.specs.Resting.{IsFileAtRest}
 
 bucket_is_other : (p : PageKind) → is_bucket p ≡ true → is_directory p ≡ false
 bucket_is_other (kinds.Bucket b) is = refl
@@ -252,3 +255,19 @@ closes_at_rest hash s old new locks rest flushed =
     (restarted s) (restarted_lawful s rest.filed.lawful) refl
     (λ key. ap (λ (images : List (List ℕ)). contents (store_of images) key) flushed.written ∙ rest.holds key)
     rest.spelled
+
+-- as where its pool is flushed to these pages
+pub closes_flushed : (hash : RecordKey → ℕ) (s : State) (pool : PoolState) (locks : Table) (content : List (List ℕ)) →
+    IsFileAtRest hash s pool locks → IsFlushedTo pool content → IsFileOf hash content (restarted s)
+closes_flushed hash s pool locks content rest flushed =
+    closes_at_rest hash s pool (record pool { stored = content }) locks rest (record {
+      written = flushed.images;
+      keeps = record {
+        images = λ _. refl;
+        pinned = λ page _. refl;
+        as_many = refl;
+        frames = refl;
+        honest = refl;
+        seals = λ _ _. flushed.seals;
+      };
+    })

@@ -2,7 +2,7 @@
 use Rattle.std.proofs.Common.{ℕ, refl, ◌≡◌, ◌≤◌, sym, ap, ◌∙◌, subst, Option, Some, length, arith, Bool, true, false, [], ◌∷◌, ◌++◌}
 use Rattle.std.proofs.lemmas.Option.{none-some}
 use Rattle.queue_model.specs.declared.entry.Entry.TheVariants.{Stopped}
-use Rattle.interleavings.proofs.CloseLemmas.{closes_at_rest}
+use Rattle.interleavings.proofs.CloseLemmas.{closes_flushed}
 use Rattle.interleavings.proofs.OpenedOpenLemmas.{opens_at_rest}
 use Rattle.interleavings.specs.ConcurrentLaws.{BeginTogether}
 use Rattle.interleaving_core.proofs.BeginLemmas.{idle_at}
@@ -38,17 +38,7 @@ opens_a_kernel K hash keys content honest callers frames k opened true_to_it s f
 
 pub closes_a_kernel : (K : Type 0) → ClosesAKernel K
 closes_a_kernel K hash s content k rests flushed =
-    closes_at_rest hash s k.pool (record k.pool { stored = content }) k.locks rests.file (record {
-      written = flushed.images;
-      keeps = record {
-        images = λ _. refl;
-        pinned = λ page _. refl;
-        as_many = refl;
-        frames = refl;
-        honest = refl;
-        seals = λ _ _. flushed.seals;
-      };
-    })
+    closes_flushed hash s k.pool k.locks content rests.file flushed
 
 -- ---- a call begins
 

@@ -14,6 +14,7 @@ use Rattle.interleavings.specs.declared.event.Event.TheVariants as events
 use Rattle.interleavings.specs.declared.event.Outcome.{Outcome}
 use Rattle.interleavings.specs.declared.event.Outcome.TheVariants as outcomes
 use Rattle.interleavings.proofs.EventLemmas.{along}
+use Rattle.interleavings.proofs.LeadLemmas.{led_with}
 use Rattle.interleavings.proofs.ToldLemmas.{steps_led}
 
 -- ---- a drive
@@ -43,16 +44,8 @@ module _ {K : Type 0} (step_on : StepsRefine K) (hash : RecordKey → ℕ) (base
       -- where a step has failed the journal still leads
       broken : (k : KernelState K) (failure : Option Failure) → Refines hash base k →
           Refines hash base (record k { failed = true; failure = failure })
-      broken k failure on = record {
-        now = on.now;
-        leads = on.leads;
-        mark = on.mark;
-        callers = on.callers;
-        rows = on.rows;
-        seated = on.seated;
-        sits = on.sits;
-        together = λ sound. absurd (true≢false sound);
-      }
+      broken k failure on = led_with hash base k (record k { failed = true; failure = failure }) on refl refl refl refl
+          refl on.sits (λ sound. absurd (true≢false sound))
 
 pub drives_led : StepTogether → EndTogether → BeginTogether → (K : Type 0) → DrivesRefine K
 drives_led steps ends begins K hash base seat did old new is led driven =

@@ -298,7 +298,8 @@ module _ (steps : StepTogether) (ends : EndTogether) (begins : BeginTogether) {K
       over_caller : (waits : Bool) → IsLeftWhenOver waits come (call_at new.seats seat) → (x : ActiveView) →
           call_at new.seats seat ≡ Some x → x.machine.caller ≡ a.machine.caller
       over_caller true (again, left, begun) x at =
-          sym (ap (λ (y : ActiveView). y.machine.caller) (same_Some again x (sym left ∙ at))) ∙ begun.begins.caller_is ∙ turn.makes.aim.caller
+          sym (ap (λ (y : ActiveView). y.machine.caller) (same_Some again x (sym left ∙ at)))
+          ∙ begun.begins.caller_is ∙ turn.makes.aim.caller
       over_caller false left x at = absurd (none-some x (sym left ∙ at))
 
       pub led_on : LeadsDoing hash base seat a did before.change old new
