@@ -44,7 +44,8 @@ module _ (hash : RecordKey → ℕ) (seat : ℕ) (s : State) (m : CallView) (sea
       by : (b : Bool) → owes_at (owes_of (seats seat)) key ≡ b → b ≡ false
       by false is = refl
       by true is = absurd (none-some Exclusive
-          (sym (ap (λ (ls : List Lock). kind_of ls (guard_of key)) (t.rows seat ∙ row)) ∙ owes_held hash s t.records pool locks t.change seat (seats seat) (t.rows seat) (t.calls seat) key is))
+          (sym (ap (λ (ls : List Lock). kind_of ls (guard_of key)) (t.rows seat ∙ row))
+          ∙ owes_held hash s t.records pool locks t.change seat (seats seat) (t.rows seat) (t.calls seat) key is))
 
   uncounting : (c : IsStillToCount t.counter.next_id s seats) → c.seat ≢ seat
   uncounting c its =
