@@ -16,7 +16,8 @@ use Rattle.interleavings.specs.declared.event.Outcome.{Outcome}
 use Rattle.interleavings.specs.declared.event.Outcome.TheVariants as outcomes
 use Rattle.interleavings.proofs.EventLemmas.{along}
 use Rattle.interleavings.proofs.ScheduleLemmas.{moves_led, one_leads}
-use Rattle.interleavings.proofs.WaitingLemmas.{AreFounded, IsFounded, IsFoundedAt, new_undecided, none_some, still_founded_at, takes_founded}
+use Rattle.interleavings.proofs.SeatNameLemmas.{none_is}
+use Rattle.interleavings.proofs.WaitingLemmas.{AreFounded, IsFounded, IsFoundedAt, new_undecided, still_founded_at, takes_founded}
 
 -- ---- all seats
 
@@ -88,7 +89,7 @@ module _ {K : Type 0} (hash : RecordKey → ℕ) (base : State) where
         within = let many = has.begun.decided in omega (arith, many);
         put_off = λ was. elim was [
           | inl waits ↦ absurd (apart (sym (new_undecided has.active.machine has.begun.begins.new) ∙ waits))
-          | inr some ↦ absurd (none_some has.active.wait has.begun.awake some)
+          | inr some ↦ absurd (none_is has.active.wait has.begun.awake some)
         ];
       }
         where

@@ -27,16 +27,9 @@ use Rattle.interleavings.proofs.ConcurrentCountLemmas.{HasCounter, IsCountedBy, 
 use Rattle.interleavings.proofs.DecideLemmas.{Concludes, Leads, concluded}
 use Rattle.interleavings.proofs.PlaceLemmas.{names_of}
 use Rattle.interleavings.proofs.SeatLemmas.{owe_apart}
+use Rattle.interleavings.proofs.SeatNameLemmas.{none_is}
+use Rattle.interleavings.proofs.SettleLemmas.{as_good_itself}
 use Rattle.interleavings.proofs.StepLemmas as steps
-
--- over the same system a call can't tell it from itself
-itself : (call : Call) (q : QuestionsView) (s : State) → IsFiled s → IsAsGood call q s s
-itself call q s filed = record {
-  filed = filed;
-  records = λ key under. refl;
-  ids = λ id under. record { queue = refl; given = refl };
-  knows = λ near. near;
-}
 
 -- no call stops the system
 mark_kept : (caller : Caller) (call : Call) (bytes : List ℕ) (s u : State) (c : Conclusion) →
@@ -145,7 +138,7 @@ module _ (hash : RecordKey → ℕ) (seat : ℕ) (s : State) (stopped : Bool) (d
     together_still : AreTogetherIn hash s seats' pool' locks' step.step.after
     together_still = steps.together hash seat s stopped did old new seats seats' pool pool' locks locks' t seated there
         mark made fine now others s leads_still (has_counter counted_still) (λ un. refl)
-        (λ call q apart alike. itself call q s t.filed) counted_still
+        (λ call q apart alike. as_good_itself call q s t.filed) counted_still
 
   -- ---- at its Decide
 
@@ -192,16 +185,13 @@ module _ (hash : RecordKey → ℕ) (seat : ℕ) (s : State) (stopped : Bool) (d
         others_lead_alike call new.call q new.caller (answer_of verdict bytes) s u t.filed comes.leads.filed apart
         by_rules alike
     good conclusions.Waits stays call q apart alike =
-        subst (IsAsGood call q s) (sym stays.1) (itself call q s t.filed)
+        subst (IsAsGood call q s) (sym stays.1) (as_good_itself call q s t.filed)
     good conclusions.HasNoRoom stays call q apart alike =
-        subst (IsAsGood call q s) (sym stays) (itself call q s t.filed)
+        subst (IsAsGood call q s) (sym stays) (as_good_itself call q s t.filed)
 
     -- the maker of a queue that is still to be counted has decided before
     another : (n : ℕ) (m : IsStillToCount n s seats) → m.seat ≢ seat
-    another n m its = none_some (sym undecided ∙ ap conclusion_of (sym (its_own n m its))) m.decided
-      where
-        none_some : {o : Option Conclusion} → None ≡ o → IsSome o → ⊥
-        none_some at some = true≢false (sym (subst IsSome (sym at) some))
+    another n m its = none_is (conclusion_of m.maker) (ap conclusion_of (its_own n m its) ∙ undecided) m.decided
 
     stays_so : u ≡ s → (u.next_id ≡ t.counter.next_id) ⊎ IsStillToCount t.counter.next_id u seats'
     stays_so same = subst (λ (x : State). (x.next_id ≡ t.counter.next_id) ⊎ IsStillToCount t.counter.next_id x seats')

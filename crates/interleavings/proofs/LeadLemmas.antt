@@ -1,7 +1,6 @@
 -- What is led from a system stays so by each thing that a kernel does.
 use Rattle.std.proofs.Common.{ℕ, ◌≡◌, refl, sym, ap, ◌∙◌, subst, List, [], ◌∷◌, ◌++◌, Option, Some, None, IsSome, false, length, option_map}
 use Rattle.std.proofs.lemmas.Option.{none-some}
-use Rattle.std.proofs.lemmas.Bool.{true≢false}
 use Rattle.std.proofs.lemmas.List.{append-nil}
 use Rattle.interleavings.specs.ConcurrentLaws.{AreTheOthers, LeadsBy}
 use Rattle.interleaving_core.proofs.PlaceLemmas.{at_other}
@@ -18,6 +17,7 @@ use Rattle.queue_model.specs.declared.entry.Entry.TheVariants.{Decided}
 use Rattle.interleavings.specs.Words.{ActiveView, Answer, Call, CallView, Caller, Entry, FileFault, KernelState, LeadsAlong, Progress, RecordKey, State, answer_of, answer_of_call, call_at, caller_at, conclusion_of, with_call}
 use Rattle.interleavings.specs.Counting.{AreCounted}
 use Rattle.interleavings.specs.Refining.{Refines, calls_of}
+use Rattle.interleavings.proofs.SeatNameLemmas.{none_is}
 
 -- ---- seats
 
@@ -69,10 +69,7 @@ none_joins seat old come o kept same = by (answer_of_call old) refl o kept
 one_joins : (seat : ℕ) (old come : CallView) (o : Option Draft) → IsDrafted old o → answer_of_call old ≡ None →
     (answer : Answer) → answer_of_call come ≡ Some answer →
     entries_by seat (answer_of_call come) o ≡ Decided seat old.call answer ∷ []
-one_joins seat old come None kept before answer behind = absurd (some_none kept before)
-  where
-    some_none : {a : Option Answer} → IsSome a → a ≡ None → ⊥
-    some_none some is = true≢false (sym (subst IsSome is some))
+one_joins seat old come None kept before answer behind = absurd (none_is (answer_of_call old) before kept)
 one_joins seat old come (Some d) kept before answer behind =
     ap (λ (y : Option Answer). entries_by seat y (Some d)) behind
     ∙ ap (λ (c : Call). Decided seat c answer ∷ []) kept.call

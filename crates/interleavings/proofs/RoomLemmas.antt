@@ -22,6 +22,7 @@ use Rattle.interleavings.specs.declared.event.Outcome.TheVariants as outcomes
 use Rattle.interleavings.proofs.EventLemmas.{rows_behind}
 use Rattle.interleavings.proofs.OutcomeLemmas.{fails_along}
 use Rattle.interleavings.proofs.ScheduleLemmas.{moves_led, one_leads}
+use Rattle.interleavings.proofs.SettleLemmas.{and_false}
 use Rattle.interleavings.proofs.UnderWayLemmas.{stop_same}
 
 -- the call at a seat lacks room
@@ -50,10 +51,6 @@ or_second false b is = is
 
 none_of : (a b : Bool) → a ≡ false → b ≡ false → (a || b) ≡ false
 none_of a b is none = ap (λ (x : Bool). x || b) is ∙ none
-
-and_false : (b : Bool) → (b && false) ≡ false
-and_false true = refl
-and_false false = refl
 
 -- ---- a step
 

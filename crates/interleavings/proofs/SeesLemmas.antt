@@ -1,8 +1,6 @@
 -- What a call sees and holds at each of its places.
 use Rattle.std.proofs.Common.{ℕ, ◌≡◌, refl, List, Option, Some, None}
-use Rattle.xsi_calls.proofs.Below.{operation_aside}
-use Rattle.xsi_calls.specs.Below.{AccessView, IsUndecidedIn, Work, facts_in, locks_behind, locks_in, locks_under, sweep_locks}
-use Rattle.xsi_calls.specs.declared.question.Question.{Question}
+use Rattle.xsi_calls.specs.Below.{IsUndecidedIn, facts_in, locks_in}
 use Rattle.xsi_calls.specs.declared.payment.Stage.TheVariants.{Sweeping, Writing}
 use Rattle.xsi_calls.specs.Calling.{IsCallingAt}
 use Rattle.xsi_calls.specs.Machine.{facts_at, locks_at}
@@ -12,6 +10,7 @@ use Rattle.xsi_calls.specs.declared.trials.Trials.{Trials}
 use Rattle.xsi_calls.specs.declared.undecided.UndecidedCall.{UndecidedCall}
 use Rattle.xsi_calls.specs.Stages.{Stage, Undecided, Paying, Releasing}
 use Rattle.interleavings.specs.LoneCallWords.{Call, Change, PoolState, RecordKey, Records, State, Table}
+use Rattle.interleavings.proofs.SeatNameLemmas.{questions_aside, sweep_aside, writes_aside}
 
 -- ---- it sees a sound world
 
@@ -37,29 +36,14 @@ module _ (hash : RecordKey → ℕ) (seat : ℕ) (call : Call) (s : State) (u : 
 
 -- ---- behind its names its seat has locks of the file alone
 
-access_aside : (o : Option AccessView) (names : List Lock) (key : RecordKey) →
-    kind_of (locks_under o names) (guard_of key) ≡ kind_of names (guard_of key)
-access_aside None names key = refl
-access_aside (Some a) names key = operation_aside a.operation names key
-
-sweep_aside : (v : Option Work) (names : List Lock) (key : RecordKey) →
-    kind_of (sweep_locks v names) (guard_of key) ≡ kind_of names (guard_of key)
-sweep_aside None names key = refl
-sweep_aside (Some w) names key = operation_aside w.access.operation names key
-
-question_aside : (o : Option Question) (names : List Lock) (key : RecordKey) →
-    kind_of (locks_behind o names) (guard_of key) ≡ kind_of names (guard_of key)
-question_aside None names key = refl
-question_aside (Some q) names key = operation_aside q.access.operation names key
-
 tries_aside : (q : QuestionsView) (o : Option Trials) (key : RecordKey) →
     kind_of (locks_in q o) (guard_of key) ≡ kind_of q.names (guard_of key)
-tries_aside q None key = question_aside q.question q.names key
-tries_aside q (Some t) key = access_aside t.writes.access q.names key
+tries_aside q None key = questions_aside q.question q.names key
+tries_aside q (Some t) key = writes_aside t.writes.access q.names key
 
 pub names_aside : (u : UndecidedCall) (stage : Stage) (key : RecordKey) →
     kind_of (locks_at u stage) (guard_of key) ≡ kind_of u.questions.names (guard_of key)
 names_aside u Undecided key = tries_aside u.questions u.trials key
 names_aside u (Paying (Sweeping v) conclusion) key = sweep_aside v u.questions.names key
-names_aside u (Paying (Writing w) conclusion) key = access_aside w.access u.questions.names key
+names_aside u (Paying (Writing w) conclusion) key = writes_aside w.access u.questions.names key
 names_aside u (Releasing conclusion) key = refl

@@ -22,7 +22,7 @@ use Rattle.interleaving_core.specs.xsi_calls.Stages.{Paying, Releasing, Stage, U
 use Rattle.interleaving_core.specs.xsi_calls.Words.{Lock, Owes}
 use Rattle.interleaving_core.specs.xsi_calls.declared.conclusion.Conclusion.TheVariants as conclusions
 use Rattle.interleavings.proofs.LoneKernelStepLemmas.{never_woken}
-use Rattle.interleavings.proofs.WaitingLemmas.{none_some}
+use Rattle.interleavings.proofs.SeatNameLemmas.{none_is}
 use Rattle.interleavings.specs.LoneKernelLaws.{AnswersByTheRules}
 use Rattle.interleavings.specs.Lone.{ServesOver, WaitsOver}
 use Rattle.interleavings.specs.LoneKernelWords.{ActiveView, Call, Caller, HasCall, IsDriven, IsLeft, IsSeat, IsSpent, IsStopped, KernelState, MakesCall, State, Step, TakesTurn, call_at, is_waiting, stays_waiting, told_of, told_when_over}
@@ -68,7 +68,7 @@ module _ (seat : ℕ) (c : Caller) (call : Call) (s : State) where
   waiting_new k waits = by waits.serves.active.wait refl
     where
       by : (w : Option ℕ) → waits.serves.active.wait ≡ w → IsNew waits.serves.active.machine
-      by None none = absurd (none_some waits.serves.active.wait none waits.told)
+      by None none = absurd (none_is waits.serves.active.wait none waits.told)
       by (Some since) some = (waits.serves.asleep since some).begins.new
 
   -- and where the system was stopped then
