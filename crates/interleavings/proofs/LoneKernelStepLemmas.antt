@@ -148,43 +148,44 @@ module _ (begins : BeginTogether) (few_steps : HaveFewSteps) {K : Type 0} (hash 
           waits_on a old.pool asleep.begins asleep.file (serves.waits stays) t
 
   -- it was decided to wait, and begins anew
-  anew_on : TurnsAnew hash seat old.stopped did a left old.pool new.pool old.locks new.locks old.journal new.journal →
-      So did
-  anew_on anew = subst So (sym stays.told_is) (waits_on anew.again anew.between (record {
-    caller_is = again.caller_is ∙ serves.served.lone.caller_is;
-    call_is = again.call_is ∙ serves.served.lone.call_is;
-    new = again.new;
-  }) (subst (λ (t : State). IsFileAtRest hash t anew.between old.locks) comes.1
-  (leaves_at_rest hash seat caller call s come anew.between old.locks lone (anew.ends.makes.aim.over ended))) comes.0
-  stays)
-    where
-      abbrev come : CallView
-      come = anew.ends.come.machine
+  module _ (anew : TurnsAnew hash seat old.stopped did a left old.pool new.pool old.locks new.locks old.journal
+      new.journal) where
+    abbrev last : CallView
+    last = anew.ends.come.machine
 
-      stays : StaysWaiting did anew.again left anew.between new.pool old.locks new.locks old.journal new.journal
-      stays = anew.waits (never_woken hash seat caller call s did old left new.pool new.locks new.journal serves anew)
+    again : Begins a.machine.caller a.machine.call anew.again.machine
+    again = (begins_from hash seat old.stopped a anew.again old.pool anew.between old.locks old.locks old.journal
+        old.journal anew.ends).begins
 
-      again : Begins a.machine.caller a.machine.call anew.again.machine
-      again = (begins_from hash seat old.stopped a anew.again old.pool anew.between old.locks old.locks old.journal
-          old.journal anew.ends).begins
+    ended : anew.ends.did ≡ progress.Ended
+    ended = anew.ends.makes.aim.ended.1 (ends_waiting hash seat old.stopped a anew.again old.pool anew.between
+        old.locks old.locks old.journal old.journal anew.ends).over
 
-      ended : anew.ends.did ≡ progress.Ended
-      ended = anew.ends.makes.aim.ended.1 (ends_waiting hash seat old.stopped a anew.again old.pool anew.between
-          old.locks old.locks old.journal old.journal anew.ends).over
+    lone : IsLoneCall hash seat caller call s last anew.between old.locks
+    lone = ((goes_alone hash seat caller call s old.stopped anew.ends.did a.machine last old.pool anew.between
+        old.locks old.locks serves.served serves.mark anew.ends.makes).served (ap is_fault ended)).lone
 
-      lone : IsLoneCall hash seat caller call s come anew.between old.locks
-      lone = ((goes_alone hash seat caller call s old.stopped anew.ends.did a.machine come old.pool anew.between
-          old.locks old.locks serves.served serves.mark anew.ends.makes).served (ap is_fault ended)).lone
+    still : (o : Option Conclusion) → conclusion_of a.machine ≡ o → is_waiting o ≡ true →
+        is_waiting (conclusion_of last) ≡ true
+    still None none waits = absurd cc
+    still (Some c) some waits = ap is_waiting (anew.ends.makes.aim.stays c some) ∙ waits
 
-      still : (o : Option Conclusion) → conclusion_of a.machine ≡ o → is_waiting o ≡ true →
-          is_waiting (conclusion_of come) ≡ true
-      still None none waits = absurd cc
-      still (Some c) some waits = ap is_waiting (anew.ends.makes.aim.stays c some) ∙ waits
+    came_to : (outcome caller call s ≡ None) × (lone.now ≡ s)
+    came_to = waits_so (conclusion_of last) caller call last.undecided.questions.room.bytes s lone.now
+        (still (conclusion_of a.machine) refl (waits_from hash seat old.stopped a anew.again old.pool anew.between
+        old.locks old.locks old.journal old.journal anew.ends)) lone.comes
 
-      comes : (outcome caller call s ≡ None) × (lone.now ≡ s)
-      comes = waits_so (conclusion_of come) caller call come.undecided.questions.room.bytes s lone.now
-          (still (conclusion_of a.machine) refl (waits_from hash seat old.stopped a anew.again old.pool anew.between
-          old.locks old.locks old.journal old.journal anew.ends)) lone.comes
+    anew_on : So did
+    anew_on =
+        let stays = anew.waits (never_woken hash seat caller call s did old left new.pool new.locks new.journal serves
+        anew) in
+        subst So (sym stays.told_is) (waits_on anew.again anew.between (record {
+          caller_is = again.caller_is ∙ serves.served.lone.caller_is;
+          call_is = again.call_is ∙ serves.served.lone.call_is;
+          new = again.new;
+        }) (subst (λ (t : State). IsFileAtRest hash t anew.between old.locks) came_to.1
+        (leaves_at_rest hash seat caller call s last anew.between old.locks lone (anew.ends.makes.aim.over ended)))
+        came_to.0 stays)
 
   -- ---- its machine makes a step
 
