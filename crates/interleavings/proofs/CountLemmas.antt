@@ -60,16 +60,6 @@ module _ (old new : World) where
   ]
   phase_after hash seat kinds.WriteRecord does = same_phase (change_of _ does.is)
   phase_after hash seat kinds.Decide does = same_phase (change_of _ does)
-  phase_after hash seat kinds.TakePage does =
-      on_phase _ _ does.changes.phase (change_of _ does.changes.is) (change_after kinds.TakePage) refl
-  phase_after hash seat kinds.CopyDirectory does =
-      on_phase _ _ does.changes.phase (change_of _ does.changes.is) (change_after kinds.CopyDirectory) refl
-  phase_after hash seat kinds.RaiseDepth does =
-      on_phase _ _ does.changes.phase (change_of _ does.changes.is) (change_after kinds.RaiseDepth) refl
-  phase_after hash seat kinds.WriteNew does =
-      on_phase _ _ does.changes.phase (change_of _ does.changes.is) (change_after kinds.WriteNew) refl
-  phase_after hash seat kinds.WriteOld does =
-      on_phase _ _ does.changes.phase (change_of _ does.changes.is) (change_after kinds.WriteOld) refl
   phase_after hash seat kinds.Retarget does = elim does.changes [
     | inl split ↦ on_phase _ _ split.phase (change_of _ split.is) (change_after kinds.Retarget) refl
     | inr merge ↦ on_phase _ _ merge.phase (change_of _ merge.is) (change_after kinds.Retarget) refl
@@ -78,17 +68,10 @@ module _ (old new : World) where
     | inl split ↦ on_phase _ _ split.changes.phase (change_of _ split.changes.is) (change_after kinds.SetCounts) refl
     | inr merge ↦ on_phase _ _ merge.changes.phase (change_of _ merge.changes.is) (change_after kinds.SetCounts) refl
   ]
-  phase_after hash seat kinds.WriteLeft does =
-      on_phase _ _ does.changes.phase (change_of _ does.changes.is) (change_after kinds.WriteLeft) refl
-  phase_after hash seat kinds.Tombstone does =
-      on_phase _ _ does.changes.phase (change_of _ does.changes.is) (change_after kinds.Tombstone) refl
   phase_after hash seat kinds.Convert does = same_phase (change_of _ does.is)
-  phase_after hash seat kinds.WriteFree does =
-      on_phase _ _ does.changes.phase (change_of _ does.changes.is) (change_after kinds.WriteFree) refl
-  phase_after hash seat kinds.LinkFree does =
-      on_phase _ _ does.changes.phase (change_of _ does.changes.is) (change_after kinds.LinkFree) refl
-  phase_after hash seat kinds.LowerDepth does =
-      on_phase _ _ does.changes.phase (change_of _ does.changes.is) (change_after kinds.LowerDepth) refl
+  -- each other kind makes one change
+  phase_after hash seat kind does =
+      on_phase _ _ does.changes.phase (change_of _ does.changes.is) (change_after kind) refl
 
 -- ---- numbers
 

@@ -79,7 +79,7 @@ places_along hash (e ∷ es) (o ∷ os) old new runs =
       seats = rest.seats ∙ first.seats;
       places = rest.places ∙ first.places;
       honest = rest.honest ∙ first.honest;
-      later = let before = first.later in let then = rest.later in omega (arith, before, then);
+      later = let before = first.later in let more = rest.later in omega (arith, before, more);
     }
 places_along hash _ _ old new never = absurd never
 
