@@ -137,7 +137,7 @@ module _ {K : Type 0} (hash : RecordKey → ℕ) (base : State) (seat : ℕ) (a 
           let same = same_Some again x (sym left ∙ there_now) in
           absurd (true≢false (sym (ap (λ (y : ActiveView). lacks_room y.machine) same ∙ lacks)
           ∙ fresh_room again.machine begins.begins.new))
-      over_lacks false left x there_now lacks = absurd (nsame_Some x (sym left ∙ there_now))
+      over_lacks false left x there_now lacks = absurd (none-some x (sym left ∙ there_now))
 
       pub made_lacks : LacksRightly hash seat a did phase new
       made_lacks x there_now sound_still room lacks = by turn.did refl turn.left_is
