@@ -16,7 +16,7 @@ use Rattle.step_rules.specs.Turns.{Turn, TurnsAt, is_fault}
 use Rattle.step_rules.specs.Walking.{IsAsAdded, IsOwnStep, IsWalkBy, WalksBehind, Begins, HopsOn, GoesOn, OwnStepsWalk, OthersStepsWalk, first_walk}
 use Rattle.step_rules.specs.Walks.{HasHoppedLittle, SearchWalk, is_quiet, walk_beside}
 use Rattle.step_rules.specs.Ways.{hops_added}
-use Rattle.step_rules.specs.Words.{Change, Quiet, Taken, Filled, Linked, Absorbed, Buried, Drained, Freed}
+use Rattle.step_rules.specs.Words.{Change, Quiet}
 use Rattle.step_rules.specs.World.{World}
 use Rattle.step_rules.proofs.TurnLemmas.{is_of_its_kind}
 use Rattle.interleaving_core.specs.Searches.{begins_search, ends_on, goes_on, is_shared, is_unheld}

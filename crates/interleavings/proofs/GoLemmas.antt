@@ -20,7 +20,7 @@ use Rattle.interleavings.specs.xsi_calls.Words.{AreAlike, Moved, QuestionsView, 
 use Rattle.interleavings.specs.xsi_calls.declared.conclusion.Conclusion.TheVariants as conclusions
 use Rattle.interleavings.specs.xsi_calls.Stages.{Undecided}
 use Rattle.interleavings.specs.SeatWords.{names_in}
-use Rattle.interleavings.specs.ConcurrentWords.{Answer, Call, CallView, Caller, Change, ComesBy, Conclusion, FileFault, HasFittingCall, HasFittingCaller, IsFiled, IsKeptApart, IsSeat, IsUncounted, MakesCall, PoolState, Progress, RecordKey, Records, State, Table, answer_of, call_owes, conclusion_of, counter_key, is_fault, outcome, overlaid, owes_at, record_of, store_of, world}
+use Rattle.interleavings.specs.ConcurrentWords.{Answer, Call, CallView, Caller, Change, ComesBy, Conclusion, FileFault, HasFittingCall, HasFittingCaller, IsKeptApart, IsSeat, IsUncounted, MakesCall, PoolState, Progress, RecordKey, Records, State, Table, answer_of, call_owes, conclusion_of, counter_key, is_fault, outcome, overlaid, owes_at, record_of, store_of, world}
 use Rattle.interleavings.specs.Together.{AreTogether, IsStillToCount, Seats, owes_of}
 use Rattle.interleavings.specs.ConcurrentLaws.{AreTheOthers, AreTogetherIn, LeadTogether, LeadsBy, StepTogether}
 use Rattle.interleavings.proofs.ConcurrentCountLemmas.{HasCounter, IsCountedBy, counted, exclusive_or_not, has_counter, one_more, same_next}

@@ -1,13 +1,13 @@
 -- A lone call is driven: each step that moves leaves fewer, and so there is a last one.
-use Rattle.std.proofs.Common.{ℕ, zero, suc, ◌≡◌, ◌+◌, ◌≤◌, sym, subst, inl, inr, arith}
+use Rattle.std.proofs.Common.{ℕ, zero, suc, ◌+◌, ◌≤◌, sym, subst, inl, inr, arith}
 use Rattle.std.specs.Prelude.{◌⊎◌}
 use Rattle.interleaving_core.specs.Driving.{ComesToRest, Moves}
 use Rattle.interleaving_core.specs.declared.step.Step.TheVariants as steps
 use Rattle.interleavings.specs.ConcurrentLaws.{BeginTogether}
-use Rattle.interleavings.specs.LoneKernelWords.{Call, Caller, HaveFewSteps, IsDriven, IsSeat, IsSpent, KernelState, MOST_CALL_STEPS, RecordKey, State, Step, call_left, store_of}
+use Rattle.interleavings.specs.LoneKernelWords.{Call, Caller, HaveFewSteps, IsDriven, IsSpent, KernelState, MOST_CALL_STEPS, RecordKey, State, Step, call_left, store_of}
 use Rattle.interleavings.specs.Lone.{ServesOver}
-use Rattle.interleavings.specs.LoneKernelLaws.{AnswersLoneCalls, DrivesByTheRules, StandsBehind, StandsDriven}
-use Rattle.interleavings.proofs.LoneKernelStepLemmas.{Behind, behind, steps_on}
+use Rattle.interleavings.specs.LoneKernelLaws.{AnswersLoneCalls, DrivesByTheRules, StandsDriven}
+use Rattle.interleavings.proofs.LoneKernelStepLemmas.{behind, steps_on}
 use Rattle.interleavings.proofs.RestingLemmas.{begins_on_a_kernel}
 use Rattle.interleavings.proofs.ToldLemmas.{risen_since}
 

@@ -19,7 +19,7 @@ use Rattle.interleaving_core.specs.xsi_calls.Machine.{answer_by}
 use Rattle.interleaving_core.specs.xsi_calls.Words.{has_no_room}
 use Rattle.interleaving_core.specs.xsi_calls.declared.conclusion.Conclusion.{Conclusion}
 use Rattle.interleaving_core.specs.xsi_calls.declared.conclusion.Conclusion.TheVariants as conclusions
-use Rattle.interleavings.specs.Words.{ActiveView, Answer, CallView, FileFault, IsDriven, IsSeat, IsStep, KernelState, PoolState, Progress, RecordKey, State, Step, Table, Entry, call_at, conclusion_of, lacks_room}
+use Rattle.interleavings.specs.Words.{ActiveView, Answer, FileFault, IsDriven, IsSeat, IsStep, KernelState, PoolState, Progress, RecordKey, State, Step, Table, Entry, call_at, conclusion_of, lacks_room}
 use Rattle.interleavings.specs.Laws.{EventsRefine, StepsRefine, StepsRefineAndDo}
 use Rattle.interleavings.specs.Outcomes.{lapsed_by}
 use Rattle.interleavings.specs.Refining.{Refines}

@@ -1,9 +1,8 @@
 -- Events over a kernel that was opened, and closed behind them, told without the kernel.
-use Rattle.std.proofs.Common.{ℕ, zero, suc, ◌≡◌, ◌+◌, ◌≤◌, ◌↔◌, refl, sym, ap, ◌∙◌, subst, Bool, true, false, ◌||◌, IsSome, IsTrue, List, [], ◌∷◌, ◌++◌, Option, Some, None, drop, length, take, arith}
+use Rattle.std.proofs.Common.{ℕ, zero, suc, ◌≡◌, ◌+◌, ◌≤◌, refl, sym, ap, ◌∙◌, subst, Bool, true, false, ◌||◌, IsSome, IsTrue, List, [], ◌∷◌, ◌++◌, Option, Some, None, drop, length, take, arith}
 use Rattle.std.specs.List.{list_any}
 use Rattle.std.specs.Prelude.{slice_get, sum_by}
 use Rattle.std.proofs.lemmas.Option.{get_or_from_slice_get, none-some, same_Some, slice_get_within}
-use Rattle.std.proofs.lemmas.Bool.{true≢false}
 use Rattle.std.proofs.lemmas.List.{length-replicate}
 use Rattle.std.proofs.lemmas.List.Elements.{All-take}
 use Rattle.page_device.specs.Device.{HasRisen}
@@ -21,7 +20,6 @@ use Rattle.interleavings.specs.Playing.{HasPlayed, HasReason, PlaysAsPlainLists}
 use Rattle.interleavings.specs.Runs.{AreOfSeats, IsLinearized, IsOfSeat, IsToldItsPart, Runs, told_along}
 use Rattle.interleavings.specs.declared.event.Event.{Event}
 use Rattle.interleavings.specs.declared.event.Outcome.{Outcome}
-use Rattle.interleavings.specs.declared.playing.EndFault.{EndFault}
 use Rattle.interleavings.specs.declared.playing.EndFault.TheVariants.{Busy, Close}
 use Rattle.interleavings.specs.declared.playing.Played.{Played}
 use Rattle.interleavings.proofs.EventLemmas.{places_along}

@@ -15,7 +15,6 @@ use Rattle.interleaving_core.specs.Renewing.{HasNothing, IsWithdrawn, failure_of
 use Rattle.interleaving_core.specs.Counting.{count_at}
 use Rattle.interleaving_core.specs.xsi_calls.Words.{guard_of, kind_of, world}
 use Rattle.page_locks.specs.declared.lock.Lock.{Lock}
-use Rattle.page_locks.specs.declared.lock.LockKind.{LockKind}
 use Rattle.page_locks.specs.declared.lock.LockKind.TheVariants.{Exclusive}
 use Rattle.call_decisions.proofs.OverlayLemmas.{overlaid_rest}
 use Rattle.queue_model.proofs.JournalLemmas.{after-LeadsAlong}

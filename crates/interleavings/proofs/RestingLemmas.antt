@@ -1,14 +1,13 @@
 -- A kernel opens at rest, and a call begins on it.
-use Rattle.std.proofs.Common.{ℕ, refl, ◌≡◌, ◌≤◌, sym, ap, ◌∙◌, subst, Option, Some, length, arith, Bool, true, false, [], ◌∷◌, ◌++◌}
+use Rattle.std.proofs.Common.{ℕ, refl, ◌≡◌, ◌≤◌, sym, ap, ◌∙◌, subst, Option, Some, length, arith, Bool, true, false}
 use Rattle.std.proofs.lemmas.Option.{none-some}
-use Rattle.queue_model.specs.declared.entry.Entry.TheVariants.{Stopped}
 use Rattle.interleavings.proofs.CloseLemmas.{closes_flushed}
 use Rattle.interleavings.proofs.OpenedOpenLemmas.{opens_at_rest}
 use Rattle.interleavings.specs.ConcurrentLaws.{BeginTogether}
 use Rattle.interleaving_core.proofs.BeginLemmas.{idle_at}
 use Rattle.interleaving_core.proofs.KernelLemmas.{as_many}
 use Rattle.interleaving_core.proofs.PlaceLemmas.{Seats, at_other, at_same}
-use Rattle.interleavings.specs.LoneKernelWords.{Call, Caller, HasCall, HaveFewSteps, IsFileAtRest, IsSeat, IsStopped, IsWhole, KernelState, PoolState, RecordKey, State, Table, call_at, store_of, with_call}
+use Rattle.interleavings.specs.LoneKernelWords.{Call, Caller, HasCall, HaveFewSteps, IsFileAtRest, IsSeat, IsWhole, KernelState, PoolState, RecordKey, State, Table, call_at, store_of, with_call}
 use Rattle.interleavings.specs.Lone.{RestsOver, ServesOver}
 use Rattle.interleavings.specs.LoneKernelLaws.{BeginsOnAKernel, ClosesAKernel, OpensAKernel, RefusesAtRest, StopsAKernel}
 use Rattle.interleavings.proofs.DriveLemmas.{new_so}
