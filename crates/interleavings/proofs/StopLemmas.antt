@@ -2,6 +2,7 @@
 use Rattle.std.proofs.Common.{◌≡◌, inl, inr, ap, Bool, Some}
 use Rattle.queue_model.proofs.EffectLemmas.{Effect, Effect-outcome}
 use Rattle.queue_model.proofs.LawfulLemmas.{IsLawful-Effect}
+use Rattle.queue_model.specs.Lawful.{IsLawful}
 use Rattle.queue_model.specs.declared.answer.Answer.TheVariants.{Sent, Received, Done}
 use Rattle.queue_model.specs.declared.call.Call.TheVariants.{Get, Send, Receive, Stat, Set, Remove}
 use Rattle.type_chains.proofs.Fitting.{keeps_fitting}
@@ -38,16 +39,16 @@ keeps_filed c call a s t caller fitting rules filed = record {
 
 -- ---- with another stop mark
 
-pub filed_still : (s : State) (stopped : Bool) → IsFiled s → IsFiled (record s { stopped = stopped })
-filed_still s stopped filed = record {
-  lawful = record {
-    few_queues = filed.lawful.few_queues;
-    id_begun = filed.lawful.id_begun;
-    ids_end = filed.lawful.ids_end;
-    queues_lawful = filed.lawful.queues_lawful;
-    ids_given = filed.lawful.ids_given;
-    ids_ascend = filed.lawful.ids_ascend;
-    keys_apart = filed.lawful.keys_apart;
-  };
-  fits = filed.fits;
+pub lawful_still : (s : State) (stopped : Bool) → IsLawful s → IsLawful (record s { stopped = stopped })
+lawful_still s stopped l = record {
+  few_queues = l.few_queues;
+  id_begun = l.id_begun;
+  ids_end = l.ids_end;
+  queues_lawful = l.queues_lawful;
+  ids_given = l.ids_given;
+  ids_ascend = l.ids_ascend;
+  keys_apart = l.keys_apart;
 }
+
+pub filed_still : (s : State) (stopped : Bool) → IsFiled s → IsFiled (record s { stopped = stopped })
+filed_still s stopped filed = record { lawful = lawful_still s stopped filed.lawful; fits = filed.fits }
