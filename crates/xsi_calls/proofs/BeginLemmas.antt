@@ -1,10 +1,8 @@
 -- The decision before the first trial.
-use Rattle.std.proofs.Common.{◌≡◌, ap, ◌∙◌, subst, Option, None, Result, Ok}
-use Rattle.xsi_calls.specs.declared.writes.CallWrites.{CallWrites}
-use Rattle.xsi_calls.specs.WriteWords.{AccessView}
+use Rattle.std.proofs.Common.{◌≡◌, subst, Result, Ok}
 use Rattle.xsi_inquiry.specs.Telling.{Gives}
-use Rattle.xsi_calls.specs.UndecidedWords.{AnyInquiry, Call, Decision, Due, IsFiled, IsRight, KnowsOf, NotASystem, QuestionsView, Roomful, State, Trying, caller_of, locked_of, plan_of}
-use Rattle.xsi_calls.specs.Undecided.{its_plan, untried}
+use Rattle.xsi_calls.specs.UndecidedWords.{AnyInquiry, Call, Decision, IsFiled, IsRight, KnowsOf, NotASystem, QuestionsView, Roomful, State, caller_of, locked_of, plan_of}
+use Rattle.xsi_calls.specs.Undecided.{its_plan}
 use Rattle.xsi_calls.specs.Knowing.{IsDecision}
 
 pub decision_of : (call : Call) (q : QuestionsView) (i : AnyInquiry) → i ≡ q.inquiry →

@@ -1,6 +1,5 @@
 -- A question makes its moves.
 use Rattle.std.proofs.Common.{sym, ◌∙◌}
-use Rattle.xsi_calls.specs.Machine.{is_undecided}
 use Rattle.xsi_calls.specs.Stages.{stage_at}
 use Rattle.xsi_calls.proofs.AtOnceLemmas.{asks_from}
 use Rattle.xsi_calls.proofs.call_machine.CallMachine.skip.Goals as goal

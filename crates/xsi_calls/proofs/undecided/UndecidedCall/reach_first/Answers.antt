@@ -1,5 +1,5 @@
 -- The first trial begins, and makes its moves.
-use Rattle.std.proofs.Common.{sym, ap, ◌∙◌, subst, not, Option, Some}
+use Rattle.std.proofs.Common.{sym, ap, ◌∙◌, subst, not, Option}
 use Rattle.std.specs.Prelude.{slice_get}
 use Rattle.xsi_calls.specs.declared.trials.Trials.{Trials}
 use Rattle.xsi_calls.specs.UndecidedSteps.{MakesUndecided}

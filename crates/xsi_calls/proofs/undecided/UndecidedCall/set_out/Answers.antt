@@ -1,5 +1,5 @@
 -- Nothing is inserted on trial, or the first trial begins.
-use Rattle.std.proofs.Common.{◌≡◌, sym, ap, ◌∙◌, subst, not, Option, Some, None}
+use Rattle.std.proofs.Common.{◌≡◌, sym, ap, ◌∙◌, subst, not, Option, None}
 use Rattle.std.specs.Prelude.{slice_get}
 use Rattle.xsi_calls.specs.declared.trials.Trials.{Trials}
 use Rattle.xsi_calls.specs.Undecided.{its_plan, locks_in}
