@@ -1,6 +1,6 @@
 -- Moves of a seat's call that are made in one go, of which none is a Decide: what they leave of the call, and that each
 -- is a step of a kernel.
-use Rattle.std.proofs.Common.{◌≡◌, refl, sym, ap, ◌∙◌, subst, ℕ, Bool, true, false, true≢false, IsSome, inl, List, [], ◌∷◌, ◌++◌, Option, Some, None, length, append-nil, arith}
+use Rattle.std.proofs.Common.{◌≡◌, refl, sym, ap, ◌∙◌, subst, ℕ, Bool, false, true≢false, IsSome, inl, List, [], ◌∷◌, ◌++◌, Option, Some, None, length, append-nil, arith}
 use Rattle.std.specs.Prelude.{⊤}
 use Rattle.std.specs.Option.{is_some}
 use Rattle.file_pages.specs.declared.fault.FileFault.{FileFault}

@@ -1,5 +1,5 @@
 -- The calls that wait go on beside an empty journal.
-use Rattle.std.proofs.Common.{rules, ◌≡◌, ◌+◌, ◌≤◌, ◌∙◌, [], ap, sym, subst, length, vec_capacity}
+use Rattle.std.proofs.Common.{rules, ◌≡◌, ◌≤◌, ◌∙◌, [], ap, sym, subst, length, vec_capacity}
 use Rattle.std.specs.Option.{is_some}
 use Rattle.interleaving_core.specs.Kernel.{KernelState}
 use Rattle.interleaving_core.specs.Renewing.{IsBetweenCalls}
