@@ -2,28 +2,23 @@
 
 ghost use Rattle.std.specs.Prelude.{◌≡◌, ◌↔◌, ◌+◌, ◌≤◌, ◌++◌, IfErr, IfOk, IfSome, IsSome, IsTrue, None, Some, length, false, true, vec_capacity};
 ghost use Rattle.std.specs.Option.{is_some};
-ghost use Rattle.xsi_calls.specs.CallSteps.{MakesCall};
 ghost use Rattle.xsi_calls.specs.Machine.{IsNew, IsOver, answer_of_call, call_locks, conclusion_of};
-ghost use Rattle.interleaving_core.specs.Active.{BeginsAgain, HasBegun, HasRoomAs, IsDrafted, IsMarked, decided_by, draft_by, drafted, entries_by, is_waiting, told_at_end};
+ghost use Rattle.interleaving_core.specs.Active.{BeginsAgain, HasBegun, HasRoomAs, decided_by, draft_by, drafted, entries_by, is_waiting, told_at_end};
 ghost use Rattle.interleaving_core.specs.Renewing.{IsWaiting, outlasting};
 ghost use Rattle.interleaving_core.specs.Turn.{GoesAnew};
 ghost use Rattle.interleaving_core.specs.Waiting.{stays_waiting};
 ghost use Rattle.interleaving_core.specs.Words.{IsReady, IsSeat, row_of};
-
-mod skipping;
 
 use crate::fault::StepFault;
 use crate::step::Step;
 use crate::waiting::is_woken;
 use bucket_page::PseudoKey;
 use buffer_pool::Pool;
-use file_pages::FileFault;
 use page_device::PageDevice;
 use page_locks::LockTable;
 use queue_model::{Call, Caller, Entry, NoMemory};
 use std::alloc::Global;
 use std::marker::Model;
-use step_rules::Progress;
 use xsi_calls::{CallMachine, Conclusion};
 use xsi_inquiry::Room;
 
@@ -51,11 +46,11 @@ impl Draft {
 /// A call under way at a seat. What is kept for its entry joins the journal at its Decide.
 #[derive(Drop)]
 pub(crate) struct Active {
-    machine: CallMachine,
-    draft: Option<Draft>,
+    pub(crate) machine: CallMachine,
+    pub(crate) draft: Option<Draft>,
     begun: usize,
-    decided: usize,
-    wait: Option<usize>,
+    pub(crate) decided: usize,
+    pub(crate) wait: Option<usize>,
 }
 
 impl Model for Active {
@@ -124,38 +119,6 @@ impl Active {
         self.decided = many;
         self.wait = None;
         Ok(())
-    }
-
-    /// One step of the call. Where it comes to an answer, its entry joins the journal.
-    pub(crate) fn step<D: PageDevice, K: PseudoKey>(
-        &mut self,
-        pool: &mut Pool<D>,
-        locks: &mut LockTable,
-        keys: &K,
-        journal: &mut Vec<Entry>,
-        stopped: bool,
-        seat: u8,
-    ) -> Progress<FileFault>
-        requires seat { IsSeat locks.old seat }
-        requires ready { IsReady pool.old }
-        requires row { row_of locks.old seat ≡ call_locks self.old.machine }
-        requires room { drafted self.old.draft + length journal.old.items
-            ≤ vec_capacity journal.old }
-        ensures makes { MakesCall (K.of_key keys.now) seat stopped result
-            self.old.machine self.new.machine pool.old pool.new locks.old locks.new }
-        ensures journal { journal.new.items ≡ journal.old.items ++
-            entries_by seat (answer_of_call self.new.machine) self.old.draft }
-        ensures draft { self.new.draft ≡
-            draft_by (answer_of_call self.new.machine) self.old.draft }
-        ensures capacity { vec_capacity journal.old ≤ vec_capacity journal.new }
-        ensures kept { IsDrafted self.old.machine self.old.draft }
-        ensures marked { IsMarked (length journal.old.items) self.old self.new }
-    {
-        self.decided = decided_by(&self.machine, journal.len(), self.decided);
-        self.wait = None;
-        let did = self.machine.step(pool, locks, keys, stopped, seat);
-        note(&self.machine, &mut self.draft, journal, seat);
-        did
     }
 
     /// Whether its seat was told that it waits, and nothing has woken it since. Then it need not look
@@ -268,8 +231,12 @@ impl Active {
         if self.stays_waiting(journal.as_slice()) {
             return Step::Waiting;
         }
+        self.decided = decided_by(&self.machine, journal.len(), self.decided);
+        self.wait = None;
+        let did = self.machine.step(pool, locks, keys, stopped, seat);
+        note(&self.machine, &mut self.draft, journal, seat);
         // A call that has begun has not ended.
-        Step::of(self.step(pool, locks, keys, journal, stopped, seat)).unwrap()
+        Step::of(did).unwrap()
     }
 
     /// The call that will wait, and has given its names back, is to begin anew, once an entry since
@@ -296,7 +263,7 @@ impl Active {
 }
 
 /// How long the journal was at the Decide of a call; before that, how long it is.
-fn decided_by(machine: &CallMachine, many: usize, decided: usize) -> usize
+pub(crate) fn decided_by(machine: &CallMachine, many: usize, decided: usize) -> usize
     ensures { result ≡ decided_by (conclusion_of machine.now) many decided }
 {
     if machine.has_concluded() {
@@ -308,7 +275,12 @@ fn decided_by(machine: &CallMachine, many: usize, decided: usize) -> usize
 
 /// The entry of a call that has come to an answer joins the journal, where it has not yet.
 #[inline(always)]
-fn note(machine: &CallMachine, draft: &mut Option<Draft>, journal: &mut Vec<Entry>, seat: u8)
+pub(crate) fn note(
+    machine: &CallMachine,
+    draft: &mut Option<Draft>,
+    journal: &mut Vec<Entry>,
+    seat: u8,
+)
     requires fits { IfSome draft.old (λ d. HasRoomAs d.room machine.now) }
     requires room { drafted draft.old + length journal.old.items ≤ vec_capacity journal.old }
     ensures journal { journal.new.items ≡ journal.old.items ++

@@ -279,7 +279,7 @@ impl<D: PageDevice + Drop, K: PseudoKey + Drop> Kernel<D, K> {
             return told_of_failure(&self.seats[place]);
         }
         let before = last_page(&self.locks, seat);
-        let step = self.seats[place].advance(
+        let step = self.seats[place].step(
             &mut self.pool,
             &mut self.locks,
             &self.keys,

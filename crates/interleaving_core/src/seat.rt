@@ -1,16 +1,16 @@
 //! A seat, and a step of it over the parts of a kernel.
 
-ghost use Rattle.std.specs.Prelude.{◌≡◌, ◌↔◌, ◌+◌, ◌≤◌, IfErr, IfOk, IfSome, IsTrue, None, Some, false, length, option_map, true, vec_capacity};
+ghost use Rattle.std.specs.Prelude.{◌≡◌, ◌↔◌, ◌+◌, ◌≤◌, IfErr, IfOk, IsTrue, None, Some, false, length, option_map, true, vec_capacity};
 ghost use Rattle.interleaving_core.specs.Active.{ActiveView, HasBegunAt};
-ghost use Rattle.interleaving_core.specs.AtOnce.{SeatAsks, SeatReaches};
 ghost use Rattle.interleaving_core.specs.Closing.{has_one};
 ghost use Rattle.interleaving_core.specs.Kernel.{due_at, locks_of};
 ghost use Rattle.interleaving_core.specs.Renewing.{IsIdleOrWaits, IsNewWhileWaiting, MayGiveBack, outlasting};
 ghost use Rattle.interleaving_core.specs.Turn.{Turns};
-ghost use Rattle.interleaving_core.specs.Words.{IsOver, IsReady, IsSeat, row_of};
+ghost use Rattle.interleaving_core.specs.Words.{IsReady, IsSeat, row_of};
 
-use crate::active::Active;
-use crate::fault::StepFault;
+mod skipping;
+
+use crate::active::{Active, decided_by, note};
 use crate::step::Step;
 use bucket_page::PseudoKey;
 use buffer_pool::Pool;
@@ -19,7 +19,6 @@ use page_locks::LockTable;
 use queue_model::{Call, Caller, Entry};
 use std::alloc::Global;
 use std::marker::Model;
-use step_rules::Progress;
 
 /// A seat, with its call if it has one under way. A call that is over stays where it was, so that the
 /// next one begins in its place: a call is large, and is not moved.
@@ -168,68 +167,12 @@ impl Seat {
         Some(active.into_call())
     }
 
-    /// All steps of the next question of its call, in one go, while the journal has so many entries,
-    /// where that can be asked so (`Active::skip`). Else nothing is done, and it is left to
-    /// `advance`.
-    pub(crate) fn skip<D: PageDevice, K: PseudoKey>(
-        &mut self,
-        pool: &mut Pool<D>,
-        locks: &LockTable,
-        keys: &K,
-        many: usize,
-        seat: u8,
-    ) -> bool
-        requires seat { IsSeat locks.now seat }
-        requires ready { IsReady pool.old }
-        requires row { row_of locks.now seat ≡ locks_of self.old }
-        ensures pool { pool.new ≡ pool.old }
-        ensures made { result ≡ true →
-            SeatAsks (K.of_key keys.now) seat many self.old self.new pool.old locks.now }
-        ensures spares { result ≡ false → self.new ≡ self.old }
-    {
-        if !self.is_busy {
-            return false;
-        }
-        match &mut self.last {
-            Some(active) => active.skip(pool, locks, keys, many, seat),
-            None => false,
-        }
-    }
-
-    /// All steps by which a write of its call goes to its page, in one go, while the journal has so
-    /// many entries, where it can go so (`Active::reach`). Else nothing is done, and it is left to
-    /// `advance`.
-    pub(crate) fn reach<D: PageDevice, K: PseudoKey>(
-        &mut self,
-        pool: &mut Pool<D>,
-        locks: &mut LockTable,
-        keys: &K,
-        many: usize,
-        seat: u8,
-    ) -> bool
-        requires seat { IsSeat locks.old seat }
-        requires ready { IsReady pool.old }
-        requires row { row_of locks.old seat ≡ locks_of self.old }
-        ensures pool { pool.new ≡ pool.old }
-        ensures made { result ≡ true → SeatReaches (K.of_key keys.now) seat many
-            self.old self.new pool.old locks.old locks.new }
-        ensures spares { result ≡ false → self.new ≡ self.old }
-        ensures locks { result ≡ false → locks.new ≡ locks.old }
-    {
-        if !self.is_busy {
-            return false;
-        }
-        match &mut self.last {
-            Some(active) => active.reach(pool, locks, keys, many, seat),
-            None => false,
-        }
-    }
-
-    /// A step of its call, if it has one: none while that waits, and nothing has woken it. A call
-    /// that is over leaves the seat, but one that will wait: that begins anew. It stands in whoever steps the seat,
-    /// since what it tells would else be moved through memory at each step.
+    /// A step of its call, if it has one: none while that waits, and nothing has woken it. Where it
+    /// comes to an answer, its entry joins the journal. A call that is over leaves the seat, but one
+    /// that will wait: that begins anew. It stands in whoever steps the seat, since what it tells
+    /// would else be moved through memory at each step.
     #[inline(always)]
-    pub(crate) fn advance<D: PageDevice, K: PseudoKey>(
+    pub(crate) fn step<D: PageDevice, K: PseudoKey>(
         &mut self,
         pool: &mut Pool<D>,
         locks: &mut LockTable,
@@ -256,7 +199,10 @@ impl Seat {
         if active.stays_waiting(journal.as_slice()) {
             return Step::Waiting;
         }
-        let did = active.step(pool, locks, keys, journal, stopped, seat);
+        active.decided = decided_by(&active.machine, journal.len(), active.decided);
+        active.wait = None;
+        let did = active.machine.step(pool, locks, keys, stopped, seat);
+        note(&active.machine, &mut active.draft, journal, seat);
         if let Some(step) = Step::of(did) {
             return step;
         }

@@ -30,8 +30,8 @@ returns-then-is_some-clause-turn g c =
     (c.told_of_failure.ensures ∙ ap told_of_failure (slot_here old.seats c.args.seat c.index.result.now is.0
     (seat_there old c.self.invariant c.args.seat is) c.index.ensures)))
 
-pub advance-step-requires-clause-row : goal.advance-step-requires-clause-row
-advance-step-requires-clause-row g c =
+pub step-step-requires-clause-row : goal.step-step-requires-clause-row
+step-step-requires-clause-row g c =
     let old : KernelState g.row.K.Denot = record {
       keys = c.self.inside.keys;
       pool = c.self.inside.pool;
@@ -66,8 +66,8 @@ note-requires-clause-seat g c =
     } in
     let is : IsSeat old.locks c.args.seat =
     subst (λ (k : KernelState g.row.K.Denot). IsSeat k.locks c.args.seat) (sym c.self.view_is) c.requires in
-    seat_behind (g.K.PseudoKey.of_key old.keys) c.args.seat c.advance-step.result c.index_mut.result.now
-    c.advance-step.new.self old _ _ _ c.self.invariant is c.index_mut.ensures.value c.advance-step.ensures.turns
+    seat_behind (g.K.PseudoKey.of_key old.keys) c.args.seat c.step-step.result c.index_mut.result.now
+    c.step-step.new.self old _ _ _ c.self.invariant is c.index_mut.ensures.value c.step-step.ensures.turns
 
 pub note-requires-clause-counted : goal.note-requires-clause-counted
 note-requires-clause-counted g c =
@@ -90,56 +90,56 @@ note-requires-clause-counted g c =
 
 pub invariant_of-self : goal.invariant_of-self
 invariant_of-self g c =
-    (makes_step g.K.PseudoKey.of_key c.args.seat c.advance-step.result c.index_mut.result.now c.advance-step.new.self _
-    _ c.args.self.now c.self.view_is c.self.invariant c.requires c.index_mut.ensures.value c.advance-step.ensures.turns
-    refl refl refl refl c.advance-step.ensures.capacity c.advance-step.ensures.spare
+    (makes_step g.K.PseudoKey.of_key c.args.seat c.step-step.result c.index_mut.result.now c.step-step.new.self _
+    _ c.args.self.now c.self.view_is c.self.invariant c.requires c.index_mut.ensures.value c.step-step.ensures.turns
+    refl refl refl refl c.step-step.ensures.capacity c.step-step.ensures.spare
     (sym c.is_some.ensures ∙ c.if-is_some.false) refl c.failure_of-self-inside.ensures
-    (counts_by c.args.seat c.advance-step.result _ _ c.last_page-before.result c.last_page-before.ensures
+    (counts_by c.args.seat c.step-step.result _ _ c.last_page-before.result c.last_page-before.ensures
     c.note.ensures)).whole
 
 pub invariant_of-self-2 : goal.invariant_of-self-2
 invariant_of-self-2 g c =
-    (makes_step g.K.PseudoKey.of_key c.args.seat c.advance-step.result c.index_mut.result.now c.advance-step.new.self _
-    _ c.args.self.now c.self.view_is c.self.invariant c.requires c.index_mut.ensures.value c.advance-step.ensures.turns
-    refl refl refl refl c.advance-step.ensures.capacity c.advance-step.ensures.spare
+    (makes_step g.K.PseudoKey.of_key c.args.seat c.step-step.result c.index_mut.result.now c.step-step.new.self _
+    _ c.args.self.now c.self.view_is c.self.invariant c.requires c.index_mut.ensures.value c.step-step.ensures.turns
+    refl refl refl refl c.step-step.ensures.capacity c.step-step.ensures.spare
     (sym c.is_some.ensures ∙ c.if-is_some.false) refl c.failure_of-self-inside.ensures
-    (counts_by c.args.seat c.advance-step.result _ _ c.last_page-before.result c.last_page-before.ensures
+    (counts_by c.args.seat c.step-step.result _ _ c.last_page-before.result c.last_page-before.ensures
     c.note.ensures)).whole
 
 pub returns-clause-turn : goal.returns-clause-turn
 returns-clause-turn g c =
-    (makes_step g.K.PseudoKey.of_key c.args.seat c.advance-step.result c.index_mut.result.now c.advance-step.new.self _
-    _ c.args.self.now c.self.view_is c.self.invariant c.requires c.index_mut.ensures.value c.advance-step.ensures.turns
-    refl refl refl refl c.advance-step.ensures.capacity c.advance-step.ensures.spare
+    (makes_step g.K.PseudoKey.of_key c.args.seat c.step-step.result c.index_mut.result.now c.step-step.new.self _
+    _ c.args.self.now c.self.view_is c.self.invariant c.requires c.index_mut.ensures.value c.step-step.ensures.turns
+    refl refl refl refl c.step-step.ensures.capacity c.step-step.ensures.spare
     (sym c.is_some.ensures ∙ c.if-is_some.false) refl c.failure_of-self-inside.ensures
-    (counts_by c.args.seat c.advance-step.result _ _ c.last_page-before.result c.last_page-before.ensures
+    (counts_by c.args.seat c.step-step.result _ _ c.last_page-before.result c.last_page-before.ensures
     c.note.ensures)).turn
 
 pub returns-clause-makes : goal.returns-clause-makes
 returns-clause-makes g c =
-    (makes_step g.K.PseudoKey.of_key c.args.seat c.advance-step.result c.index_mut.result.now c.advance-step.new.self _
-    _ c.args.self.now c.self.view_is c.self.invariant c.requires c.index_mut.ensures.value c.advance-step.ensures.turns
-    refl refl refl refl c.advance-step.ensures.capacity c.advance-step.ensures.spare
+    (makes_step g.K.PseudoKey.of_key c.args.seat c.step-step.result c.index_mut.result.now c.step-step.new.self _
+    _ c.args.self.now c.self.view_is c.self.invariant c.requires c.index_mut.ensures.value c.step-step.ensures.turns
+    refl refl refl refl c.step-step.ensures.capacity c.step-step.ensures.spare
     (sym c.is_some.ensures ∙ c.if-is_some.false) refl c.failure_of-self-inside.ensures
-    (counts_by c.args.seat c.advance-step.result _ _ c.last_page-before.result c.last_page-before.ensures
+    (counts_by c.args.seat c.step-step.result _ _ c.last_page-before.result c.last_page-before.ensures
     c.note.ensures)).makes
 
 pub returns-in-Moved-clause-turn : goal.returns-in-Moved-clause-turn
 returns-in-Moved-clause-turn g c =
-    (told_anew g.K.PseudoKey.of_key c.args.seat c.advance-step.result _ c.args.self.now _ c.in-Moved.is
-    (makes_step g.K.PseudoKey.of_key c.args.seat c.advance-step.result c.index_mut.result.now c.advance-step.new.self _
-    _ c.args.self.now c.self.view_is c.self.invariant c.requires c.index_mut.ensures.value c.advance-step.ensures.turns
-    refl refl refl refl c.advance-step.ensures.capacity c.advance-step.ensures.spare
+    (told_anew g.K.PseudoKey.of_key c.args.seat c.step-step.result _ c.args.self.now _ c.in-Moved.is
+    (makes_step g.K.PseudoKey.of_key c.args.seat c.step-step.result c.index_mut.result.now c.step-step.new.self _
+    _ c.args.self.now c.self.view_is c.self.invariant c.requires c.index_mut.ensures.value c.step-step.ensures.turns
+    refl refl refl refl c.step-step.ensures.capacity c.step-step.ensures.spare
     (sym c.is_some.ensures ∙ c.if-is_some.false) refl c.failure_of-self-inside.ensures
-    (counts_by c.args.seat c.advance-step.result _ _ c.last_page-before.result c.last_page-before.ensures
+    (counts_by c.args.seat c.step-step.result _ _ c.last_page-before.result c.last_page-before.ensures
     c.note.ensures))).turn
 
 pub returns-in-Moved-clause-makes : goal.returns-in-Moved-clause-makes
 returns-in-Moved-clause-makes g c =
-    (told_anew g.K.PseudoKey.of_key c.args.seat c.advance-step.result _ c.args.self.now _ c.in-Moved.is
-    (makes_step g.K.PseudoKey.of_key c.args.seat c.advance-step.result c.index_mut.result.now c.advance-step.new.self _
-    _ c.args.self.now c.self.view_is c.self.invariant c.requires c.index_mut.ensures.value c.advance-step.ensures.turns
-    refl refl refl refl c.advance-step.ensures.capacity c.advance-step.ensures.spare
+    (told_anew g.K.PseudoKey.of_key c.args.seat c.step-step.result _ c.args.self.now _ c.in-Moved.is
+    (makes_step g.K.PseudoKey.of_key c.args.seat c.step-step.result c.index_mut.result.now c.step-step.new.self _
+    _ c.args.self.now c.self.view_is c.self.invariant c.requires c.index_mut.ensures.value c.step-step.ensures.turns
+    refl refl refl refl c.step-step.ensures.capacity c.step-step.ensures.spare
     (sym c.is_some.ensures ∙ c.if-is_some.false) refl c.failure_of-self-inside.ensures
-    (counts_by c.args.seat c.advance-step.result _ _ c.last_page-before.result c.last_page-before.ensures
+    (counts_by c.args.seat c.step-step.result _ _ c.last_page-before.result c.last_page-before.ensures
     c.note.ensures))).makes
