@@ -1,5 +1,5 @@
 -- A call that has not decided, over a system that another call has changed.
-use Rattle.std.proofs.Common.{ℕ, ◌≡◌, refl, sym, ◌∙◌, subst, Bool, true, false, List, [], Option, Some, None, take, arith}
+use Rattle.std.proofs.Common.{ℕ, ◌≡◌, refl, sym, ◌∙◌, subst, Bool, true, false, List, Option, Some, None, take, arith}
 use Rattle.std.specs.Prelude.{nat_lt}
 use Rattle.std.specs.List.{Contains}
 use Rattle.std.proofs.lemmas.Bool.Decides.{nat_tests}
@@ -7,6 +7,7 @@ use Rattle.call_decisions.specs.Anything.{caller_of}
 use Rattle.call_decisions.specs.InquiryWords.{RemoveInquiry, Roomful}
 use Rattle.call_decisions.specs.declared.any_inquiry.AnyInquiry.TheVariants as any
 use Rattle.call_decisions.proofs.OtherLemmas.{leaves_others}
+use Rattle.xsi_calls.proofs.IdleLemmas.{none_in}
 use Rattle.xsi_calls.specs.UndecidedBelow.{asks_more, keeping}
 use Rattle.queue_model.specs.declared.call.Call.TheVariants as calls
 use Rattle.xsi_calls.specs.Knowing.{IsAsking, IsUndecidedIn, standing}
@@ -67,9 +68,6 @@ goes_over hash seat call s after u records pool locks change good is =
     goes_in hash seat call s after u.questions records pool locks change good u.trials is
 
 -- ---- what it knows
-
-none_in : (name : LockName) → Contains {X = LockName} [] name → ⊥
-none_in name within = let few = within.1 in omega (arith, few)
 
 among : (asks : Bool) (names : List Lock) (name : LockName) → Contains (keeping asks names) name →
     Contains (names_in names) name
@@ -146,11 +144,7 @@ stopped_key (Some key) s b = refl
 
 stopped_call : (call : Call) (s : State) (b : Bool) → AgreeOnCall call s (record s { stopped = b })
 stopped_call (calls.Get a) s b = stopped_key a.key s b
-stopped_call (calls.Send a) s b = record { queue = refl; given = refl }
-stopped_call (calls.Receive a) s b = record { queue = refl; given = refl }
-stopped_call (calls.Stat id) s b = record { queue = refl; given = refl }
-stopped_call (calls.Set a) s b = record { queue = refl; given = refl }
-stopped_call (calls.Remove id) s b = record { queue = refl; given = refl }
+stopped_call _ s b = record { queue = refl; given = refl }
 
 pub stops_beside : StopsBeside
 stops_beside call q s b filed = record {

@@ -6,7 +6,7 @@ use Rattle.std.specs.Option.{option_map}
 use Rattle.std.proofs.lemmas.Bool.{cases_lt}
 use Rattle.std.proofs.lemmas.List.Elements.{All-contains}
 use Rattle.page_device.specs.Sealed.{IsSealed}
-use Rattle.buffer_pool.specs.Pool.{payloads_of}
+use Rattle.buffer_pool.specs.Pool.{PoolState, payloads_of}
 use Rattle.directory.specs.declared.layout.TheConstants.{FIRST_DIRECTORY_PAGE, ROOT_PAGE}
 use Rattle.directory.specs.Pages.{entries_at}
 use Rattle.directory.specs.Reading as header
@@ -57,9 +57,13 @@ use Rattle.record_walk.proofs.OneSystem.{one_system}
 use Rattle.interleavings.specs.file_check.Records.{AreRightIn, AreRightRecords, IsRecord, IsRightRecord}
 use Rattle.interleavings.specs.file_check.Whole.{IsFileOf}
 use Rattle.interleavings.proofs.PageLemmas.{is_right, may_behind, said_is}
+use Rattle.interleavings.proofs.StopLemmas.{lawful_still}
 use Rattle.interleavings.proofs.OpenedSameLemmas.{chain_back, contents_same, index_back, placed_back, spares_back}
 use Rattle.interleavings.proofs.StoredLemmas.{image_is, images_are, long, says_same, shown, spells_directory, store_is}
+use Rattle.interleaving_core.specs.Closing.{IsFlushedTo}
+use Rattle.page_locks.specs.Table.{Table}
 use Rattle.interleavings.specs.OpenedLaws.{ClosesAtRest, restarted}
+use Rattle.interleavings.specs.Resting.{IsFileAtRest}
 
 bucket_is_other : (p : PageKind) → is_bucket p ≡ true → is_directory p ≡ false
 bucket_is_other (kinds.Bucket b) is = refl
@@ -231,17 +235,6 @@ module _ (hash : RecordKey → ℕ) (content : List (List ℕ)) (file : SpellsFi
       just = record { stand = λ key r at. (value_of r, held_at key r at, spelled_at key r at); others = none_at };
     }
 
-restarted_lawful : (s : State) → IsLawful s → IsLawful (restarted s)
-restarted_lawful s l = record {
-  few_queues = l.few_queues;
-  id_begun = l.id_begun;
-  ids_end = l.ids_end;
-  queues_lawful = l.queues_lawful;
-  ids_given = l.ids_given;
-  ids_ascend = l.ids_ascend;
-  keys_apart = l.keys_apart;
-}
-
 pub closes_at_rest : ClosesAtRest
 closes_at_rest hash s old new locks rest flushed =
     let many : length new.stored ≡ length old.images = sym (images_are new.stored) ∙ ap length flushed.written in
@@ -249,6 +242,22 @@ closes_at_rest hash s old new locks rest flushed =
     (λ n within. flushed.keeps.seals rest.honest refl n
     (rest.file.sealed n (subst (λ k. n < k) many within)))
     (subst (λ (images : List (List ℕ)). IsSoundFile hash (store_of images) Quiet) (sym flushed.written) rest.sound.file)
-    (restarted s) (restarted_lawful s rest.filed.lawful) refl
+    (restarted s) (lawful_still s false rest.filed.lawful) refl
     (λ key. ap (λ (images : List (List ℕ)). contents (store_of images) key) flushed.written ∙ rest.holds key)
     rest.spelled
+
+-- as where its pool is flushed to these pages
+pub closes_flushed : (hash : RecordKey → ℕ) (s : State) (pool : PoolState) (locks : Table) (content : List (List ℕ)) →
+    IsFileAtRest hash s pool locks → IsFlushedTo pool content → IsFileOf hash content (restarted s)
+closes_flushed hash s pool locks content rest flushed =
+    closes_at_rest hash s pool (record pool { stored = content }) locks rest (record {
+      written = flushed.images;
+      keeps = record {
+        images = λ _. refl;
+        pinned = λ page _. refl;
+        as_many = refl;
+        frames = refl;
+        honest = refl;
+        seals = λ _ _. flushed.seals;
+      };
+    })

@@ -1,12 +1,13 @@
 -- The file's Counter after a step of a call beside others.
-use Rattle.std.proofs.Common.{ℕ, ◌≡◌, ◌⊎◌, ◌+◌, inl, inr, refl, ap, Option, Some, None, arith}
+use Rattle.std.proofs.Common.{ℕ, ◌≡◌, ◌⊎◌, ◌+◌, inl, inr, refl, ap, Option, Some, arith}
 use Rattle.page_locks.specs.declared.lock.LockKind.{LockKind}
-use Rattle.page_locks.specs.declared.lock.LockKind.TheVariants.{Read, Selective, Exclusive}
+use Rattle.page_locks.specs.declared.lock.LockKind.TheVariants.{Exclusive}
 use Rattle.queue_records.specs.declared.record.Record.{Record}
 use Rattle.queue_records.specs.declared.record.Record.TheVariants as records_are
 use Rattle.type_chains.specs.Entries.{counter_of}
 use Rattle.interleavings.specs.ConcurrentWords.{Counter, IsUncounted, Records, State, counter_key}
 use Rattle.interleavings.specs.Together.{IsStillToCount, Seats}
+use Rattle.interleavings.proofs.SameLemmas.{next_says}
 
 -- the file has a Counter, and it tells of ids what the system does, but of one that is still to be counted
 pub record HasCounter (records : Records) (s : State) : Type 0 where
@@ -28,14 +29,8 @@ has_counter c = record {
 }
 
 pub exclusive_or_not : (o : Option LockKind) → (o ≡ Some Exclusive) ⊎ (o ≡ Some Exclusive → ⊥)
-exclusive_or_not None = inr (λ is. absurd cc)
-exclusive_or_not (Some Read) = inr (λ is. absurd cc)
-exclusive_or_not (Some Selective) = inr (λ is. absurd cc)
 exclusive_or_not (Some Exclusive) = inl refl
-
-abbrev next_said : Option Record → ℕ
-next_said (Some (records_are.Counter n)) = n.next_id
-next_said found = 0
+exclusive_or_not _ = inr (λ is. absurd cc)
 
 -- a Counter that is that of the system has its next id
 pub counted : (records : Records) (s : State) (seats : Seats) →
@@ -45,7 +40,7 @@ counted records s seats is = record { counter = counter_of s; counts = is; next 
 -- the next id that a Counter has
 pub same_next : (a b : Counter) →
     ◌≡◌ {A = Option Record} (Some (records_are.Counter a)) (Some (records_are.Counter b)) → a.next_id ≡ b.next_id
-same_next a b is = ap next_said is
+same_next a b is = ap next_says is
 
 pub one_more : (n : ℕ) → n ≡ n + 1 → ⊥
 one_more n is = omega (arith, is)

@@ -16,7 +16,7 @@ use Rattle.step_rules.specs.Turns.{Turn, TurnsAt, is_fault}
 use Rattle.step_rules.specs.Walking.{IsAsAdded, IsOwnStep, IsWalkBy, WalksBehind, Begins, HopsOn, GoesOn, OwnStepsWalk, OthersStepsWalk, first_walk}
 use Rattle.step_rules.specs.Walks.{HasHoppedLittle, SearchWalk, is_quiet, walk_beside}
 use Rattle.step_rules.specs.Ways.{hops_added}
-use Rattle.step_rules.specs.Words.{Change, Quiet, Taken, Filled, Linked, Absorbed, Buried, Drained, Freed}
+use Rattle.step_rules.specs.Words.{Change, Quiet}
 use Rattle.step_rules.specs.World.{World}
 use Rattle.step_rules.proofs.TurnLemmas.{is_of_its_kind}
 use Rattle.interleaving_core.specs.Searches.{begins_search, ends_on, goes_on, is_shared, is_unheld}
@@ -31,13 +31,7 @@ use Rattle.interleavings.specs.Words.{RecordKey}
 -- where nothing is under way the phase is quiet
 quiet_is : (c : Change) → is_nothing (under_way_in c) ≡ is_quiet c
 quiet_is Quiet = refl
-quiet_is (Taken new) = refl
-quiet_is (Filled old new) = refl
-quiet_is (Linked old new whole) = refl
-quiet_is (Absorbed left right whole) = refl
-quiet_is (Buried left right whole) = refl
-quiet_is (Drained left right) = refl
-quiet_is (Freed right) = refl
+quiet_is _ = refl
 
 -- a step that leaves the phase
 module _ (old new : World) where
@@ -66,16 +60,6 @@ module _ (old new : World) where
   ]
   phase_after hash seat kinds.WriteRecord does = same_phase (change_of _ does.is)
   phase_after hash seat kinds.Decide does = same_phase (change_of _ does)
-  phase_after hash seat kinds.TakePage does =
-      on_phase _ _ does.changes.phase (change_of _ does.changes.is) (change_after kinds.TakePage) refl
-  phase_after hash seat kinds.CopyDirectory does =
-      on_phase _ _ does.changes.phase (change_of _ does.changes.is) (change_after kinds.CopyDirectory) refl
-  phase_after hash seat kinds.RaiseDepth does =
-      on_phase _ _ does.changes.phase (change_of _ does.changes.is) (change_after kinds.RaiseDepth) refl
-  phase_after hash seat kinds.WriteNew does =
-      on_phase _ _ does.changes.phase (change_of _ does.changes.is) (change_after kinds.WriteNew) refl
-  phase_after hash seat kinds.WriteOld does =
-      on_phase _ _ does.changes.phase (change_of _ does.changes.is) (change_after kinds.WriteOld) refl
   phase_after hash seat kinds.Retarget does = elim does.changes [
     | inl split ↦ on_phase _ _ split.phase (change_of _ split.is) (change_after kinds.Retarget) refl
     | inr merge ↦ on_phase _ _ merge.phase (change_of _ merge.is) (change_after kinds.Retarget) refl
@@ -84,17 +68,10 @@ module _ (old new : World) where
     | inl split ↦ on_phase _ _ split.changes.phase (change_of _ split.changes.is) (change_after kinds.SetCounts) refl
     | inr merge ↦ on_phase _ _ merge.changes.phase (change_of _ merge.changes.is) (change_after kinds.SetCounts) refl
   ]
-  phase_after hash seat kinds.WriteLeft does =
-      on_phase _ _ does.changes.phase (change_of _ does.changes.is) (change_after kinds.WriteLeft) refl
-  phase_after hash seat kinds.Tombstone does =
-      on_phase _ _ does.changes.phase (change_of _ does.changes.is) (change_after kinds.Tombstone) refl
   phase_after hash seat kinds.Convert does = same_phase (change_of _ does.is)
-  phase_after hash seat kinds.WriteFree does =
-      on_phase _ _ does.changes.phase (change_of _ does.changes.is) (change_after kinds.WriteFree) refl
-  phase_after hash seat kinds.LinkFree does =
-      on_phase _ _ does.changes.phase (change_of _ does.changes.is) (change_after kinds.LinkFree) refl
-  phase_after hash seat kinds.LowerDepth does =
-      on_phase _ _ does.changes.phase (change_of _ does.changes.is) (change_after kinds.LowerDepth) refl
+  -- each other kind makes one change
+  phase_after hash seat kind does =
+      on_phase _ _ does.changes.phase (change_of _ does.changes.is) (change_after kind) refl
 
 -- ---- numbers
 
@@ -128,26 +105,7 @@ begins_where_read seat t is = ap is_shared is
 
 begins_by_reading : (kind : Kind) (seat : ℕ) (t : Table) → begins_search kind seat t ≡ true → kind ≡ kinds.ReadDepth
 begins_by_reading kinds.ReadDepth seat t is = refl
-begins_by_reading kinds.Grant seat t is = absurd (true≢false (sym is))
-begins_by_reading kinds.Release seat t is = absurd (true≢false (sym is))
-begins_by_reading kinds.ReadEntry seat t is = absurd (true≢false (sym is))
-begins_by_reading kinds.Look seat t is = absurd (true≢false (sym is))
-begins_by_reading kinds.Hop seat t is = absurd (true≢false (sym is))
-begins_by_reading kinds.WriteRecord seat t is = absurd (true≢false (sym is))
-begins_by_reading kinds.Decide seat t is = absurd (true≢false (sym is))
-begins_by_reading kinds.TakePage seat t is = absurd (true≢false (sym is))
-begins_by_reading kinds.CopyDirectory seat t is = absurd (true≢false (sym is))
-begins_by_reading kinds.RaiseDepth seat t is = absurd (true≢false (sym is))
-begins_by_reading kinds.WriteNew seat t is = absurd (true≢false (sym is))
-begins_by_reading kinds.WriteOld seat t is = absurd (true≢false (sym is))
-begins_by_reading kinds.Retarget seat t is = absurd (true≢false (sym is))
-begins_by_reading kinds.SetCounts seat t is = absurd (true≢false (sym is))
-begins_by_reading kinds.WriteLeft seat t is = absurd (true≢false (sym is))
-begins_by_reading kinds.Tombstone seat t is = absurd (true≢false (sym is))
-begins_by_reading kinds.Convert seat t is = absurd (true≢false (sym is))
-begins_by_reading kinds.WriteFree seat t is = absurd (true≢false (sym is))
-begins_by_reading kinds.LinkFree seat t is = absurd (true≢false (sym is))
-begins_by_reading kinds.LowerDepth seat t is = absurd (true≢false (sym is))
+begins_by_reading _ seat t is = absurd (true≢false (sym is))
 
 -- what is so where a seat has gone on to another page
 record HasGoneOn (kind : Kind) (seat : ℕ) (t t' : Table) : Type 0 where
@@ -173,26 +131,7 @@ gone_on seat t t' is =
 
 goes_by_hopping : (kind : Kind) (seat : ℕ) (t t' : Table) → goes_on kind seat t t' ≡ true → HasGoneOn kind seat t t'
 goes_by_hopping kinds.Hop seat t t' is = gone_on seat t t' is
-goes_by_hopping kinds.Grant seat t t' is = absurd (true≢false (sym is))
-goes_by_hopping kinds.Release seat t t' is = absurd (true≢false (sym is))
-goes_by_hopping kinds.ReadDepth seat t t' is = absurd (true≢false (sym is))
-goes_by_hopping kinds.ReadEntry seat t t' is = absurd (true≢false (sym is))
-goes_by_hopping kinds.Look seat t t' is = absurd (true≢false (sym is))
-goes_by_hopping kinds.WriteRecord seat t t' is = absurd (true≢false (sym is))
-goes_by_hopping kinds.Decide seat t t' is = absurd (true≢false (sym is))
-goes_by_hopping kinds.TakePage seat t t' is = absurd (true≢false (sym is))
-goes_by_hopping kinds.CopyDirectory seat t t' is = absurd (true≢false (sym is))
-goes_by_hopping kinds.RaiseDepth seat t t' is = absurd (true≢false (sym is))
-goes_by_hopping kinds.WriteNew seat t t' is = absurd (true≢false (sym is))
-goes_by_hopping kinds.WriteOld seat t t' is = absurd (true≢false (sym is))
-goes_by_hopping kinds.Retarget seat t t' is = absurd (true≢false (sym is))
-goes_by_hopping kinds.SetCounts seat t t' is = absurd (true≢false (sym is))
-goes_by_hopping kinds.WriteLeft seat t t' is = absurd (true≢false (sym is))
-goes_by_hopping kinds.Tombstone seat t t' is = absurd (true≢false (sym is))
-goes_by_hopping kinds.Convert seat t t' is = absurd (true≢false (sym is))
-goes_by_hopping kinds.WriteFree seat t t' is = absurd (true≢false (sym is))
-goes_by_hopping kinds.LinkFree seat t t' is = absurd (true≢false (sym is))
-goes_by_hopping kinds.LowerDepth seat t t' is = absurd (true≢false (sym is))
+goes_by_hopping _ seat t t' is = absurd (true≢false (sym is))
 
 -- ---- what a step counts
 

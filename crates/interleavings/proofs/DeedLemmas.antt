@@ -12,7 +12,7 @@ use Rattle.queue_model.proofs.ListLemmas.{find-Some}
 use Rattle.queue_model.specs.Rules.{has_id, new_queue, outcome, with_message, with_settings, without_message}
 use Rattle.queue_model.specs.Selection.{selects}
 use Rattle.queue_model.specs.declared.answer.Answer.{Answer}
-use Rattle.queue_model.specs.declared.answer.Answer.TheVariants.{Id, Sent, Received, Info, Done, Refused}
+use Rattle.queue_model.specs.declared.answer.Answer.TheVariants.{Sent, Received, Done}
 use Rattle.queue_model.specs.declared.call.Call.TheVariants as calls
 use Rattle.queue_model.specs.declared.call.GetArguments.{GetArguments}
 use Rattle.queue_model.specs.declared.call.ReceiveArguments.{ReceiveArguments}
@@ -113,26 +113,14 @@ module _ (c : Caller) (s t : State) where
   by_effect (calls.Get x) a (inl same) = Leaves same
   by_effect (calls.Get x) a (inr made) = Makes_it x refl made
   by_effect (calls.Send x) (Sent serial) did = sends x did
-  by_effect (calls.Send x) (Id n) same = Leaves same
-  by_effect (calls.Send x) (Received m) same = Leaves same
-  by_effect (calls.Send x) (Info i) same = Leaves same
-  by_effect (calls.Send x) Done same = Leaves same
-  by_effect (calls.Send x) (Refused e) same = Leaves same
+  by_effect (calls.Send x) _ same = Leaves same
   by_effect (calls.Receive x) (Received m) did = receives x m did
-  by_effect (calls.Receive x) (Id n) same = Leaves same
-  by_effect (calls.Receive x) (Sent n) same = Leaves same
-  by_effect (calls.Receive x) (Info i) same = Leaves same
-  by_effect (calls.Receive x) Done same = Leaves same
-  by_effect (calls.Receive x) (Refused e) same = Leaves same
+  by_effect (calls.Receive x) _ same = Leaves same
   by_effect (calls.Stat id) a same = Leaves same
   by_effect (calls.Set x) a (inl same) = Leaves same
   by_effect (calls.Set x) a (inr did) = sets x did
   by_effect (calls.Remove id) Done did = Removes_it did
-  by_effect (calls.Remove id) (Id n) same = Leaves same
-  by_effect (calls.Remove id) (Sent n) same = Leaves same
-  by_effect (calls.Remove id) (Received m) same = Leaves same
-  by_effect (calls.Remove id) (Info i) same = Leaves same
-  by_effect (calls.Remove id) (Refused e) same = Leaves same
+  by_effect (calls.Remove id) _ same = Leaves same
 
   pub deed_of : (call : Call) (a : Answer) → outcome c call s ≡ Some (a, t) → Deed c (queue_of call s) s t
   deed_of call a answered = by_effect call a (Effect-outcome c call a s t answered)

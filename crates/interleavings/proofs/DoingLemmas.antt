@@ -1,10 +1,10 @@
 -- What a step of a seat does to the file and the locks is what the seat is told.
 use Rattle.std.proofs.Common.{ℕ, ◌≡◌, refl, sym, ap, ◌∙◌, subst, Bool, true, false, Option, Some, None}
+use Rattle.std.proofs.lemmas.Option.{none-some, same_Some}
 use Rattle.std.proofs.lemmas.Bool.{true≢false}
 use Rattle.interleavings.specs.Together.{AreTogether, IsUnderWay}
 use Rattle.interleavings.specs.LoneCallWords.{call_left}
 use Rattle.interleavings.proofs.SeatLemmas.{well}
-use Rattle.interleavings.proofs.LoneCallCauseLemmas.{fresh_room}
 use Rattle.interleaving_core.specs.Active.{is_waiting}
 use Rattle.interleaving_core.specs.Fault.{of_page}
 use Rattle.interleaving_core.specs.Owing.{is_failure}
@@ -18,7 +18,7 @@ use Rattle.step_rules.specs.declared.progress.Progress.TheVariants as progress
 use Rattle.interleavings.specs.Words.{ActiveView, Answer, Call, Caller, FileFault, KernelState, PoolState, Progress, RecordKey, State, Step, after as journal_after, answer_of_call, call_at, conclusion_of, is_fault, lacks_room, outcome, store_of}
 use Rattle.interleavings.specs.Doing.{DoesBy, FindsNoRoom, LacksRightly, LeavesAll, turn_of}
 use Rattle.interleavings.specs.Refining.{Refines, RefinesIn, calls_of}
-use Rattle.interleavings.proofs.LackingLemmas.{turns_full}
+use Rattle.interleavings.proofs.LackingLemmas.{fresh_room, turns_full}
 use Rattle.interleavings.proofs.LeadLemmas.{machine}
 
 -- a kernel is led on by a step of this call
@@ -28,13 +28,6 @@ pub record LeadsDoing {K : Type 0} (hash : RecordKey → ℕ) (base : State) (se
   pub led : RefinesIn hash base new behind
   pub does : DoesBy hash base seat by did before behind old new
   pub lacks : LacksRightly hash seat by did before new
-
--- a call that is there
-pub one_there : (x y : ActiveView) → ◌≡◌ {A = Option ActiveView} (Some x) (Some y) → x ≡ y
-one_there x y is = cc
-
-none_there : (x : ActiveView) → ◌≡◌ {A = Option ActiveView} None (Some x) → ⊥
-none_there x is = cc
 
 module _ {K : Type 0} (hash : RecordKey → ℕ) (base : State) (seat : ℕ) (a : ActiveView) (did : Step)
     (old new : KernelState K) (led : Refines hash base old) (there : call_at old.seats seat ≡ Some a)
@@ -63,7 +56,7 @@ module _ {K : Type 0} (hash : RecordKey → ℕ) (base : State) (seat : ℕ) (a 
   pub waiting_lacks : StaysWaiting did a (call_at new.seats seat) old.pool new.pool old.locks new.locks old.journal
       new.journal → LacksRightly hash seat a did phase new
   waiting_lacks stays come left sound_still room lacks =
-      let same = one_there _ come (sym stays.left_is ∙ left) in
+      let same = same_Some _ come (sym stays.left_is ∙ left) in
       absurd (true≢false (sym (ap (λ (x : ActiveView). lacks_room x.machine) same ∙ lacks) ∙ room))
 
   module _ (turn : MakesTurn hash seat old.stopped did a (call_at new.seats seat) old.pool new.pool old.locks new.locks
@@ -141,17 +134,17 @@ module _ {K : Type 0} (hash : RecordKey → ℕ) (base : State) (seat : ℕ) (a 
       over_lacks : (waits : Bool) → IsLeftWhenOver waits come (call_at new.seats seat) → (x : ActiveView) →
           call_at new.seats seat ≡ Some x → lacks_room x.machine ≡ true → FindsNoRoom hash a phase new
       over_lacks true (again, left, begins) x there_now lacks =
-          let same = one_there again x (sym left ∙ there_now) in
+          let same = same_Some again x (sym left ∙ there_now) in
           absurd (true≢false (sym (ap (λ (y : ActiveView). lacks_room y.machine) same ∙ lacks)
           ∙ fresh_room again.machine begins.begins.new))
-      over_lacks false left x there_now lacks = absurd (none_there x (sym left ∙ there_now))
+      over_lacks false left x there_now lacks = absurd (none-some x (sym left ∙ there_now))
 
       pub made_lacks : LacksRightly hash seat a did phase new
       made_lacks x there_now sound_still room lacks = by turn.did refl turn.left_is
         where
           come_on : call_at new.seats seat ≡ Some come → FindsNoRoom hash a phase new
           come_on left = come_lacks room (ap (λ (y : ActiveView). lacks_room y.machine)
-              (one_there come x (sym left ∙ there_now)) ∙ lacks)
+              (same_Some come x (sym left ∙ there_now)) ∙ lacks)
 
           by : (p : Progress FileFault) → turn.did ≡ p → IsLeft p come (call_at new.seats seat) →
               FindsNoRoom hash a phase new

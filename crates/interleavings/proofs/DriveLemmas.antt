@@ -5,6 +5,7 @@ use Rattle.std.proofs.Math.Seq.{drop-length}
 use Rattle.std.proofs.lemmas.Bool.{true≢false}
 use Rattle.std.specs.List.{list_any}
 use Rattle.interleavings.specs.ConcurrentLaws.{BeginTogether, EndTogether, StepTogether}
+use Rattle.interleavings.specs.Lone.{is_to_begin_anew}
 use Rattle.interleavings.specs.LoneCallWords.{call_left}
 use Rattle.interleaving_core.proofs.AnewLemmas.{ends_waiting, waits_from, woken_from}
 use Rattle.interleaving_core.proofs.BetweenLemmas.{between}
@@ -33,9 +34,6 @@ use Rattle.interleavings.proofs.UnderWayLemmas.{moves_fail_not}
 
 -- ---- a call that was decided to wait, and was woken since
 
-abbrev is_to_begin_anew : ActiveView → List Entry → Bool
-is_to_begin_anew a journal = is_waiting (conclusion_of a.machine) && is_woken a.machine.call a.decided journal
-
 -- the steps of that call, once it begins anew
 abbrev anew_left : Bool → ℕ
 anew_left anew = if anew then MOST_CALL_STEPS else 0
@@ -53,7 +51,7 @@ both_are : (a b : Bool) → (a && b) ≡ true → (a ≡ true) × (b ≡ true)
 both_are true b is = (refl, is)
 both_are false b is = absurd cc
 
-are_both : (a b : Bool) → a ≡ true → b ≡ true → (a && b) ≡ true
+pub are_both : (a b : Bool) → a ≡ true → b ≡ true → (a && b) ≡ true
 are_both a b first second = rw (first, second) refl
 
 -- the steps that are left of a seat's call, if no other seat steps
@@ -95,7 +93,7 @@ module _ (hash : RecordKey → ℕ) (seat : ℕ) (stopped : Bool) (did : Step) (
             (ap (λ (x : Call). is_woken x a.decided journal) (sym t.makes.aim.call)
             ∙ woken_since a.decided (decided_at (Some c) is))
 
-  still_so : is_to_begin_anew t.come journal' ≡ true → is_to_begin_anew a journal ≡ true
+  pub still_so : is_to_begin_anew t.come journal' ≡ true → is_to_begin_anew a journal ≡ true
   still_so is =
       let both = both_are (is_waiting (conclusion_of t.come.machine)) (is_woken call t.come.decided journal') is in
       was_so both.0 both.1
@@ -150,7 +148,7 @@ module _ {K : Type 0} (hash : RecordKey → ℕ) (base : State) (seat : ℕ) (ol
             (t.told_is ∙ ap (λ (p : Progress FileFault). told_of p t.come.machine) is))
 
 -- a new one has decided nothing
-new_so : (a : ActiveView) (journal : List Entry) → IsNew a.machine → is_to_begin_anew a journal ≡ false
+pub new_so : (a : ActiveView) (journal : List Entry) → IsNew a.machine → is_to_begin_anew a journal ≡ false
 new_so a journal new = ap (λ (c : Option Conclusion). is_waiting c && is_woken a.machine.call a.decided journal)
     (ap conclusion_at new.stage)
 

@@ -1,13 +1,14 @@
 -- What an event on a kernel leaves, and what a seat is told by it.
-use Rattle.std.proofs.Common.{◌≡◌, ◌≢◌, refl, sym, ap, ◌∙◌, subst, ℕ, zero, suc, ◌==◌, if◌then◌else◌, Bool, true, false, IsSome, inl, inr, List, [], ◌∷◌, ◌++◌, Option, Some, None, length, append-nil, get_or-set_same, length-set, arith}
+use Rattle.std.proofs.Common.{◌≡◌, ◌≢◌, ◌≤◌, refl, sym, ap, ◌∙◌, subst, ℕ, zero, suc, ◌==◌, if◌then◌else◌, Bool, true, false, IsSome, inl, inr, List, [], ◌∷◌, ◌++◌, Option, Some, None, length, append-nil, get_or-set_same, length-set, arith}
 use Rattle.std.proofs.lemmas.Bool.{cases_lt, eqb-false, eqb-true}
 use Rattle.std.proofs.lemmas.List.{get_or_past}
+use Rattle.std.proofs.lemmas.List.Elements.{All-head, All-tail}
 use Rattle.queue_model.specs.declared.entry.Entry.TheVariants.{Stopped}
 use Rattle.page_locks.proofs.ChangeLemmas.{length-with_row}
-use Rattle.interleaving_core.proofs.PlaceLemmas.{Seats, at_other}
+use Rattle.interleaving_core.proofs.PlaceLemmas.{Seats, at_other, length-with_call}
 use Rattle.interleaving_core.proofs.TurnLemmas.{new_unanswered}
 use Rattle.interleavings.specs.Words.{ActiveView, Answer, BeginFault, Call, Entry, HasCall, IsDriven, IsRefused, IsRun, IsStopped, KernelState, Moves, RecordKey, Step, answer_told, call_at, call_of, entry_of, part_of, told, untold, with_call}
-use Rattle.interleavings.specs.Runs.{Happens, answer_in, call_begun, last_call, told_by}
+use Rattle.interleavings.specs.Runs.{AreOfSeats, Happens, IsOfSeat, Runs, answer_in, call_begun, last_call, told_by}
 use Rattle.interleavings.specs.declared.event.Event.{Event}
 use Rattle.interleavings.specs.declared.event.Event.TheVariants as events
 use Rattle.interleavings.specs.declared.event.Outcome.{Outcome}
@@ -16,42 +17,91 @@ use Rattle.interleaving_core.proofs.PartLemmas.{added_is_of, entry_of_none, part
 
 -- ---- what no event changes
 
-pub record KeepsSeats {K : Type 0} (old new : KernelState K) : Type 0 where
+-- who sits at how many places, and whether the device is honest; and the count of its faults does not fall
+pub record KeepsPlaces {K : Type 0} (old new : KernelState K) : Type 0 where
   pub keys : new.keys ≡ old.keys
+  pub callers : new.callers ≡ old.callers
   pub seats : length new.locks ≡ length old.locks
+  pub places : length new.seats ≡ length old.seats
+  pub honest : new.pool.honest ≡ old.pool.honest
+  pub later : old.pool.faults ≤ new.pool.faults
+
+itself : {K : Type 0} (k : KernelState K) → KeepsPlaces k k
+itself k = record { keys = refl; callers = refl; seats = refl; places = refl; honest = refl; later = omega arith }
+
+-- whatever calls, the journal, the stop mark and the room are
+beside : {K : Type 0} (old : KernelState K) (seats : Seats) (journal : List Entry) (stopped : Bool) (room : ℕ) →
+    length seats ≡ length old.seats →
+    KeepsPlaces old (record old { seats = seats; journal = journal; stopped = stopped; room = room })
+beside old seats journal stopped room many =
+    record { keys = refl; callers = refl; seats = refl; places = many; honest = refl; later = omega arith }
 
 run_keeps : {K : Type 0} (seat : ℕ) (answer : Option Answer) (old new : KernelState K) →
-    IsRun seat answer old new → KeepsSeats old new
+    IsRun seat answer old new → KeepsPlaces old new
 run_keeps seat answer old new r = record {
   keys = r.rest.keys;
+  callers = r.rest.callers;
   seats = ap length r.locks ∙ length-with_row old.locks seat _;
+  places = ap length r.seats ∙ length-with_call old.seats seat (call_at new.seats seat);
+  honest = r.rest.honest;
+  later = r.rest.later;
 }
 
-same_keeps : {K : Type 0} (old new : KernelState K) → new.keys ≡ old.keys → new.locks ≡ old.locks →
-    KeepsSeats old new
-same_keeps old new keys locks = record { keys = keys; seats = ap length locks }
-
 stop_keeps : {K : Type 0} (old new : KernelState K) → IsStopped old new → (b : Bool) → old.stopped ≡ b →
-    KeepsSeats old new
-stop_keeps {K} old new stops true is =
-    let same = stops.again is in
-    same_keeps old new (ap (λ (k : KernelState K). k.keys) same) (ap (λ (k : KernelState K). k.locks) same)
-stop_keeps {K} old new stops false is =
-    let marked = stops.first is in
-    same_keeps old new (ap (λ (k : KernelState K). k.keys) marked) (ap (λ (k : KernelState K). k.locks) marked)
+    KeepsPlaces old new
+stop_keeps old new stops true is = subst (KeepsPlaces old) (sym (stops.again is)) (itself old)
+stop_keeps old new stops false is = subst (KeepsPlaces old) (sym (stops.first is))
+    (beside old old.seats (old.journal ++ Stopped ∷ []) true new.room refl)
 
 pub event_keeps : {K : Type 0} (hash : RecordKey → ℕ) (e : Event) (o : Outcome) (old new : KernelState K) →
-    Happens hash e o old new → KeepsSeats old new
-event_keeps {K} hash (events.Begin seat call) outcomes.Begun old new has =
-    same_keeps old new (ap (λ (k : KernelState K). k.keys) has.is) (ap (λ (k : KernelState K). k.locks) has.is)
-event_keeps {K} hash (events.Begin seat call) (outcomes.Refused back fault) old new is =
-    same_keeps old new (ap (λ (k : KernelState K). k.keys) is.same) (ap (λ (k : KernelState K). k.locks) is.same)
+    Happens hash e o old new → KeepsPlaces old new
+event_keeps hash (events.Begin seat call) outcomes.Begun old new has = subst (KeepsPlaces old) (sym has.is)
+    (beside old (with_call old.seats seat (Some has.active)) old.journal old.stopped new.room
+    (length-with_call old.seats seat (Some has.active)))
+event_keeps hash (events.Begin seat call) (outcomes.Refused back fault) old new is =
+    subst (KeepsPlaces old) (sym is.same) (beside old old.seats old.journal old.stopped new.room refl)
 event_keeps hash (events.Step seat) (outcomes.Stepped did) old new step =
     run_keeps seat (answer_told did) old new step.turn.run
 event_keeps hash (events.Drive seat) (outcomes.Driven did) old new drives =
     run_keeps seat (answer_told did) old new drives.run
 event_keeps hash events.Stop outcomes.Stopped old new stops = stop_keeps old new stops old.stopped refl
 event_keeps hash _ _ old new never = absurd never
+
+pub places_along : {K : Type 0} (hash : RecordKey → ℕ) (es : List Event) (os : List Outcome)
+    (old new : KernelState K) → Runs hash es os old new → KeepsPlaces old new
+places_along hash [] [] old new same = subst (KeepsPlaces old) (sym same) (itself old)
+places_along hash (e ∷ es) (o ∷ os) old new runs =
+    let first = event_keeps hash e o old runs.between runs.first in
+    let rest = places_along hash es os runs.between new runs.rest in
+    record {
+      keys = rest.keys ∙ first.keys;
+      callers = rest.callers ∙ first.callers;
+      seats = rest.seats ∙ first.seats;
+      places = rest.places ∙ first.places;
+      honest = rest.honest ∙ first.honest;
+      later = let before = first.later in let more = rest.later in omega (arith, before, more);
+    }
+places_along hash _ _ old new never = absurd never
+
+-- ---- what each event keeps
+
+module _ {K : Type 0} (hash : RecordKey → ℕ) where
+  pub rows_behind : (e : Event) (es : List Event) (o : Outcome) (old new : KernelState K) → Happens hash e o old new →
+      AreOfSeats (length old.locks) (e ∷ es) → AreOfSeats (length new.locks) es
+  rows_behind e es o old new happens are =
+      subst (λ (n : ℕ). AreOfSeats n es) (sym (event_keeps hash e o old new happens).seats)
+      (All-tail (IsOfSeat (length old.locks)) e es are)
+
+  -- all of them keep
+  pub along : (P : KernelState K → Type 0) → ((e : Event) (o : Outcome) (old new : KernelState K) →
+      IsOfSeat (length old.locks) e → Happens hash e o old new → P old → P new) → (es : List Event)
+      (os : List Outcome) (old new : KernelState K) → AreOfSeats (length old.locks) es → Runs hash es os old new →
+      P old → P new
+  along P keeps [] [] old new are same so = subst P (sym same) so
+  along P keeps (e ∷ es) (o ∷ os) old new are runs so =
+      along P keeps es os runs.between new (rows_behind e es o old runs.between runs.first are) runs.rest
+      (keeps e o old runs.between (All-head (IsOfSeat (length old.locks)) e es are) runs.first so)
+  along P keeps _ _ old new are never so = absurd never
 
 -- ---- a seat without a call
 

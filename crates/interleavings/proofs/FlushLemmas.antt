@@ -1,5 +1,6 @@
 -- A kernel that refines a system, and its pages between calls: those that wait are taken back, and begin again.
 use Rattle.std.proofs.Common.{ℕ, zero, suc, ◌≡◌, ◌≤◌, ◌<◌, inl, inr, refl, sym, ap, ◌∙◌, subst, true, List, Option, Some, None, length, arith}
+use Rattle.std.proofs.lemmas.Option.{none-some}
 use Rattle.std.specs.List.{All}
 use Rattle.std.proofs.lemmas.Bool.{cases_eq}
 use Rattle.buffer_pool.specs.Pool.{KeepsImages}
@@ -18,7 +19,7 @@ use Rattle.interleaving_core.specs.Counting.{count_at}
 use Rattle.interleaving_core.specs.xsi_calls.Words.{Change, world}
 use Rattle.step_rules.specs.Sound.{IsSoundWorld}
 use Rattle.interleavings.proofs.CountedLemmas.{counted_idle, counted_in}
-use Rattle.interleavings.proofs.LeadLemmas.{machine, others_same}
+use Rattle.interleavings.proofs.LeadLemmas.{led_with, machine, others_same}
 use Rattle.interleavings.specs.Counting.{AreCounted, IsCounted, facts_of}
 use Rattle.interleavings.specs.Laws.{ClosesRefine}
 use Rattle.interleavings.specs.Refining.{Refines, calls_of}
@@ -65,11 +66,8 @@ none_left seats i = by (call_at (cleared (length seats) seats) i) refl
     by None is = refl
     by (Some a) is =
         let there = seat_of_call (cleared (length seats) seats) i a is in
-        absurd (none_some (sym (gone (length seats) i seats (omega arith) there.0
+        absurd (none-some a (sym (gone (length seats) i seats (omega arith) there.0
         (subst (λ (m : ℕ). i ≤ m) (many_cleared (length seats) seats) there.1)) ∙ is))
-      where
-        none_some : ◌≡◌ {A = Option ActiveView} None (Some a) → ⊥
-        none_some clash = cc
 
 -- the call that is taken back next waits
 waits_next : (n : ℕ) (seats : List (Option ActiveView)) → All IsIdleOrWaits seats → (a : ActiveView) →
@@ -119,20 +117,10 @@ module _ {K : Type 0} (hash : RecordKey → ℕ) (base : State) (k : KernelState
       (subst (λ (n : ℕ). i ≤ n) (many_cleared (length k.seats) k.seats) near)))
 
   pub bare_led : Refines hash base (record k { seats = bare })
-  bare_led = record {
-    now = led.now;
-    leads = led.leads;
-    mark = led.mark;
-    callers = led.callers;
-    rows = led.rows ∙ sym (many_cleared (length k.seats) k.seats);
-    seated = led.seated ∙ sym (many_cleared (length k.seats) k.seats);
-    sits = λ i a there. absurd (none_some a (sym (none_left k.seats i) ∙ there));
-    together = λ sound. (counted_in hash led.now (record k { seats = bare }) counted_k.calls.change bare_together
-        counted_k.phase bare_counted).all;
-  }
-    where
-      none_some : (a : ActiveView) → ◌≡◌ {A = Option ActiveView} None (Some a) → ⊥
-      none_some a clash = cc
+  bare_led = led_with hash base k (record k { seats = bare }) led refl refl refl refl
+      (many_cleared (length k.seats) k.seats) (λ i a there. absurd (none-some a (sym (none_left k.seats i) ∙ there)))
+      (λ sound. (counted_in hash led.now (record k { seats = bare }) counted_k.calls.change bare_together
+      counted_k.phase bare_counted).all)
 
 -- ---- its pages
 
@@ -218,19 +206,11 @@ module _ (begins : BeginTogether) {K : Type 0} (hash : RecordKey → ℕ) (base 
       (record { together = on_new.together; phase = on_new.phase ∙ bared.phase })
 
   pub pages_kept : Refines hash base (record old { pool = new.pool })
-  pages_kept = record {
-    now = led.now;
-    leads = led.leads;
-    mark = led.mark;
-    callers = led.callers;
-    rows = led.rows;
-    seated = led.seated;
-    sits = led.sits;
-    together = λ sound. (counted_in hash led.now (record old { pool = new.pool }) was.calls.change together_still
-        was.phase (λ seat some within. subst (λ (is : List (List ℕ)). IsCounted seat
-        (facts_of (calls_of old.seats seat)) (count_at old.searches.counts seat) (world is old.locks was.calls.change))
-        (sym (kept.keeps.images was.calls.honest)) (was.counted seat some within))).all;
-  }
+  pages_kept = led_with hash base old (record old { pool = new.pool }) led refl refl refl refl refl led.sits (λ sound.
+      (counted_in hash led.now (record old { pool = new.pool }) was.calls.change together_still was.phase
+      (λ seat some within. subst (λ (is : List (List ℕ)). IsCounted seat (facts_of (calls_of old.seats seat))
+      (count_at old.searches.counts seat) (world is old.locks was.calls.change))
+      (sym (kept.keeps.images was.calls.honest)) (was.counted seat some within))).all)
 
 pub pages_led : BeginTogether → (K : Type 0) → PagesRefine K
 pages_led begins K hash base old new led rest kept =

@@ -1,7 +1,6 @@
 -- So it is of each call of a kernel that refines a system, whatever events it has had.
 use Rattle.std.proofs.Common.{ℕ, zero, suc, ◌≡◌, ◌≤◌, inl, inr, refl, sym, ap, ◌∙◌, subst, Bool, true, false, List, [], ◌∷◌, Option, Some, None, length, arith}
 use Rattle.std.proofs.lemmas.Bool.{cases_eq}
-use Rattle.std.proofs.lemmas.List.Elements.{All-cons, All-head, All-nil, All-tail}
 use Rattle.queue_model.specs.declared.entry.Entry.TheVariants.{Stopped}
 use Rattle.interleaving_core.proofs.PlaceLemmas.{Seats, at_other, at_same}
 use Rattle.interleaving_core.specs.xsi_calls.declared.conclusion.Conclusion.{Conclusion}
@@ -15,9 +14,10 @@ use Rattle.interleavings.specs.declared.event.Event.{Event}
 use Rattle.interleavings.specs.declared.event.Event.TheVariants as events
 use Rattle.interleavings.specs.declared.event.Outcome.{Outcome}
 use Rattle.interleavings.specs.declared.event.Outcome.TheVariants as outcomes
-use Rattle.interleavings.proofs.EventLemmas.{event_keeps}
-use Rattle.interleavings.proofs.ScheduleLemmas.{moves_led}
-use Rattle.interleavings.proofs.WaitingLemmas.{AreFounded, IsFounded, IsFoundedAt, new_undecided, none_some, still_founded_at, takes_founded}
+use Rattle.interleavings.proofs.EventLemmas.{along}
+use Rattle.interleavings.proofs.ScheduleLemmas.{moves_led, one_leads}
+use Rattle.interleavings.proofs.SeatNameLemmas.{none_is}
+use Rattle.interleavings.proofs.WaitingLemmas.{AreFounded, IsFounded, IsFoundedAt, new_undecided, still_founded_at, takes_founded}
 
 -- ---- all seats
 
@@ -89,7 +89,7 @@ module _ {K : Type 0} (hash : RecordKey → ℕ) (base : State) where
         within = let many = has.begun.decided in omega (arith, many);
         put_off = λ was. elim was [
           | inl waits ↦ absurd (apart (sym (new_undecided has.active.machine has.begun.begins.new) ∙ waits))
-          | inr some ↦ absurd (none_some has.active.wait has.begun.awake some)
+          | inr some ↦ absurd (none_is has.active.wait has.begun.awake some)
         ];
       }
         where
@@ -121,22 +121,8 @@ module _ {K : Type 0} (does : StepsRefineAndDo K) (steps : StepsRefine K) (lead 
   pub founded_along : (es : List Event) (os : List Outcome) (old new : KernelState K) →
       AreOfSeats (length old.locks) es → Refines hash base old → Runs hash es os old new → AreFounded base old →
       AreFounded base new
-  founded_along [] [] old new are led same founded = subst (AreFounded base) (sym same) founded
-  founded_along [] (o ∷ os) old new are led never founded = absurd never
-  founded_along (e ∷ es) [] old new are led never founded = absurd never
-  founded_along (e ∷ es) (o ∷ os) old new are led runs founded =
-      founded_along es os runs.between new are_rest led_between runs.rest
-      (event_founded e o old runs.between first led runs.first founded)
-    where
-      first : IsOfSeat (length old.locks) e
-      first = All-head (IsOfSeat (length old.locks)) e es are
-
-      led_between : Refines hash base runs.between
-      led_between = lead hash base (e ∷ []) (o ∷ []) old runs.between
-          (All-cons (IsOfSeat (length old.locks)) e [] first (All-nil (IsOfSeat (length old.locks)))) led
-          (record { between = runs.between; first = runs.first; rest = refl })
-
-      are_rest : AreOfSeats (length runs.between.locks) es
-      are_rest = subst (λ (n : ℕ). AreOfSeats n es)
-          (sym (event_keeps hash e o old runs.between runs.first).seats)
-          (All-tail (IsOfSeat (length old.locks)) e es are)
+  founded_along es os old new are led runs founded = (along hash (λ k. Refines hash base k × AreFounded base k)
+      (λ e o was now is happens so. (
+        one_leads lead hash base e o was now is happens so.0,
+        event_founded e o was now is so.0 happens so.1,
+      )) es os old new are runs (led, founded)).1

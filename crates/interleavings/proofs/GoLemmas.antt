@@ -1,7 +1,8 @@
 -- A step of a call beside others leaves them together: over the same system, or over that after its answer.
 use Rattle.std.proofs.Common.{ℕ, ◌≡◌, ◌≢◌, ◌⊎◌, inl, inr, refl, sym, ap, ◌∙◌, subst, Bool, true, false, List, Option, Some, None, IsSome}
+use Rattle.std.proofs.lemmas.Option.{none-some, same_Some}
 use Rattle.std.proofs.lemmas.Bool.{cases_eq, true≢false}
-use Rattle.interleavings.proofs.LoneCallPlaceLemmas.{sees_at}
+use Rattle.interleavings.proofs.SeesLemmas.{sees_at}
 use Rattle.interleavings.proofs.StopLemmas.{keeps_stopped}
 use Rattle.interleavings.proofs.of_xsi_calls.AimLemmas.{call_aimed}
 use Rattle.step_rules.specs.Walking.{IsOwnStep}
@@ -19,23 +20,16 @@ use Rattle.interleavings.specs.xsi_calls.Words.{AreAlike, Moved, QuestionsView, 
 use Rattle.interleavings.specs.xsi_calls.declared.conclusion.Conclusion.TheVariants as conclusions
 use Rattle.interleavings.specs.xsi_calls.Stages.{Undecided}
 use Rattle.interleavings.specs.SeatWords.{names_in}
-use Rattle.interleavings.specs.ConcurrentWords.{Answer, Call, CallView, Caller, Change, ComesBy, Conclusion, FileFault, HasFittingCall, HasFittingCaller, IsFiled, IsKeptApart, IsSeat, IsUncounted, MakesCall, PoolState, Progress, RecordKey, Records, State, Table, answer_of, call_owes, conclusion_of, counter_key, is_fault, outcome, overlaid, owes_at, record_of, store_of, world}
+use Rattle.interleavings.specs.ConcurrentWords.{Answer, Call, CallView, Caller, Change, ComesBy, Conclusion, FileFault, HasFittingCall, HasFittingCaller, IsKeptApart, IsSeat, IsUncounted, MakesCall, PoolState, Progress, RecordKey, Records, State, Table, answer_of, call_owes, conclusion_of, counter_key, is_fault, outcome, overlaid, owes_at, record_of, store_of, world}
 use Rattle.interleavings.specs.Together.{AreTogether, IsStillToCount, Seats, owes_of}
 use Rattle.interleavings.specs.ConcurrentLaws.{AreTheOthers, AreTogetherIn, LeadTogether, LeadsBy, StepTogether}
 use Rattle.interleavings.proofs.ConcurrentCountLemmas.{HasCounter, IsCountedBy, counted, exclusive_or_not, has_counter, one_more, same_next}
 use Rattle.interleavings.proofs.DecideLemmas.{Concludes, Leads, concluded}
 use Rattle.interleavings.proofs.PlaceLemmas.{names_of}
 use Rattle.interleavings.proofs.SeatLemmas.{owe_apart}
+use Rattle.interleavings.proofs.SeatNameLemmas.{none_is}
+use Rattle.interleavings.proofs.SettleLemmas.{as_good_itself}
 use Rattle.interleavings.proofs.StepLemmas as steps
-
--- over the same system a call can't tell it from itself
-itself : (call : Call) (q : QuestionsView) (s : State) → IsFiled s → IsAsGood call q s s
-itself call q s filed = record {
-  filed = filed;
-  records = λ key under. refl;
-  ids = λ id under. record { queue = refl; given = refl };
-  knows = λ near. near;
-}
 
 -- no call stops the system
 mark_kept : (caller : Caller) (call : Call) (bytes : List ℕ) (s u : State) (c : Conclusion) →
@@ -71,10 +65,7 @@ module _ (hash : RecordKey → ℕ) (seat : ℕ) (s : State) (stopped : Bool) (d
 
   -- the call of the seat is the one
   its_own : (n : ℕ) (c : IsStillToCount n s seats) → c.seat ≡ seat → c.maker ≡ old
-  its_own n c is = some_same (sym c.there ∙ ap seats is ∙ there)
-    where
-      some_same : Some c.maker ≡ Some old → c.maker ≡ old
-      some_same same = cc
+  its_own n c is = same_Some c.maker old (sym c.there ∙ ap seats is ∙ there)
 
   -- it owes the Counter at its own seat
   maker_owes : (n : ℕ) (c : IsStillToCount n s seats) → owes_at (owes_of (seats c.seat)) counter_key ≡ true
@@ -147,7 +138,7 @@ module _ (hash : RecordKey → ℕ) (seat : ℕ) (s : State) (stopped : Bool) (d
     together_still : AreTogetherIn hash s seats' pool' locks' step.step.after
     together_still = steps.together hash seat s stopped did old new seats seats' pool pool' locks locks' t seated there
         mark made fine now others s leads_still (has_counter counted_still) (λ un. refl)
-        (λ call q apart alike. itself call q s t.filed) counted_still
+        (λ call q apart alike. as_good_itself call q s t.filed) counted_still
 
   -- ---- at its Decide
 
@@ -194,16 +185,13 @@ module _ (hash : RecordKey → ℕ) (seat : ℕ) (s : State) (stopped : Bool) (d
         others_lead_alike call new.call q new.caller (answer_of verdict bytes) s u t.filed comes.leads.filed apart
         by_rules alike
     good conclusions.Waits stays call q apart alike =
-        subst (IsAsGood call q s) (sym stays.1) (itself call q s t.filed)
+        subst (IsAsGood call q s) (sym stays.1) (as_good_itself call q s t.filed)
     good conclusions.HasNoRoom stays call q apart alike =
-        subst (IsAsGood call q s) (sym stays) (itself call q s t.filed)
+        subst (IsAsGood call q s) (sym stays) (as_good_itself call q s t.filed)
 
     -- the maker of a queue that is still to be counted has decided before
     another : (n : ℕ) (m : IsStillToCount n s seats) → m.seat ≢ seat
-    another n m its = none_some (sym undecided ∙ ap conclusion_of (sym (its_own n m its))) m.decided
-      where
-        none_some : {o : Option Conclusion} → None ≡ o → IsSome o → ⊥
-        none_some at some = true≢false (sym (subst IsSome (sym at) some))
+    another n m its = none_is (conclusion_of m.maker) (ap conclusion_of (its_own n m its) ∙ undecided) m.decided
 
     stays_so : u ≡ s → (u.next_id ≡ t.counter.next_id) ⊎ IsStillToCount t.counter.next_id u seats'
     stays_so same = subst (λ (x : State). (x.next_id ≡ t.counter.next_id) ⊎ IsStillToCount t.counter.next_id x seats')
@@ -283,10 +271,7 @@ module _ (hash : RecordKey → ℕ) (seat : ℕ) (s : State) (stopped : Bool) (d
     }
 
     decided_now : new.stage ≡ Undecided → u ≡ s
-    decided_now un = absurd (none_is_some (sym (ap conclusion_at un) ∙ is))
-      where
-        none_is_some : {x : Conclusion} → ◌≡◌ {A = Option Conclusion} None (Some x) → ⊥
-        none_is_some clash = cc
+    decided_now un = absurd (none-some c (sym (ap conclusion_at un) ∙ is))
 
     together_then : AreTogetherIn hash u seats' pool' locks' step.step.after
     together_then = steps.together hash seat s stopped did old new seats seats' pool pool' locks locks' t seated there

@@ -1,13 +1,31 @@
--- A call comes to lacking room only by a trial that has none.
+-- A call lacks no room when it begins, and comes to lacking it only by a trial that has none.
 use Rattle.std.proofs.Common.{ℕ, ◌≡◌, refl, sym, ap, ◌∙◌, Bool, true, false, true≢false, List, Option, Some, None}
 use Rattle.interleavings.specs.Serving.{lacks_by}
 use Rattle.interleaving_core.specs.xsi_calls.CallSteps.{KeepsCall, StepsCall}
 use Rattle.interleaving_core.specs.xsi_calls.Concluding.{IsRightConclusion}
-use Rattle.interleaving_core.specs.xsi_calls.Machine.{call_owes}
+use Rattle.interleaving_core.specs.xsi_calls.Machine.{IsNew, IsOver, IsOverAt, call_owes, conclusion_at}
+use Rattle.interleaving_core.specs.xsi_calls.Stages.{Paying, Releasing, Stage, Undecided}
 use Rattle.interleaving_core.specs.xsi_calls.Words.{Change, Lock, Owes, Records, has_no_room}
 use Rattle.interleaving_core.specs.xsi_calls.declared.conclusion.Conclusion.{Conclusion}
 use Rattle.interleaving_core.specs.xsi_calls.declared.conclusion.Conclusion.TheVariants as conclusions
+use Rattle.interleaving_core.specs.xsi_calls.declared.trials.Trials.{Trials}
+use Rattle.xsi_calls.proofs.Names.{is_full, trials_in}
 use Rattle.interleavings.specs.Words.{Call, CallView, Caller, FileFault, PoolState, Progress, RecordKey, State, Table, conclusion_of, lacks_room}
+
+-- one that has just begun lacks none
+pub fresh_room : (m : CallView) → IsNew m → lacks_room m ≡ false
+fresh_room m new =
+    ap (λ (x : Stage). lacks_by (conclusion_at x) (has_no_room m.undecided)) new.stage
+    ∙ ap (λ (o : Option Trials). is_full (trials_in o)) new.fresh.untried
+
+-- one that is over has come to something
+pub over_concluded : (m : CallView) → IsOver m → conclusion_of m ≡ None → ⊥
+over_concluded m over none = by m.stage over none
+  where
+    by : (stage : Stage) → IsOverAt m.call m.undecided stage → conclusion_at stage ≡ None → ⊥
+    by Undecided over none = over
+    by (Paying payment done) over none = cc
+    by (Releasing done) over none = cc
 
 -- what it has come to tells it, whatever its trials are
 by_conclusion : (c : Conclusion) (full other : Bool) → lacks_by (Some c) full ≡ true → lacks_by (Some c) other ≡ true

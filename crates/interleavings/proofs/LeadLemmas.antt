@@ -1,6 +1,6 @@
 -- What is led from a system stays so by each thing that a kernel does.
-use Rattle.std.proofs.Common.{ℕ, ◌≡◌, refl, sym, ap, ◌∙◌, subst, List, [], ◌∷◌, ◌++◌, Option, Some, None, IsSome, option_map}
-use Rattle.std.proofs.lemmas.Bool.{true≢false}
+use Rattle.std.proofs.Common.{ℕ, ◌≡◌, refl, sym, ap, ◌∙◌, subst, List, [], ◌∷◌, ◌++◌, Option, Some, None, IsSome, false, length, option_map}
+use Rattle.std.proofs.lemmas.Option.{none-some}
 use Rattle.std.proofs.lemmas.List.{append-nil}
 use Rattle.interleavings.specs.ConcurrentLaws.{AreTheOthers, LeadsBy}
 use Rattle.interleaving_core.proofs.PlaceLemmas.{at_other}
@@ -14,8 +14,10 @@ use Rattle.interleaving_core.specs.xsi_calls.declared.conclusion.Conclusion.TheV
 use Rattle.queue_model.proofs.JournalLemmas.{LeadsAlong-push}
 use Rattle.queue_model.specs.Journal.{outcome_for}
 use Rattle.queue_model.specs.declared.entry.Entry.TheVariants.{Decided}
-use Rattle.interleavings.specs.Words.{ActiveView, Answer, Call, CallView, Caller, Entry, FileFault, LeadsAlong, Progress, State, answer_of, answer_of_call, call_at, caller_at, conclusion_of, with_call}
-use Rattle.interleavings.specs.Refining.{calls_of}
+use Rattle.interleavings.specs.Words.{ActiveView, Answer, Call, CallView, Caller, Entry, FileFault, KernelState, LeadsAlong, Progress, RecordKey, State, answer_of, answer_of_call, call_at, caller_at, conclusion_of, with_call}
+use Rattle.interleavings.specs.Counting.{AreCounted}
+use Rattle.interleavings.specs.Refining.{Refines, calls_of}
+use Rattle.interleavings.proofs.SeatNameLemmas.{none_is}
 
 -- ---- seats
 
@@ -28,6 +30,28 @@ pub others_same : (seats seats' : List (Option ActiveView)) (seat : ℕ) (left :
 others_same seats seats' seat left is other apart = ap machine
     (ap (λ (x : List (Option ActiveView)). call_at x other) is ∙ at_other seats seat other left apart)
 
+-- ---- a kernel
+
+-- one with the same journal refines the same system where its calls have come to that
+pub led_with : {K : Type 0} (hash : RecordKey → ℕ) (base : State) (old new : KernelState K)
+    (led : Refines hash base old) → new.callers ≡ old.callers → new.journal ≡ old.journal →
+    new.stopped ≡ old.stopped → length new.locks ≡ length old.locks → length new.seats ≡ length old.seats →
+    ((seat : ℕ) (a : ActiveView) → call_at new.seats seat ≡ Some a →
+    caller_at old.callers seat ≡ Some a.machine.caller) → (new.failed ≡ false → AreCounted hash led.now new) →
+    Refines hash base new
+led_with hash base old new led callers journal stopped rows places sits together = record {
+  now = led.now;
+  leads = subst (λ (cs : List Caller). LeadsAlong cs new.journal base led.now) (sym callers)
+      (subst (λ (es : List Entry). LeadsAlong old.callers es base led.now) (sym journal) led.leads);
+  mark = led.mark ∙ sym stopped;
+  callers = λ seat caller at. led.callers seat caller
+      (sym (ap (λ (cs : List Caller). caller_at cs seat) callers) ∙ at);
+  rows = rows ∙ led.rows ∙ sym places;
+  seated = ap length callers ∙ led.seated ∙ sym places;
+  sits = λ seat a there. ap (λ (cs : List Caller). caller_at cs seat) callers ∙ sits seat a there;
+  together = together;
+}
+
 -- ---- the journal
 
 -- nothing joins it where a call has come to nothing new
@@ -39,19 +63,13 @@ none_joins seat old come o kept same = by (answer_of_call old) refl o kept
         entries_by seat (answer_of_call come) x ≡ []
     by None is x drafted = ap (λ (y : Option Answer). entries_by seat y x) (same ∙ is)
     by (Some answer) is None drafted = ap (λ (y : Option Answer). entries_by seat y None) (same ∙ is)
-    by (Some answer) is (Some d) drafted = absurd (none_some (sym drafted.unanswered ∙ is))
-      where
-        none_some : ◌≡◌ {A = Option Answer} None (Some answer) → ⊥
-        none_some clash = cc
+    by (Some answer) is (Some d) drafted = absurd (none-some answer (sym drafted.unanswered ∙ is))
 
 -- its entry does where it has come to its answer
 one_joins : (seat : ℕ) (old come : CallView) (o : Option Draft) → IsDrafted old o → answer_of_call old ≡ None →
     (answer : Answer) → answer_of_call come ≡ Some answer →
     entries_by seat (answer_of_call come) o ≡ Decided seat old.call answer ∷ []
-one_joins seat old come None kept before answer behind = absurd (some_none kept before)
-  where
-    some_none : {a : Option Answer} → IsSome a → a ≡ None → ⊥
-    some_none some is = true≢false (sym (subst IsSome is some))
+one_joins seat old come None kept before answer behind = absurd (none_is (answer_of_call old) before kept)
 one_joins seat old come (Some d) kept before answer behind =
     ap (λ (y : Option Answer). entries_by seat y (Some d)) behind
     ∙ ap (λ (c : Call). Decided seat c answer ∷ []) kept.call

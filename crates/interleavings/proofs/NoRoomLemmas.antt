@@ -3,7 +3,8 @@ use Rattle.std.proofs.Common.{ℕ, ◌≡◌, ◌⊎◌, inl, inr, refl, sym, ap
 use Rattle.std.proofs.lemmas.Bool.{eqb-true}
 use Rattle.std.proofs.lemmas.Option.{get_or_from_slice_get, slice_get_within}
 use Rattle.std.proofs.lemmas.List.Elements.{All-take}
-use Rattle.interleavings.proofs.LoneCallCauseLemmas.{fresh_room}
+use Rattle.interleavings.proofs.EventLemmas.{places_along}
+use Rattle.interleavings.proofs.LackingLemmas.{fresh_room, over_concluded}
 use Rattle.interleavings.specs.Serving.{lacks_by}
 use Rattle.step_rules.specs.declared.progress.Progress.TheVariants as progress
 use Rattle.interleaving_core.proofs.AnewLemmas.{begins_from}
@@ -14,12 +15,11 @@ use Rattle.interleaving_core.specs.Waiting.{stays_waiting}
 use Rattle.interleaving_core.specs.declared.fault.StepFault.TheVariants as faults
 use Rattle.interleaving_core.specs.declared.step.Step.TheVariants as steps
 use Rattle.interleaving_core.specs.xsi_calls.CallSteps.{KeepsCall}
-use Rattle.interleaving_core.specs.xsi_calls.Machine.{IsOverAt, answer_by, conclusion_at}
-use Rattle.interleaving_core.specs.xsi_calls.Stages.{Paying, Releasing, Stage, Undecided}
+use Rattle.interleaving_core.specs.xsi_calls.Machine.{answer_by}
 use Rattle.interleaving_core.specs.xsi_calls.Words.{has_no_room}
 use Rattle.interleaving_core.specs.xsi_calls.declared.conclusion.Conclusion.{Conclusion}
 use Rattle.interleaving_core.specs.xsi_calls.declared.conclusion.Conclusion.TheVariants as conclusions
-use Rattle.interleavings.specs.Words.{ActiveView, Answer, CallView, FileFault, IsDriven, IsOver, IsSeat, IsStep, KernelState, PoolState, Progress, RecordKey, State, Step, Table, Entry, call_at, conclusion_of, lacks_room}
+use Rattle.interleavings.specs.Words.{ActiveView, Answer, FileFault, IsDriven, IsSeat, IsStep, KernelState, PoolState, Progress, RecordKey, State, Step, Table, Entry, call_at, conclusion_of, lacks_room}
 use Rattle.interleavings.specs.Laws.{EventsRefine, StepsRefine, StepsRefineAndDo}
 use Rattle.interleavings.specs.Outcomes.{lapsed_by}
 use Rattle.interleavings.specs.Refining.{Refines}
@@ -29,7 +29,7 @@ use Rattle.interleavings.specs.declared.event.Event.{Event}
 use Rattle.interleavings.specs.declared.event.Event.TheVariants as events
 use Rattle.interleavings.specs.declared.event.Outcome.{Outcome}
 use Rattle.interleavings.specs.declared.event.Outcome.TheVariants as outcomes
-use Rattle.interleavings.proofs.TellingLemmas.{HasEvent, event_at, rows_along}
+use Rattle.interleavings.proofs.TellingLemmas.{HasEvent, event_at}
 use Rattle.interleavings.proofs.UnderWayLemmas.{moves_fail_not}
 use Rattle.interleavings.proofs.RoomLemmas.{LacksAt, finds_along, moves_find}
 
@@ -50,18 +50,6 @@ no_room_idle told = cc
 no_room_failed : (at : Option ActiveView) → no_room ≡ told_of_failure at → ⊥
 no_room_failed None told = cc
 no_room_failed (Some a) told = cc
-
-come_apart : (done : Conclusion) → ◌≡◌ {A = Option Conclusion} (Some done) None → ⊥
-come_apart done both = cc
-
--- a call that is over has come to something
-over_concluded : (m : CallView) → IsOver m → conclusion_of m ≡ None → ⊥
-over_concluded m over none = by m.stage refl over
-  where
-    by : (stage : Stage) → m.stage ≡ stage → IsOverAt m.call m.undecided stage → ⊥
-    by Undecided is over = over
-    by (Paying payment done) is over = come_apart done (sym (ap conclusion_at is) ∙ none)
-    by (Releasing done) is over = come_apart done (sym (ap conclusion_at is) ∙ none)
 
 module _ (hash : RecordKey → ℕ) (seat : ℕ) (stopped : Bool) (a : ActiveView) (left : Option ActiveView)
     (pool pool' : PoolState) (locks locks' : Table) (journal journal' : List Entry) where
@@ -140,13 +128,8 @@ step_told hash seat old new step = by old.failed refl (call_at old.seats seat) r
     }
 
 lapse_is : (did : Step) → lapsed did ≡ 1 → did ≡ no_room
-lapse_is (steps.Moved kind) is = absurd cc
-lapse_is (steps.Blocked other) is = absurd cc
-lapse_is steps.Waiting is = absurd cc
-lapse_is (steps.Answered answer) is = absurd cc
-lapse_is steps.Idle is = absurd cc
-lapse_is (steps.Fault (faults.File fault)) is = absurd cc
 lapse_is (steps.Fault faults.NoRoom) is = refl
+lapse_is _ is = absurd cc
 
 module _ {K : Type 0} (does : StepsRefineAndDo K) (steps_on : StepsRefine K) (hash : RecordKey → ℕ) (base : State)
     (seat : ℕ) (old new : KernelState K) (led : Refines hash base old) where
@@ -229,6 +212,6 @@ tells_no_room {K} does steps_on lead hash es os old new are runs base led seat m
 
     its_seat : IsOfSeat (length at.before.locks) e
     its_seat = subst (λ (n : ℕ). IsOfSeat n e)
-        (sym (rows_along hash (take many es) (take many os) old at.before at.first))
+        (sym (places_along hash (take many es) (take many os) old at.before at.first).seats)
         (subst (IsOfSeat (length old.locks)) (get_or_from_slice_get es many e e is_e)
         (are many e (slice_get_within es many e is_e)))

@@ -1,5 +1,6 @@
 -- A kernel that is led from a system: it is opened, calls begin, it is stopped, and what it says.
 use Rattle.std.proofs.Common.{ℕ, ◌≡◌, ◌≤◌, inl, inr, refl, sym, ap, ◌∙◌, subst, Bool, true, false, List, [], ◌∷◌, ◌++◌, Option, Some, None, length}
+use Rattle.std.proofs.lemmas.Option.{none-some}
 use Rattle.std.proofs.lemmas.Bool.{cases_eq}
 use Rattle.std.proofs.lemmas.List.{length-replicate}
 use Rattle.interleavings.specs.ConcurrentLaws.{AreTheOthers, BeginTogether, LeaveAtRest, RestTogether, StopTogether}
@@ -11,7 +12,7 @@ use Rattle.interleavings.proofs.CountedLemmas.{counted_at_first, counted_in, cou
 use Rattle.interleavings.proofs.CountLemmas.{hops_few}
 use Rattle.interleaving_core.proofs.BeginLemmas.{idle_at}
 use Rattle.interleaving_core.proofs.PlaceLemmas.{at_other, at_same, length-with_call}
-use Rattle.interleavings.proofs.CloseLemmas.{closes_at_rest}
+use Rattle.interleavings.proofs.CloseLemmas.{closes_flushed}
 use Rattle.interleavings.proofs.OpenedOpenLemmas.{opens_at_rest}
 use Rattle.queue_model.proofs.JournalLemmas.{LeadsAlong-push, after-LeadsAlong}
 use Rattle.queue_model.specs.Laws.{KeepsOrder}
@@ -19,7 +20,7 @@ use Rattle.queue_model.specs.declared.entry.Entry.TheVariants.{Stopped}
 use Rattle.interleavings.specs.Words.{ActiveView, Call, Caller, Entry, HasCall, IsFileAtRest, IsSeat, IsStopped, KernelState, LeadsAlong, PoolState, RecordKey, State, after, call_at, caller_at, with_call}
 use Rattle.interleavings.specs.Refining.{Refines, calls_of}
 use Rattle.interleavings.specs.Laws.{AnswersAsPlainLists, BeginsRefine, ClosesRefine, OpensRefine, RefusalsRefine, SearchesHopFew, StopsRefine}
-use Rattle.interleavings.proofs.LeadLemmas.{machine, others_same}
+use Rattle.interleavings.proofs.LeadLemmas.{led_with, machine, others_same}
 
 -- ---- it is opened
 
@@ -36,7 +37,7 @@ opens_led rests K hash keys content honest callers frames k opened true_to_it ha
         rows = ap length opened.locks ∙ length-replicate (length callers) []
             ∙ sym (length-replicate (length callers) None) ∙ ap length (sym opened.seats);
         seated = ap length opened.callers ∙ sym (length-replicate (length callers) None) ∙ ap length (sym opened.seats);
-        sits = λ seat a there. absurd (none_some a (sym (idle_at (length callers) seat)
+        sits = λ seat a there. absurd (none-some a (sym (idle_at (length callers) seat)
             ∙ ap (λ (x : List (Option ActiveView)). call_at x seat) (sym opened.seats) ∙ there));
         callers = λ seat caller sits. opened.fitting seat caller (sym (ap (λ (cs : List Caller). caller_at cs seat)
             opened.callers) ∙ sits);
@@ -57,9 +58,6 @@ opens_led rests K hash keys content honest callers frames k opened true_to_it ha
     idle : (seat : ℕ) → calls_of k.seats seat ≡ None
     idle seat = ap machine (ap (λ (x : List (Option ActiveView)). call_at x seat) opened.seats
         ∙ idle_at (length callers) seat)
-
-    none_some : (a : ActiveView) → ◌≡◌ {A = Option ActiveView} None (Some a) → ⊥
-    none_some a clash = cc
 
 -- ---- a call begins
 
@@ -101,26 +99,18 @@ module _ (begins : BeginTogether) {K : Type 0} (hash : RecordKey → ℕ) (base 
   ]
 
   begun_led : Refines hash base (record old { seats = with_call old.seats seat (Some has.active); room = new.room })
-  begun_led = record {
-    now = led.now;
-    leads = led.leads;
-    mark = led.mark;
-    callers = led.callers;
-    rows = led.rows ∙ sym (length-with_call old.seats seat (Some has.active));
-    seated = led.seated ∙ sym (length-with_call old.seats seat (Some has.active));
-    sits = sits_begun;
-    together = λ sound.
-        let was = led.together sound in
-        (counted_in hash led.now (record old { seats = with_begun; room = new.room }) was.calls.change
-        (begins hash seat has.caller call led.now has.active.machine (calls_of old.seats) (calls_of with_begun)
-        old.pool old.locks was.calls (ap machine has.may.free) (led.callers seat has.caller has.sits) has.fits
-        has.begun.begins (ap machine there_begun) others_begun)
-        was.phase
-        (λ i some near. counted_of i (count_at old.searches.counts i)
-        (world old.pool.images old.locks was.calls.change) (facts_of (calls_of old.seats i))
-        (facts_of (calls_of with_begun i)) (same_facts i)
-        (was.counted i some (subst (λ (n : ℕ). i ≤ n) (length-with_call old.seats seat (Some has.active)) near)))).all;
-  }
+  begun_led = led_with hash base old (record old { seats = with_begun; room = new.room }) led refl refl refl refl
+      (length-with_call old.seats seat (Some has.active)) sits_begun (λ sound.
+      let was = led.together sound in
+      (counted_in hash led.now (record old { seats = with_begun; room = new.room }) was.calls.change
+      (begins hash seat has.caller call led.now has.active.machine (calls_of old.seats) (calls_of with_begun)
+      old.pool old.locks was.calls (ap machine has.may.free) (led.callers seat has.caller has.sits) has.fits
+      has.begun.begins (ap machine there_begun) others_begun)
+      was.phase
+      (λ i some near. counted_of i (count_at old.searches.counts i)
+      (world old.pool.images old.locks was.calls.change) (facts_of (calls_of old.seats i))
+      (facts_of (calls_of with_begun i)) (same_facts i)
+      (was.counted i some (subst (λ (n : ℕ). i ≤ n) (length-with_call old.seats seat (Some has.active)) near)))).all)
 
 pub begins_led : BeginTogether → (K : Type 0) → BeginsRefine K
 begins_led begins K hash base seat call old new is led has =
@@ -128,19 +118,10 @@ begins_led begins K hash base seat call old new is led has =
 
 pub refuses_led : (K : Type 0) → RefusalsRefine K
 refuses_led K hash base seat call refusal old new led refused =
-    let still : Refines hash base (record old { room = new.room }) = record {
-      now = led.now;
-      leads = led.leads;
-      mark = led.mark;
-      callers = led.callers;
-      rows = led.rows;
-      seated = led.seated;
-      sits = led.sits;
-      together = λ sound.
-          let was = led.together sound in
-          record { calls = was.calls; phase = was.phase; counted = was.counted };
-    } in
-    subst (Refines hash base) (sym refused.same) still
+    subst (Refines hash base) (sym refused.same)
+    (led_with hash base old (record old { room = new.room }) led refl refl refl refl refl led.sits (λ sound.
+    let was = led.together sound in
+    record { calls = was.calls; phase = was.phase; counted = was.counted }))
 
 -- ---- it is stopped
 
@@ -195,19 +176,8 @@ counts_few K hash base k seat led sound some within =
 
 pub closes_led : LeaveAtRest → (K : Type 0) → ClosesRefine K
 closes_led rests K hash base content k led idle sound flushed =
-    closes_at_rest hash (after k.callers k.journal base) k.pool (record k.pool { stored = content }) k.locks
+    closes_flushed hash (after k.callers k.journal base) k.pool k.locks content
     (subst (λ (s : State). IsFileAtRest hash s k.pool k.locks)
     (sym (after-LeadsAlong k.callers k.journal base led.now led.leads))
     (rests hash led.now (calls_of k.seats) k.pool k.locks (led.together sound).calls
-    (λ seat. ap machine (idle seat))))
-    (record {
-      written = flushed.images;
-      keeps = record {
-        images = λ _. refl;
-        pinned = λ page _. refl;
-        as_many = refl;
-        frames = refl;
-        honest = refl;
-        seals = λ _ _. flushed.seals;
-      };
-    })
+    (λ seat. ap machine (idle seat)))) flushed

@@ -1,5 +1,5 @@
 -- What seats owe the file is the rest of the system; and a file that was closed opens on its system.
-use Rattle.std.proofs.Common.{ℕ, zero, suc, ◌≡◌, ◌≢◌, ◌≤◌, ◌⊎◌, inl, inr, refl, sym, ◌∙◌, subst, Bool, true, false, List, [], ◌∷◌, Option}
+use Rattle.std.proofs.Common.{ℕ, zero, suc, ◌≡◌, ◌≢◌, ◌⊎◌, inl, inr, refl, sym, subst, Bool, true, false, List, [], ◌∷◌, Option}
 use Rattle.interleavings.specs.ConcurrentLaws.{OweApart}
 use Rattle.interleavings.specs.Together.{AreTogether, owes_of}
 use Rattle.interleavings.specs.ConcurrentWords.{owes_at}

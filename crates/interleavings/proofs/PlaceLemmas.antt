@@ -2,7 +2,7 @@
 use Rattle.std.proofs.Common.{ℕ, ◌≡◌, ap, ◌∙◌, true, List, Option, Some, None}
 use Rattle.std.specs.List.{All}
 use Rattle.interleavings.proofs.of_xsi_calls.OwnLemmas.{own_written, owes_what_it_holds, undone_own}
-use Rattle.interleavings.proofs.LoneCallPlaceLemmas.{names_aside}
+use Rattle.interleavings.proofs.SeesLemmas.{names_aside}
 use Rattle.interleavings.specs.xsi_calls.UndecidedBelow.{Owns, key_of}
 use Rattle.interleavings.specs.xsi_calls.declared.due.Due.{Due}
 use Rattle.interleavings.specs.xsi_calls.declared.due.Due.TheVariants.{Full, Trying, Undoing, Writing}

@@ -1,9 +1,8 @@
 -- Events over a kernel that was opened, and closed behind them, told without the kernel.
-use Rattle.std.proofs.Common.{ℕ, zero, suc, ◌≡◌, ◌+◌, ◌≤◌, ◌↔◌, refl, sym, ap, ◌∙◌, subst, Bool, true, false, ◌||◌, IsSome, IsTrue, List, [], ◌∷◌, ◌++◌, Option, Some, None, drop, length, take, arith}
+use Rattle.std.proofs.Common.{ℕ, zero, suc, ◌≡◌, ◌+◌, ◌≤◌, refl, sym, ap, ◌∙◌, subst, Bool, true, false, ◌||◌, IsSome, IsTrue, List, [], ◌∷◌, ◌++◌, Option, Some, None, drop, length, take, arith}
 use Rattle.std.specs.List.{list_any}
 use Rattle.std.specs.Prelude.{slice_get, sum_by}
-use Rattle.std.proofs.lemmas.Option.{get_or_from_slice_get, slice_get_within}
-use Rattle.std.proofs.lemmas.Bool.{true≢false}
+use Rattle.std.proofs.lemmas.Option.{get_or_from_slice_get, none-some, same_Some, slice_get_within}
 use Rattle.std.proofs.lemmas.List.{length-replicate}
 use Rattle.std.proofs.lemmas.List.Elements.{All-take}
 use Rattle.page_device.specs.Device.{HasRisen}
@@ -21,16 +20,16 @@ use Rattle.interleavings.specs.Playing.{HasPlayed, HasReason, PlaysAsPlainLists}
 use Rattle.interleavings.specs.Runs.{AreOfSeats, IsLinearized, IsOfSeat, IsToldItsPart, Runs, told_along}
 use Rattle.interleavings.specs.declared.event.Event.{Event}
 use Rattle.interleavings.specs.declared.event.Outcome.{Outcome}
-use Rattle.interleavings.specs.declared.playing.EndFault.{EndFault}
 use Rattle.interleavings.specs.declared.playing.EndFault.TheVariants.{Busy, Close}
 use Rattle.interleavings.specs.declared.playing.Played.{Played}
-use Rattle.interleavings.proofs.RisenLemmas.{later_along, risen_along, risen_within}
+use Rattle.interleavings.proofs.EventLemmas.{places_along}
+use Rattle.interleavings.proofs.RisenLemmas.{risen_along, risen_within}
 use Rattle.interleavings.proofs.FoundedLemmas.{founded_along}
 use Rattle.interleavings.proofs.OutcomeLemmas.{come_along, fails_along}
 use Rattle.interleavings.proofs.RunLemmas.{tells_its_part}
-use Rattle.interleavings.proofs.TellingLemmas.{HasEvent, event_at, rows_along, some_same, told_by_event}
+use Rattle.interleavings.proofs.TellingLemmas.{HasEvent, event_at, told_by_event}
 use Rattle.interleavings.proofs.WaitingLemmas.{AreFounded, IsFoundedAt}
-use Rattle.interleavings.proofs.UnderWayLemmas.{call_on, places_along, leaves_along, marked_along}
+use Rattle.interleavings.proofs.UnderWayLemmas.{call_on, leaves_along, marked_along}
 
 -- ---- who has a call
 
@@ -160,17 +159,11 @@ module _ {K : Type 0} (of : K → RecordKey → ℕ) (keys : K) (content : List 
         stood_at many moment.between moment.before moment.behind
 
     sound_by : played.fault ≡ None → new.failed ≡ false
-    sound_by none = not_true new.failed (λ broken. none_some (sym none ∙ ended.failed.1 broken))
-      where
-        none_some : ◌≡◌ {A = Option EndFault} None (Some (Close closes.Failed)) → ⊥
-        none_some clash = cc
+    sound_by none = not_true new.failed (λ broken. none-some _ (sym none ∙ ended.failed.1 broken))
 
     idle_by : played.fault ≡ None → (seat : ℕ) → call_at new.seats seat ≡ None
     idle_by none = none_has new.seats (not_true (list_any has_one new.seats)
-        (λ one. none_some (sym none ∙ ended.busy.1 (record { sound = sound_by none; call = one }))))
-      where
-        none_some : ◌≡◌ {A = Option EndFault} None (Some Busy) → ⊥
-        none_some clash = cc
+        (λ one. none-some _ (sym none ∙ ended.busy.1 (record { sound = sound_by none; call = one }))))
 
     call_then : (seat : ℕ) → call_on seat new ≡ call_under_way seat es os
     call_then seat = under_way seat es os new are_seats runs
@@ -249,7 +242,7 @@ module _ {K : Type 0} (of : K → RecordKey → ℕ) (keys : K) (content : List 
 
             its_seat : IsOfSeat (length at.before.locks) e
             its_seat = subst (λ (n : ℕ). IsOfSeat n e)
-                (sym (rows_along hash (take many es) (take many os) old at.before at.first))
+                (sym (places_along hash (take many es) (take many os) old at.before at.first).seats)
                 (subst (IsOfSeat (length old.locks)) (get_or_from_slice_get es many e e is_e)
                 (are_rows many e (slice_get_within es many e is_e)))
 
@@ -267,8 +260,8 @@ module _ {K : Type 0} (of : K → RecordKey → ℕ) (keys : K) (content : List 
             here = record {
               moment = stood_at (suc many) at.behind at.through at.rest;
               told = λ f p is_f is_p.
-                  let same_e : e ≡ f = some_same e f (sym is_e ∙ is_f) in
-                  let same_o : o ≡ p = some_same o p (sym is_o ∙ is_p) in
+                  let same_e : e ≡ f = same_Some e f (sym is_e ∙ is_f) in
+                  let same_o : o ≡ p = same_Some o p (sym is_o ∙ is_p) in
                   subst (λ (x : Event). IsToldBy callers led.base
                   (λ seat. call_under_way seat (take many es) (take many os)) x p at.behind.journal) same_e
                   (subst (λ (y : Outcome). IsToldBy callers led.base
@@ -278,13 +271,9 @@ module _ {K : Type 0} (of : K → RecordKey → ℕ) (keys : K) (content : List 
         pub rightly : Rightly
         rightly = by (slice_get es many) refl (slice_get os many) refl
           where
-            apart : {X : Type 0} (o : Option X) (x : X) → o ≡ None → o ≡ Some x → ⊥
-            apart None x none some = cc
-            apart (Some y) x none some = cc
-
             by : (f : Option Event) → slice_get es many ≡ f → (p : Option Outcome) → slice_get os many ≡ p → Rightly
-            by None none p is_o = past (λ e o is_e is. apart (slice_get es many) e none is_e)
-            by (Some e) is_e None none = past (λ f o is_f is. apart (slice_get os many) o none is)
+            by None none p is_o = past (λ e o is_e is. none-some e (sym none ∙ is_e))
+            by (Some e) is_e None none = past (λ f o is_f is. none-some o (sym none ∙ is))
             by (Some e) is_e (Some o) is_o = here e o is_e is_o
 
       pub plays_plain : StepsRefineAndDo K → StepsRefine K → AnswersAsPlainLists K → ClosesRefine K →
@@ -315,14 +304,14 @@ module _ {K : Type 0} (of : K → RecordKey → ℕ) (keys : K) (content : List 
       step_reason : StepsRefineAndDo K → DrivesEnd K → (was : ℕ) → was ≤ old.pool.faults →
           played.fault ≡ Some (Close closes.Failed) → HasRisen was faults
       step_reason does drives was before failed =
-          risen_within before (later_along hash es os old new runs) ended.later
+          risen_within before (places_along hash es os old new runs).later ended.later
           (risen_along does drives lead hash led.base es os old new are_rows led.led runs opened.failed
           (ended.failed.0 failed))
 
     pub has_reason : EventsRefine K → (IsTrue honest → RefinesFile hash content old) → StepsRefineAndDo K →
         DrivesEnd K → (was : ℕ) → was ≤ old.pool.faults → HasReason honest was faults played
     has_reason lead led does drives was before =
-        let later = later_along hash es os old new runs in
+        let later = (places_along hash es os old new runs).later in
         record {
           device = λ device. risen_within (omega (arith, before, later)) ended.later (omega arith)
               (ended.device device);

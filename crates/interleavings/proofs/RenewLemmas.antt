@@ -1,5 +1,6 @@
 -- A kernel that refines a system: a call is taken back, and the journal is taken out.
 use Rattle.std.proofs.Common.{ℕ, ◌≡◌, ◌≢◌, ◌≤◌, inl, inr, refl, sym, ap, ◌∙◌, subst, Bool, true, false, List, [], Option, Some, None, length, map, option_map}
+use Rattle.std.proofs.lemmas.Option.{none-some}
 use Rattle.std.proofs.Math.Path.{fun_ext}
 use Rattle.std.proofs.lemmas.Bool.{cases_eq, true≢false}
 use Rattle.std.proofs.lemmas.List.{length-map}
@@ -14,13 +15,12 @@ use Rattle.interleaving_core.specs.Renewing.{HasNothing, IsWithdrawn, failure_of
 use Rattle.interleaving_core.specs.Counting.{count_at}
 use Rattle.interleaving_core.specs.xsi_calls.Words.{guard_of, kind_of, world}
 use Rattle.page_locks.specs.declared.lock.Lock.{Lock}
-use Rattle.page_locks.specs.declared.lock.LockKind.{LockKind}
 use Rattle.page_locks.specs.declared.lock.LockKind.TheVariants.{Exclusive}
 use Rattle.call_decisions.proofs.OverlayLemmas.{overlaid_rest}
 use Rattle.queue_model.proofs.JournalLemmas.{after-LeadsAlong}
 use Rattle.queue_model.proofs.LawfulLemmas.{IsLawful-LeadsAlong}
 use Rattle.interleavings.proofs.CountedLemmas.{counted_idle, counted_in, counted_of}
-use Rattle.interleavings.proofs.LeadLemmas.{machine, others_same}
+use Rattle.interleavings.proofs.LeadLemmas.{led_with, machine, others_same}
 use Rattle.interleavings.specs.Counting.{AreCounted, IsCounted, facts_of}
 use Rattle.interleavings.specs.Refining.{Refines, calls_of}
 use Rattle.interleavings.specs.Renewing.{FailuresRefine, RenewsRefine, WithdrawsRefine}
@@ -40,12 +40,10 @@ module _ (hash : RecordKey → ℕ) (seat : ℕ) (s : State) (m : CallView) (sea
   free : (key : RecordKey) → owes_at (owes_of (seats seat)) key ≡ false
   free key = by (owes_at (owes_of (seats seat)) key) refl
     where
-      none_some : ◌≡◌ {A = Option LockKind} None (Some Exclusive) → ⊥
-      none_some clash = cc
-
       by : (b : Bool) → owes_at (owes_of (seats seat)) key ≡ b → b ≡ false
       by false is = refl
-      by true is = absurd (none_some (sym (ap (λ (ls : List Lock). kind_of ls (guard_of key)) (t.rows seat ∙ row))
+      by true is = absurd (none-some Exclusive
+          (sym (ap (λ (ls : List Lock). kind_of ls (guard_of key)) (t.rows seat ∙ row))
           ∙ owes_held hash s t.records pool locks t.change seat (seats seat) (t.rows seat) (t.calls seat) key is))
 
   uncounting : (c : IsStillToCount t.counter.next_id s seats) → c.seat ≢ seat
@@ -78,12 +76,10 @@ module _ {K : Type 0} (hash : RecordKey → ℕ) (base : State) (seat : ℕ) (ca
 
   sits : (i : ℕ) (a : ActiveView) → call_at without i ≡ Some a → caller_at old.callers i ≡ Some a.machine.caller
   sits i a at = elim (cases_eq i seat) [
-    | inl same ↦ absurd (none_some (sym (at_same old.seats seat None is.0 is.1) ∙ ap (call_at without) (sym same) ∙ at))
+    | inl same ↦ absurd (none-some a
+        (sym (at_same old.seats seat None is.0 is.1) ∙ ap (call_at without) (sym same) ∙ at))
     | inr apart ↦ led.sits i a (sym (at_other old.seats seat i None apart) ∙ at)
   ]
-    where
-      none_some : ◌≡◌ {A = Option ActiveView} None (Some a) → ⊥
-      none_some clash = cc
 
   module _ (sound : old.failed ≡ false) where
     abbrev counted_then : AreCounted hash led.now old
@@ -110,17 +106,9 @@ module _ {K : Type 0} (hash : RecordKey → ℕ) (base : State) (seat : ℕ) (ca
         ]
 
   withdrawn_led : Refines hash base (record old { seats = without })
-  withdrawn_led = record {
-    now = led.now;
-    leads = led.leads;
-    mark = led.mark;
-    callers = led.callers;
-    rows = led.rows ∙ sym (length-with_call old.seats seat None);
-    seated = led.seated ∙ sym (length-with_call old.seats seat None);
-    sits = sits;
-    together = λ sound. (counted_in hash led.now (record old { seats = without }) (counted_then sound).calls.change
-        (together sound) (counted_then sound).phase (counted sound)).all;
-  }
+  withdrawn_led = led_with hash base old (record old { seats = without }) led refl refl refl refl
+      (length-with_call old.seats seat None) sits (λ sound. (counted_in hash led.now (record old { seats = without })
+      (counted_then sound).calls.change (together sound) (counted_then sound).phase (counted sound)).all)
 
 pub withdraws_led : (K : Type 0) → WithdrawsRefine K
 withdraws_led K hash base seat call old new led went =
@@ -148,12 +136,9 @@ module _ (journal : List Entry) (seats : List (Option ActiveView)) where
       call_at outlast seat ≡ Some a → caller_at callers seat ≡ Some a.machine.caller
   same_callers callers sits seat a there = by (call_at seats seat) refl (sym (outlast_at journal seats seat) ∙ there)
     where
-      none_some : ◌≡◌ {A = Option ActiveView} None (Some a) → ⊥
-      none_some clash = cc
-
       by : (o : Option ActiveView) → call_at seats seat ≡ o → option_map (outlasting journal) o ≡ Some a →
           caller_at callers seat ≡ Some a.machine.caller
-      by None at is = absurd (none_some is)
+      by None at is = absurd (none-some a is)
       by (Some b) at is =
           let same : outlasting journal b ≡ a = cc in
           sits seat b at ∙ ap (λ (x : ActiveView). Some x.machine.caller) same
@@ -202,18 +187,6 @@ renews_led K hash base taken old new led renewed =
 
 pub fails_led : (K : Type 0) → FailuresRefine K
 fails_led K hash base fault old new led failed =
-    let still : Refines hash base (record old {
-      pool = new.pool;
-      failed = true;
-      failure = failure_of_pool fault;
-    }) = record {
-      now = led.now;
-      leads = led.leads;
-      mark = led.mark;
-      callers = led.callers;
-      rows = led.rows;
-      seated = led.seated;
-      sits = led.sits;
-      together = λ sound. absurd cc;
-    } in
-    subst (Refines hash base) (sym failed.is) still
+    subst (Refines hash base) (sym failed.is) (led_with hash base old
+    (record old { pool = new.pool; failed = true; failure = failure_of_pool fault }) led refl refl refl refl refl
+    led.sits (λ sound. absurd (true≢false sound)))

@@ -1,9 +1,9 @@
 -- Calls of several seats begin, end, and leave the file at rest.
 use Rattle.std.proofs.Common.{ℕ, ◌≡◌, ◌≢◌, inl, inr, refl, sym, ap, ◌∙◌, subst, Bool, true, false, List, [], Option, Some, None}
+use Rattle.std.proofs.lemmas.Option.{none-some}
 use Rattle.std.proofs.lemmas.Bool.{cases_eq}
 use Rattle.hash_file.proofs.Ties.{quiet_exact}
 use Rattle.hash_file.specs.Change.{Quiet}
-use Rattle.interleavings.proofs.LoneCallRestLemmas.{fresh_row, over_owes}
 use Rattle.interleavings.proofs.StopLemmas.{filed_still}
 use Rattle.call_decisions.proofs.OverlayLemmas.{overlaid_rest}
 use Rattle.page_locks.specs.Writers.{may_write}
@@ -13,12 +13,13 @@ use Rattle.interleavings.proofs.HoldLemmas.{begin_apart}
 use Rattle.step_rules.specs.Sound.{IsSoundWorld}
 use Rattle.type_chains.specs.Entries.{counter_of}
 use Rattle.interleavings.proofs.of_xsi_calls.IdleLemmas.{none_in}
-use Rattle.interleavings.proofs.of_xsi_calls.RowLemmas.{over_holds_nothing}
+use Rattle.interleavings.proofs.of_xsi_calls.Below.{owes_nothing_at_end}
+use Rattle.interleavings.proofs.of_xsi_calls.RowLemmas.{new_holds_nothing, over_holds_nothing}
 use Rattle.interleavings.specs.xsi_calls.Below.{owes_in}
 use Rattle.interleavings.specs.xsi_calls.Calling.{IsCallingAt}
 use Rattle.interleavings.specs.xsi_calls.Laws.{BeginRight}
-use Rattle.interleavings.specs.xsi_calls.Machine.{IsNew, owes_at as owes_of_call}
-use Rattle.interleavings.specs.xsi_calls.Words.{guard_of, kind_of}
+use Rattle.interleavings.specs.xsi_calls.Machine.{IsNew, IsOverAt, owes_at as owes_of_call}
+use Rattle.interleavings.specs.xsi_calls.Words.{guard_of, its_plan, kind_of}
 use Rattle.interleavings.specs.xsi_calls.declared.trials.Trials.{Trials}
 use Rattle.interleavings.specs.xsi_calls.Stages.{Undecided, Paying, Releasing}
 use Rattle.queue_records.specs.declared.record.Record.TheVariants as records_are
@@ -195,7 +196,7 @@ module _ (hash : RecordKey → ℕ) (seat : ℕ) (s : State) (m : CallView) (sea
 pub begin_together : BeginRight → BeginTogether
 begin_together begins hash seat caller call s m seats seats' pool locks t free caller_fits call_fits begun now others =
     exchanged hash seat s seats seats' pool locks t others
-    (ap locks_of now ∙ fresh_row m begun.new ∙ ap locks_of (sym free))
+    (ap locks_of now ∙ new_holds_nothing m begun.new ∙ ap locks_of (sym free))
     (λ key. ap (λ (o : Option CallView). overlaid (owes_of o) t.records key) free)
     (λ key. ap (λ (o : Option CallView). owes_at (owes_of o) key) now ∙ fresh_free m begun.new key)
     (subst (λ (o : Option CallView). IsWell hash seat s o t.records pool locks t.change) (sym now) (record {
@@ -205,12 +206,19 @@ begin_together begins hash seat caller call s m seats seats' pool locks t free c
       apart = subst (IsApartAt m.call m.undecided) (sym begun.new.stage)
           (begin_apart m.call m.undecided.questions begun.new.knows);
     }))
-    (λ c its. none_some (sym free ∙ ap seats (sym its) ∙ c.there))
-  where
-    none_some : {x : CallView} → ◌≡◌ {A = Option CallView} None (Some x) → ⊥
-    none_some clash = cc
+    (λ c its. none-some c.maker (sym free ∙ ap seats (sym its) ∙ c.there))
 
 -- ---- a call ends
+
+over_owes : (hash : RecordKey → ℕ) (seat : ℕ) (call : Call) (s : State) (u : UndecidedCall) (stage : Stage)
+    (records : Records) (pool : PoolState) (locks : Table) (change : Change) → IsOverAt call u stage →
+    IsCallingAt hash seat call s u stage records pool locks change → (key : RecordKey) →
+    overlaid (owes_of_call call u stage) records key ≡ records key
+over_owes hash seat call s u Undecided records pool locks change over is key = absurd over
+over_owes hash seat call s u (Paying v conclusion) records pool locks change over is key =
+    owes_nothing_at_end hash seat u.questions.names (its_plan call u.questions) v records pool locks change is.pays
+    over.0 key
+over_owes hash seat call s u (Releasing conclusion) records pool locks change over is key = refl
 
 module _ (hash : RecordKey → ℕ) (seat : ℕ) (s : State) (m : CallView) (seats : Seats) (pool : PoolState)
     (locks : Table) (t : AreTogether hash s seats pool locks) (there : seats seat ≡ Some m) (over : IsOver m) where

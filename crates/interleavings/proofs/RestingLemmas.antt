@@ -1,16 +1,18 @@
 -- A kernel opens at rest, and a call begins on it.
-use Rattle.std.proofs.Common.{ℕ, refl, ◌≡◌, ◌≤◌, sym, ap, ◌∙◌, subst, Option, Some, length, arith, Bool, true, false, [], ◌∷◌, ◌++◌}
-use Rattle.queue_model.specs.declared.entry.Entry.TheVariants.{Stopped}
-use Rattle.interleavings.proofs.CloseLemmas.{closes_at_rest}
+use Rattle.std.proofs.Common.{ℕ, refl, ◌≡◌, ◌≤◌, sym, ap, ◌∙◌, subst, Option, Some, length, arith, Bool, true, false}
+use Rattle.std.proofs.lemmas.Option.{none-some}
+use Rattle.interleavings.proofs.CloseLemmas.{closes_flushed}
 use Rattle.interleavings.proofs.OpenedOpenLemmas.{opens_at_rest}
-use Rattle.interleavings.specs.LoneCallLaws.{BeginsAtRest, StopsAtRest}
+use Rattle.interleavings.specs.ConcurrentLaws.{BeginTogether}
 use Rattle.interleaving_core.proofs.BeginLemmas.{idle_at}
 use Rattle.interleaving_core.proofs.KernelLemmas.{as_many}
 use Rattle.interleaving_core.proofs.PlaceLemmas.{Seats, at_other, at_same}
-use Rattle.interleavings.specs.LoneKernelWords.{Call, Caller, HasCall, HaveFewSteps, IsFileAtRest, IsSeat, IsStopped, IsWhole, KernelState, PoolState, RecordKey, State, Table, call_at, store_of, with_call}
+use Rattle.interleavings.specs.LoneKernelWords.{Call, Caller, HasCall, HaveFewSteps, IsFileAtRest, IsSeat, IsWhole, KernelState, PoolState, RecordKey, State, Table, call_at, store_of, with_call}
 use Rattle.interleavings.specs.Lone.{RestsOver, ServesOver}
 use Rattle.interleavings.specs.LoneKernelLaws.{BeginsOnAKernel, ClosesAKernel, OpensAKernel, RefusesAtRest, StopsAKernel}
-use Rattle.interleavings.proofs.WaitLemmas.{awake_apart, awake_goes, undecided_no_wait, undecided_yet}
+use Rattle.interleavings.proofs.DriveLemmas.{new_so}
+use Rattle.interleavings.proofs.LoneCallLemmas.{begins_alone, stops_at_rest}
+use Rattle.interleavings.proofs.WaitLemmas.{awake_goes}
 
 -- ---- it is opened
 
@@ -35,17 +37,7 @@ opens_a_kernel K hash keys content honest callers frames k opened true_to_it s f
 
 pub closes_a_kernel : (K : Type 0) → ClosesAKernel K
 closes_a_kernel K hash s content k rests flushed =
-    closes_at_rest hash s k.pool (record k.pool { stored = content }) k.locks rests.file (record {
-      written = flushed.images;
-      keeps = record {
-        images = λ _. refl;
-        pinned = λ page _. refl;
-        as_many = refl;
-        frames = refl;
-        honest = refl;
-        seals = λ _ _. flushed.seals;
-      };
-    })
+    closes_flushed hash s k.pool k.locks content rests.file flushed
 
 -- ---- a call begins
 
@@ -54,7 +46,7 @@ pub within_seats : {K : Type 0} (seat : ℕ) (k : KernelState K) → IsWhole k �
     seat ≤ length k.seats
 within_seats seat k whole is = let many = as_many k whole in let last = is.1 in omega (arith, many, last)
 
-module _ (begins : BeginsAtRest) (few : HaveFewSteps) {K : Type 0} (hash : RecordKey → ℕ) (seat : ℕ) (call : Call)
+module _ (begins : BeginTogether) (few : HaveFewSteps) {K : Type 0} (hash : RecordKey → ℕ) (seat : ℕ) (call : Call)
     (s : State) (old new : KernelState K) (whole : IsWhole old) (rests : RestsOver hash s old)
     (is : IsSeat old.locks seat) (has : HasCall seat call old new) where
   abbrev changed : KernelState K
@@ -64,13 +56,12 @@ module _ (begins : BeginsAtRest) (few : HaveFewSteps) {K : Type 0} (hash : Recor
   serves = record {
     active = has.active;
     there = at_same old.seats seat (Some has.active) is.0 (within_seats seat old whole is);
-    served = begins hash seat has.caller call s has.active.machine old.pool old.locks rests.file is
+    served = begins_alone hash s old.pool old.locks rests.file begins seat has.caller call has.active.machine is
         (whole.fitting seat has.caller has.sits) has.fits has.begun.begins;
     few = few has.active.machine (store_of old.pool.images) has.begun.begins.new;
     waits = λ stays. absurd (awake_goes has.active.wait has.active.machine.call old.journal has.begun.awake stays);
-    asleep = λ since some. absurd (awake_apart has.active.wait since has.begun.awake some);
-    quiet = λ waits. absurd (undecided_no_wait has.active.machine has.begun.begins.new waits);
-    decided = λ some. absurd (undecided_yet has.active.machine has.begun.begins.new some);
+    asleep = λ since some. absurd (none-some since (sym has.begun.awake ∙ some));
+    quiet = new_so has.active old.journal has.begun.begins.new;
     others = λ other apart. at_other old.seats seat other (Some has.active) apart ∙ rests.idle other;
     sound = rests.sound;
     mark = rests.mark;
@@ -79,7 +70,7 @@ module _ (begins : BeginsAtRest) (few : HaveFewSteps) {K : Type 0} (hash : Recor
   pub serves_begun : ServesOver hash seat has.caller call s new
   serves_begun = subst (ServesOver hash seat has.caller call s) (sym has.is) serves
 
-pub begins_on_a_kernel : BeginsAtRest → HaveFewSteps → (K : Type 0) → BeginsOnAKernel K
+pub begins_on_a_kernel : BeginTogether → HaveFewSteps → (K : Type 0) → BeginsOnAKernel K
 begins_on_a_kernel begins few K hash seat caller call s old new whole rests is sits has =
     let both : ◌≡◌ {A = Option Caller} (Some has.caller) (Some caller) = sym has.sits ∙ sits in
     let same : has.caller ≡ caller = cc in
@@ -100,30 +91,14 @@ refuses_at_rest K hash seat call s refusal old new rests refused =
 
 -- ---- it is stopped
 
-module _ (stops : StopsAtRest) {K : Type 0} (hash : RecordKey → ℕ) (s : State) (old new : KernelState K)
-    (rests : RestsOver hash s old) (stop : IsStopped old new) where
-  abbrev then : State
-  then = record s { stopped = true }
+pub stops_a_kernel : (K : Type 0) → StopsAKernel K
+stops_a_kernel K hash s old new rests stop = by old.stopped refl
+  where
+    file : IsFileAtRest hash (record s { stopped = true }) old.pool old.locks
+    file = stops_at_rest hash s old.pool old.locks rests.file true
 
-  again : old.stopped ≡ true → RestsOver hash then old
-  again is = record {
-    file = stops hash s true old.pool old.locks rests.file;
-    idle = rests.idle;
-    sound = rests.sound;
-    mark = sym is;
-  }
-
-  first : RestsOver hash then (record old { journal = old.journal ++ Stopped ∷ []; stopped = true; room = new.room })
-  first = record {
-    file = stops hash s true old.pool old.locks rests.file;
-    idle = rests.idle;
-    sound = rests.sound;
-    mark = refl;
-  }
-
-  pub stopped_by : (b : Bool) → old.stopped ≡ b → RestsOver hash then new
-  stopped_by true is = subst (RestsOver hash then) (sym (stop.again is)) (again is)
-  stopped_by false is = subst (RestsOver hash then) (sym (stop.first is)) first
-
-pub stops_a_kernel : StopsAtRest → (K : Type 0) → StopsAKernel K
-stops_a_kernel stops K hash s old new rests stop = stopped_by stops hash s old new rests stop old.stopped refl
+    by : (b : Bool) → old.stopped ≡ b → RestsOver hash (record s { stopped = true }) new
+    by true is = subst (RestsOver hash (record s { stopped = true })) (sym (stop.again is))
+        (record { file = file; idle = rests.idle; sound = rests.sound; mark = sym is })
+    by false is = subst (RestsOver hash (record s { stopped = true })) (sym (stop.first is))
+        (record { file = file; idle = rests.idle; sound = rests.sound; mark = refl })

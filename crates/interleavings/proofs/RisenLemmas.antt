@@ -1,7 +1,6 @@
 -- Where a step of a kernel that is led fails, a transfer of its device has.
-use Rattle.std.proofs.Common.{ℕ, zero, suc, ◌≡◌, ◌≤◌, inl, inr, refl, sym, ap, ◌∙◌, subst, Bool, true, false, ◌||◌, List, [], ◌∷◌, Option, Some, None, length, arith}
+use Rattle.std.proofs.Common.{ℕ, zero, suc, ◌≡◌, ◌≤◌, inl, inr, refl, sym, ap, ◌∙◌, subst, Bool, true, false, ◌||◌, List, [], Option, Some, None, length, arith}
 use Rattle.std.proofs.lemmas.Bool.{cases_lt}
-use Rattle.std.proofs.lemmas.List.Elements.{All-head, All-nil, All-cons, All-tail}
 use Rattle.page_device.specs.Device.{HasRisen}
 use Rattle.interleaving_core.specs.Owing.{is_failure}
 use Rattle.interleaving_core.specs.declared.fault.StepFault.TheVariants as faults
@@ -16,7 +15,8 @@ use Rattle.interleavings.specs.declared.event.Event.TheVariants as events
 use Rattle.interleavings.specs.declared.event.Outcome.{Outcome}
 use Rattle.interleavings.specs.declared.event.Outcome.TheVariants as outcomes
 use Rattle.step_rules.specs.Words.{Change}
-use Rattle.interleavings.proofs.EventLemmas.{event_keeps}
+use Rattle.interleavings.proofs.EventLemmas.{along, event_keeps}
+use Rattle.interleavings.proofs.ScheduleLemmas.{one_leads}
 use Rattle.interleavings.proofs.UnderWayLemmas.{drive_fails, stop_same}
 
 -- ---- the count of faults
@@ -40,13 +40,8 @@ module _ {K : Type 0} (does : StepsRefineAndDo K) (hash : RecordKey → ℕ) (ba
   told_risen : (a : ActiveView) (did : Step) (before behind : Change) (old new : KernelState K) →
       DoesBy hash base seat a did before behind old new → is_failure did ≡ true →
       HasRisen old.pool.faults new.pool.faults
-  told_risen a (steps.Moved kind) before behind old new is fails = absurd cc
-  told_risen a (steps.Blocked other) before behind old new is fails = absurd cc
-  told_risen a steps.Waiting before behind old new is fails = absurd cc
-  told_risen a (steps.Answered answer) before behind old new is fails = absurd cc
-  told_risen a steps.Idle before behind old new is fails = absurd cc
   told_risen a (steps.Fault (faults.File fault)) before behind old new is fails = is.device.risen
-  told_risen a (steps.Fault faults.NoRoom) before behind old new is fails = absurd cc
+  told_risen a _ before behind old new is fails = absurd cc
 
   pub step_risen : (did : Step) (old new : KernelState K) → Refines hash base old → IsStep hash seat did old new →
       old.failed ≡ false → is_failure did ≡ true → HasRisen old.pool.faults new.pool.faults
@@ -80,35 +75,6 @@ drive_risen drives hash base seat did old new is led driven sound broken =
 
 -- ---- events
 
-module _ {K : Type 0} (hash : RecordKey → ℕ) where
-  event_later : (e : Event) (o : Outcome) (old new : KernelState K) → Happens hash e o old new →
-      old.pool.faults ≤ new.pool.faults
-  event_later (events.Begin seat call) outcomes.Begun old new has =
-      let same = ap (λ (k : KernelState K). k.pool.faults) has.is in
-      omega (arith, same)
-  event_later (events.Begin seat call) (outcomes.Refused back fault) old new refused =
-      let same = ap (λ (k : KernelState K). k.pool.faults) refused.same in
-      omega (arith, same)
-  event_later (events.Step seat) (outcomes.Stepped did) old new step = step.turn.run.rest.later
-  event_later (events.Drive seat) (outcomes.Driven did) old new drives = drives.run.rest.later
-  event_later events.Stop outcomes.Stopped old new stops =
-      let same = stop_same (λ (k : KernelState K). k.pool.faults) old new stops (λ journal room. refl) old.stopped
-      refl in
-      omega (arith, same)
-  event_later _ _ old new never = absurd never
-
-  pub later_along : (es : List Event) (os : List Outcome) (old new : KernelState K) → Runs hash es os old new →
-      old.pool.faults ≤ new.pool.faults
-  later_along [] [] old new same =
-      let same_count = ap (λ (k : KernelState K). k.pool.faults) same in
-      omega (arith, same_count)
-  later_along [] (o ∷ os) old new never = absurd never
-  later_along (e ∷ es) [] old new never = absurd never
-  later_along (e ∷ es) (o ∷ os) old new runs =
-      let first = event_later e o old runs.between runs.first in
-      let rest = later_along es os runs.between new runs.rest in
-      omega (arith, first, rest)
-
 -- where a kernel fails by some of these events, a transfer has failed
 module _ {K : Type 0} (does : StepsRefineAndDo K) (drives : DrivesEnd K) (lead : EventsRefine K) (hash : RecordKey → ℕ)
     (base : State) where
@@ -135,39 +101,31 @@ module _ {K : Type 0} (does : StepsRefineAndDo K) (drives : DrivesEnd K) (lead :
       old.stopped refl) ∙ broken)
   event_risen _ _ old new is led never sound broken = absurd never
 
+  -- it refines the system still, and where a step has failed since the count of faults was so, a transfer has
+  record HasRisenSince (first : ℕ) (k : KernelState K) : Type 0 where
+    pub led : Refines hash base k
+    pub later : first ≤ k.pool.faults
+    pub risen : k.failed ≡ true → HasRisen first k.pool.faults
+
+  risen_on : (first : ℕ) (e : Event) (o : Outcome) (old new : KernelState K) → IsOfSeat (length old.locks) e →
+      Happens hash e o old new → HasRisenSince first old → HasRisenSince first new
+  risen_on first e o old new is happens so = record {
+    led = one_leads lead hash base e o old new is happens so.led;
+    later = let before = so.later in omega (arith, before, more);
+    risen = λ broken. by broken old.failed refl;
+  }
+    where
+      more : old.pool.faults ≤ new.pool.faults
+      more = (event_keeps hash e o old new happens).later
+
+      by : new.failed ≡ true → (b : Bool) → old.failed ≡ b → HasRisen first new.pool.faults
+      by broken true was = risen_within (omega arith) so.later more (so.risen was)
+      by broken false sound = risen_within so.later more (omega arith)
+          (event_risen e o old new is so.led happens sound broken)
+
   pub risen_along : (es : List Event) (os : List Outcome) (old new : KernelState K) →
       AreOfSeats (length old.locks) es → Refines hash base old → Runs hash es os old new → old.failed ≡ false →
       new.failed ≡ true → HasRisen old.pool.faults new.pool.faults
-  risen_along [] [] old new are led same sound broken =
-      not_both old.failed sound (sym (ap (λ (k : KernelState K). k.failed) same) ∙ broken)
-  risen_along [] (o ∷ os) old new are led never sound broken = absurd never
-  risen_along (e ∷ es) [] old new are led never sound broken = absurd never
-  risen_along (e ∷ es) (o ∷ os) old new are led runs sound broken =
-      by runs.between.failed refl (λ sound_between. risen_along es os runs.between new are_rest led_between runs.rest
-      sound_between broken)
-    where
-      first : IsOfSeat (length old.locks) e
-      first = All-head (IsOfSeat (length old.locks)) e es are
-
-      led_between : Refines hash base runs.between
-      led_between = lead hash base (e ∷ []) (o ∷ []) old runs.between
-          (All-cons (IsOfSeat (length old.locks)) e [] first (All-nil (IsOfSeat (length old.locks)))) led
-          (record { between = runs.between; first = runs.first; rest = refl })
-
-      are_rest : AreOfSeats (length runs.between.locks) es
-      are_rest = subst (λ (n : ℕ). AreOfSeats n es)
-          (sym (event_keeps hash e o old runs.between runs.first).seats)
-          (All-tail (IsOfSeat (length old.locks)) e es are)
-
-      earlier : old.pool.faults ≤ runs.between.pool.faults
-      earlier = event_later hash e o old runs.between runs.first
-
-      later : runs.between.pool.faults ≤ new.pool.faults
-      later = later_along hash es os runs.between new runs.rest
-
-      by : (b : Bool) → runs.between.failed ≡ b →
-          (runs.between.failed ≡ false → HasRisen runs.between.pool.faults new.pool.faults) →
-          HasRisen old.pool.faults new.pool.faults
-      by true is rest = risen_within (omega arith) earlier later
-          (event_risen e o old runs.between first led runs.first sound is)
-      by false is rest = risen_within earlier later (omega arith) (rest is)
+  risen_along es os old new are led runs sound broken =
+      (along hash (HasRisenSince old.pool.faults) (risen_on old.pool.faults) es os old new are runs
+      (record { led = led; later = omega arith; risen = not_both old.failed sound })).risen broken

@@ -1,9 +1,10 @@
 -- A call lacks room only where it has found none, at a step of the events so far.
 use Rattle.std.proofs.Common.{ℕ, zero, suc, ◌≡◌, ◌≤◌, ◌⊎◌, ◌==◌, inl, inr, refl, sym, ap, ◌∙◌, subst, Bool, true, false, true≢false, ◌&&◌, ◌||◌, List, [], ◌∷◌, Option, Some, None, length, arith}
+use Rattle.std.proofs.lemmas.Option.{same_Some}
 use Rattle.std.specs.List.{list_any}
 use Rattle.std.proofs.lemmas.Bool.{eqb-false, eqb-true}
-use Rattle.std.proofs.lemmas.List.Elements.{All-cons, All-head, All-nil, All-tail}
-use Rattle.interleavings.proofs.LoneCallCauseLemmas.{fresh_room}
+use Rattle.std.proofs.lemmas.List.Elements.{All-head}
+use Rattle.interleavings.proofs.LackingLemmas.{fresh_room}
 use Rattle.interleaving_core.proofs.PlaceLemmas.{at_other, at_same}
 use Rattle.interleaving_core.proofs.RunLemmas.{others_stay}
 use Rattle.interleaving_core.specs.Owing.{is_failure}
@@ -18,10 +19,10 @@ use Rattle.interleavings.specs.declared.event.Event.{Event}
 use Rattle.interleavings.specs.declared.event.Event.TheVariants as events
 use Rattle.interleavings.specs.declared.event.Outcome.{Outcome}
 use Rattle.interleavings.specs.declared.event.Outcome.TheVariants as outcomes
-use Rattle.interleavings.proofs.DoingLemmas.{one_there}
-use Rattle.interleavings.proofs.EventLemmas.{event_keeps}
+use Rattle.interleavings.proofs.EventLemmas.{rows_behind}
 use Rattle.interleavings.proofs.OutcomeLemmas.{fails_along}
-use Rattle.interleavings.proofs.ScheduleLemmas.{moves_led}
+use Rattle.interleavings.proofs.ScheduleLemmas.{moves_led, one_leads}
+use Rattle.interleavings.proofs.SettleLemmas.{and_false}
 use Rattle.interleavings.proofs.UnderWayLemmas.{stop_same}
 
 -- the call at a seat lacks room
@@ -50,10 +51,6 @@ or_second false b is = is
 
 none_of : (a b : Bool) → a ≡ false → b ≡ false → (a || b) ≡ false
 none_of a b is none = ap (λ (x : Bool). x || b) is ∙ none
-
-and_false : (b : Bool) → (b && false) ≡ false
-and_false true = refl
-and_false false = refl
 
 -- ---- a step
 
@@ -187,7 +184,7 @@ module _ {K : Type 0} (does : StepsRefineAndDo K) (steps : StepsRefine K) (hash 
           let own = ap (λ (x : List (Option ActiveView)). call_at x seat) seats
           ∙ ap (call_at (with_call old.seats other (Some has.active))) (sym (eqb-true other seat here))
           ∙ at_same old.seats other (Some has.active) is.0 is.1 in
-          let same = one_there has.active lacks.active (sym own ∙ lacks.there) in
+          let same = same_Some has.active lacks.active (sym own ∙ lacks.there) in
           absurd (true≢false (sym (ap (λ (x : ActiveView). lacks_room x.machine) same ∙ lacks.lacked)
           ∙ fresh_room has.active.machine has.begun.begins.new))
       by false apart = record {
@@ -256,7 +253,8 @@ module _ {K : Type 0} (does : StepsRefineAndDo K) (steps : StepsRefine K) (lead 
   finds_along [] (o ∷ os) old new are led never sound lacks = absurd never
   finds_along (e ∷ es) [] old new are led never sound lacks = absurd never
   finds_along (e ∷ es) (o ∷ os) old new are led runs sound lacks =
-      elim (finds_along es os runs.between new are_rest led_between runs.rest sound lacks) [
+      elim (finds_along es os runs.between new (rows_behind hash e es o old runs.between runs.first are)
+      (one_leads lead hash base e o old runs.between first runs.first led) runs.rest sound lacks) [
         | inl earlier ↦ elim (event_finds does steps hash base seat e o old runs.between first led runs.first
             sound_between earlier.at) [
               | inl before ↦ inl (record {
@@ -294,16 +292,6 @@ module _ {K : Type 0} (does : StepsRefineAndDo K) (steps : StepsRefine K) (lead 
     where
       first : IsOfSeat (length old.locks) e
       first = All-head (IsOfSeat (length old.locks)) e es are
-
-      led_between : Refines hash base runs.between
-      led_between = lead hash base (e ∷ []) (o ∷ []) old runs.between
-          (All-cons (IsOfSeat (length old.locks)) e [] first (All-nil (IsOfSeat (length old.locks)))) led
-          (record { between = runs.between; first = runs.first; rest = refl })
-
-      are_rest : AreOfSeats (length runs.between.locks) es
-      are_rest = subst (λ (n : ℕ). AreOfSeats n es)
-          (sym (event_keeps hash e o old runs.between runs.first).seats)
-          (All-tail (IsOfSeat (length old.locks)) e es are)
 
       sound_between : runs.between.failed ≡ false
       sound_between = or_first runs.between.failed (list_any tells_failure os)

@@ -91,7 +91,7 @@ guards theirs bare (names_are.Queue id) there = (key_of_queue id, refl)
 guards theirs bare names_are.Directory there = absurd (let clash = sym bare.directory ∙ there in cc)
 guards theirs bare (names_are.Page n) there = absurd (let clash = sym (bare.pages n) ∙ there in cc)
 
-none_is : {X : Type 0} (o : Option X) → o ≡ None → IsSome o → ⊥
+pub none_is : {X : Type 0} (o : Option X) → o ≡ None → IsSome o → ⊥
 none_is None none some = absurd cc
 none_is (Some x) none some = absurd cc
 

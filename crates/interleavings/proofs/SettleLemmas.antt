@@ -21,7 +21,7 @@ use Rattle.interleavings.proofs.SameLemmas.{same_system}
 
 -- ---- a call that writes nothing
 
-and_false : (b : Bool) → (b && false) ≡ false
+pub and_false : (b : Bool) → (b && false) ≡ false
 and_false true = refl
 and_false false = refl
 
@@ -64,7 +64,7 @@ nothing_or_not p = by p.trials p.slots refl refl
     by [] (o ∷ os) first second =
         inr (λ is. absurd (let clash = sym second ∙ ap (λ (x : Plan). x.slots) is in cc))
 
-as_good_itself : (call : Call) (q : QuestionsView) (s : State) → IsFiled s → IsAsGood call q s s
+pub as_good_itself : (call : Call) (q : QuestionsView) (s : State) → IsFiled s → IsAsGood call q s s
 as_good_itself call q s filed = record {
   filed = filed;
   records = λ key under. refl;

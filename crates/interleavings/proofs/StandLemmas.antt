@@ -20,7 +20,7 @@ use Rattle.xsi_calls.specs.declared.trials.Trials.{Trials}
 use Rattle.xsi_calls.specs.declared.undecided.UndecidedCall.{UndecidedCall}
 use Rattle.xsi_calls.specs.Stages.{Stage, Undecided, Paying, Releasing}
 use Rattle.interleavings.specs.LoneCallWords.{Blocked, Call, CallView, Change, FileFault, PoolState, Progress, RecordKey, Records, StandsAt, State, Table, call_locks, is_fault, row_of, store_of}
-use Rattle.interleavings.proofs.LoneCallPlaceLemmas.{names_aside}
+use Rattle.interleavings.proofs.SeesLemmas.{names_aside}
 
 -- ---- a step that writes no record
 

@@ -2,7 +2,8 @@
 use Rattle.std.proofs.Common.{◌≡◌, inl, inr, ap, Bool, Some}
 use Rattle.queue_model.proofs.EffectLemmas.{Effect, Effect-outcome}
 use Rattle.queue_model.proofs.LawfulLemmas.{IsLawful-Effect}
-use Rattle.queue_model.specs.declared.answer.Answer.TheVariants.{Id, Sent, Received, Info, Done, Refused}
+use Rattle.queue_model.specs.Lawful.{IsLawful}
+use Rattle.queue_model.specs.declared.answer.Answer.TheVariants.{Sent, Received, Done}
 use Rattle.queue_model.specs.declared.call.Call.TheVariants.{Get, Send, Receive, Stat, Set, Remove}
 use Rattle.type_chains.proofs.Fitting.{keeps_fitting}
 use Rattle.interleavings.specs.LoneCallWords.{Answer, Call, Caller, HasFittingCall, HasFittingCaller, IsFiled, State, outcome}
@@ -16,26 +17,14 @@ stopped_by : (c : Caller) (call : Call) (a : Answer) (s t : State) → Effect c 
 stopped_by c (Get x) a s t (inl same) = marked s t same
 stopped_by c (Get x) a s t (inr made) = ap (λ (u : State). u.stopped) made.after
 stopped_by c (Send x) (Sent serial) s t did = ap (λ (u : State). u.stopped) did.changes.after
-stopped_by c (Send x) (Id n) s t same = marked s t same
-stopped_by c (Send x) (Received m) s t same = marked s t same
-stopped_by c (Send x) (Info i) s t same = marked s t same
-stopped_by c (Send x) Done s t same = marked s t same
-stopped_by c (Send x) (Refused e) s t same = marked s t same
+stopped_by c (Send x) _ s t same = marked s t same
 stopped_by c (Receive x) (Received m) s t did = ap (λ (u : State). u.stopped) did.changes.after
-stopped_by c (Receive x) (Id n) s t same = marked s t same
-stopped_by c (Receive x) (Sent n) s t same = marked s t same
-stopped_by c (Receive x) (Info i) s t same = marked s t same
-stopped_by c (Receive x) Done s t same = marked s t same
-stopped_by c (Receive x) (Refused e) s t same = marked s t same
+stopped_by c (Receive x) _ s t same = marked s t same
 stopped_by c (Stat id) a s t same = marked s t same
 stopped_by c (Set x) a s t (inl same) = marked s t same
 stopped_by c (Set x) a s t (inr did) = ap (λ (u : State). u.stopped) did.changes.after
 stopped_by c (Remove id) Done s t did = ap (λ (u : State). u.stopped) did.after
-stopped_by c (Remove id) (Id n) s t same = marked s t same
-stopped_by c (Remove id) (Sent n) s t same = marked s t same
-stopped_by c (Remove id) (Received m) s t same = marked s t same
-stopped_by c (Remove id) (Info i) s t same = marked s t same
-stopped_by c (Remove id) (Refused e) s t same = marked s t same
+stopped_by c (Remove id) _ s t same = marked s t same
 
 pub keeps_stopped : (c : Caller) (call : Call) (a : Answer) (s t : State) → outcome c call s ≡ Some (a, t) →
     t.stopped ≡ s.stopped
@@ -50,16 +39,16 @@ keeps_filed c call a s t caller fitting rules filed = record {
 
 -- ---- with another stop mark
 
-pub filed_still : (s : State) (stopped : Bool) → IsFiled s → IsFiled (record s { stopped = stopped })
-filed_still s stopped filed = record {
-  lawful = record {
-    few_queues = filed.lawful.few_queues;
-    id_begun = filed.lawful.id_begun;
-    ids_end = filed.lawful.ids_end;
-    queues_lawful = filed.lawful.queues_lawful;
-    ids_given = filed.lawful.ids_given;
-    ids_ascend = filed.lawful.ids_ascend;
-    keys_apart = filed.lawful.keys_apart;
-  };
-  fits = filed.fits;
+pub lawful_still : (s : State) (stopped : Bool) → IsLawful s → IsLawful (record s { stopped = stopped })
+lawful_still s stopped l = record {
+  few_queues = l.few_queues;
+  id_begun = l.id_begun;
+  ids_end = l.ids_end;
+  queues_lawful = l.queues_lawful;
+  ids_given = l.ids_given;
+  ids_ascend = l.ids_ascend;
+  keys_apart = l.keys_apart;
 }
+
+pub filed_still : (s : State) (stopped : Bool) → IsFiled s → IsFiled (record s { stopped = stopped })
+filed_still s stopped filed = record { lawful = lawful_still s stopped filed.lawful; fits = filed.fits }

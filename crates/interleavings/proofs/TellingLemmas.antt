@@ -1,5 +1,6 @@
 -- What a seat is told of an event that waits or is blocked, beside the journal as it then stands.
 use Rattle.std.proofs.Common.{ℕ, zero, suc, ◌≡◌, ◌≢◌, inl, inr, refl, sym, ap, ◌∙◌, subst, Bool, true, false, true≢false, IsSome, List, [], ◌∷◌, Option, Some, None, drop, length, option_map, take}
+use Rattle.std.proofs.lemmas.Option.{none-some, same_Some}
 use Rattle.std.specs.Prelude.{slice_get}
 use Rattle.page_locks.specs.Locks.{is_against, kind_of}
 use Rattle.page_locks.specs.Table.{Opposes, held}
@@ -25,7 +26,6 @@ use Rattle.interleavings.specs.declared.event.Event.{Event}
 use Rattle.interleavings.specs.declared.event.Event.TheVariants as events
 use Rattle.interleavings.specs.declared.event.Outcome.{Outcome}
 use Rattle.interleavings.specs.declared.event.Outcome.TheVariants as outcomes
-use Rattle.interleavings.proofs.EventLemmas.{event_keeps}
 use Rattle.interleavings.proofs.ScheduleLemmas.{moves_led}
 use Rattle.interleavings.proofs.UnderWayLemmas.{call_on, drive_leaves, turn_leaves}
 use Rattle.interleavings.proofs.WaitingLemmas.{AreFounded, founded_there}
@@ -42,23 +42,17 @@ pub record HasEvent {K : Type 0} (hash : RecordKey → ℕ) (many : ℕ) (es : L
   pub through : Runs hash (take (suc many) es) (take (suc many) os) old behind
   pub rest : Runs hash (drop (suc many) es) (drop (suc many) os) behind new
 
-pub some_same : {X : Type 0} (x y : X) → ◌≡◌ {A = Option X} (Some x) (Some y) → x ≡ y
-some_same x y is = cc
-
-none_some : {X : Type 0} (x : X) → ◌≡◌ {A = Option X} None (Some x) → ⊥
-none_some x is = cc
-
 pub event_at : {K : Type 0} (hash : RecordKey → ℕ) (many : ℕ) (es : List Event) (os : List Outcome) (e : Event)
     (o : Outcome) (old new : KernelState K) → Runs hash es os old new → slice_get es many ≡ Some e →
     slice_get os many ≡ Some o → HasEvent hash many es os e o old new
-event_at hash many [] os e o old new runs is_e is_o = absurd (none_some e is_e)
+event_at hash many [] os e o old new runs is_e is_o = absurd (none-some e is_e)
 event_at hash many (x ∷ es) [] e o old new never is_e is_o = absurd never
 event_at hash zero (x ∷ es) (y ∷ os) e o old new runs is_e is_o = record {
   before = old;
   behind = runs.between;
   first = refl;
-  happens = subst (λ (f : Event). Happens hash f o old runs.between) (some_same x e is_e)
-      (subst (λ (p : Outcome). Happens hash x p old runs.between) (some_same y o is_o) runs.first);
+  happens = subst (λ (f : Event). Happens hash f o old runs.between) (same_Some x e is_e)
+      (subst (λ (p : Outcome). Happens hash x p old runs.between) (same_Some y o is_o) runs.first);
   through = record { between = runs.between; first = runs.first; rest = refl };
   rest = runs.rest;
 }
@@ -118,7 +112,7 @@ module _ {K : Type 0} (hash : RecordKey → ℕ) (base : State) (seat : ℕ) (ol
 -- ---- it is blocked
 
 -- whoever stands in the way holds a lock
-record HoldsSome (seat other : ℕ) (t : Table) : Type 0 where
+pub record HoldsSome (seat other : ℕ) (t : Table) : Type 0 where
   pub another : other ≢ seat
   pub some : row_of t other ≡ [] → ⊥
 
@@ -133,7 +127,7 @@ module _ (seat other : ℕ) (w : World) where
         true≢false (sym opposes.against ∙ free);
   }
 
-  stands_by : (ask : Option Ask) → StandsInWay ask seat other w → HoldsSome seat other w.locks
+  pub stands_by : (ask : Option Ask) → StandsInWay ask seat other w → HoldsSome seat other w.locks
   stands_by None stands = absurd stands
   stands_by (Some (ForLock name kind)) stands = opposes_by name kind stands
   stands_by (Some (ForEntry depth k)) stands = absurd stands
@@ -201,15 +195,6 @@ module _ {K : Type 0} (does : StepsRefineAndDo K) (hash : RecordKey → ℕ) (ba
 
 -- ---- whatever it is told
 
--- no event changes how many seats there are
-pub rows_along : {K : Type 0} (hash : RecordKey → ℕ) (es : List Event) (os : List Outcome) (old new : KernelState K) →
-    Runs hash es os old new → length new.locks ≡ length old.locks
-rows_along {K} hash [] [] old new same = ap (λ (k : KernelState K). length k.locks) same
-rows_along hash [] (o ∷ os) old new never = absurd never
-rows_along hash (e ∷ es) [] old new never = absurd never
-rows_along hash (e ∷ es) (o ∷ os) old new runs =
-    rows_along hash es os runs.between new runs.rest ∙ (event_keeps hash e o old runs.between runs.first).seats
-
 module _ {K : Type 0} (does : StepsRefineAndDo K) (steps : StepsRefine K) (hash : RecordKey → ℕ) (base : State)
     (callers : List Caller) (under_way : ℕ → Option Call) (old new : KernelState K) (led : Refines hash base old)
     (led_on : Refines hash base new) (founded : AreFounded base new) (same : new.callers ≡ callers)
@@ -246,11 +231,4 @@ module _ {K : Type 0} (does : StepsRefineAndDo K) (steps : StepsRefine K) (hash 
   told_by_event (events.Drive seat) (outcomes.Driven did) is drives = told_drive seat did is drives.driven
   told_by_event (events.Begin seat call) o is happens = tt
   told_by_event events.Stop o is happens = tt
-  told_by_event (events.Step seat) outcomes.Begun is never = absurd never
-  told_by_event (events.Step seat) (outcomes.Refused back fault) is never = absurd never
-  told_by_event (events.Step seat) (outcomes.Driven did) is never = absurd never
-  told_by_event (events.Step seat) outcomes.Stopped is never = absurd never
-  told_by_event (events.Drive seat) outcomes.Begun is never = absurd never
-  told_by_event (events.Drive seat) (outcomes.Refused back fault) is never = absurd never
-  told_by_event (events.Drive seat) (outcomes.Stepped did) is never = absurd never
-  told_by_event (events.Drive seat) outcomes.Stopped is never = absurd never
+  told_by_event _ _ is never = absurd never

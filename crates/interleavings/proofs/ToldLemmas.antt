@@ -1,9 +1,10 @@
 -- A step of a seat of a kernel that is led from a system: the kernel is led on, and what the step does is what its seat
 -- is told, also where its call begins anew within it.
 use Rattle.std.proofs.Common.{ℕ, ◌≡◌, ◌≤◌, inl, inr, refl, sym, ap, ◌∙◌, subst, Bool, true, false, Option, Some, None, length, arith}
+use Rattle.std.proofs.lemmas.Option.{same_Some}
 use Rattle.std.proofs.lemmas.Bool.{true≢false}
 use Rattle.interleavings.specs.ConcurrentLaws.{BeginTogether, EndTogether, StepTogether}
-use Rattle.interleavings.proofs.LoneCallCauseLemmas.{fresh_room}
+use Rattle.interleavings.proofs.LackingLemmas.{fresh_room}
 use Rattle.page_device.specs.Device.{HasRisen}
 use Rattle.step_rules.specs.Turns.{DoesTied, StandsInWay}
 use Rattle.interleaving_core.proofs.AnewLemmas.{begins_from, ends_waiting, over_waits, waits_from, woken_from}
@@ -20,7 +21,7 @@ use Rattle.interleavings.specs.Words.{ActiveView, IsOver, IsSeat, IsTurn, Kernel
 use Rattle.interleavings.specs.Doing.{DoesBy, FindsNoRoom, LeavesAll, turn_of}
 use Rattle.interleavings.specs.Refining.{Refines}
 use Rattle.interleavings.specs.Laws.{RefinesOn, StepsRefineAndDo, StepsRefine}
-use Rattle.interleavings.proofs.DoingLemmas.{LeadsDoing, one_there}
+use Rattle.interleavings.proofs.DoingLemmas.{LeadsDoing}
 use Rattle.interleavings.proofs.TurnLemmas.{led_on, waits_on}
 
 -- ---- what was so of a kernel that is left as it was
@@ -173,7 +174,7 @@ module _ (steps : StepTogether) (ends : EndTogether) (begins : BeginTogether) {K
                     (subst (λ (d : Step). DoesBy hash base seat anew.again d phase_then leads.behind then new)
                     waits.told_is leads.does));
                 lacks = λ come left sound_still room lacks.
-                    let same = one_there _ come (sym waits.left_is ∙ left) in
+                    let same = same_Some _ come (sym waits.left_is ∙ left) in
                     absurd (true≢false (sym (ap (λ (x : ActiveView). lacks_room x.machine) same ∙ lacks)
                     ∙ again_room));
               };

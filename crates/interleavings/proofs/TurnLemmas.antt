@@ -1,5 +1,6 @@
 -- A kernel that is led from a system stays so after a step of a seat.
-use Rattle.std.proofs.Common.{ℕ, ◌≡◌, ◌≤◌, ◌⊎◌, inl, inr, refl, sym, ap, ◌∙◌, subst, Bool, true, false, ◌||◌, List, [], Option, Some, None, IsSome, length}
+use Rattle.std.proofs.Common.{ℕ, ◌≡◌, ◌≤◌, ◌⊎◌, inl, inr, refl, sym, ap, ◌∙◌, subst, Bool, true, false, List, [], Option, Some, None, IsSome, length}
+use Rattle.std.proofs.lemmas.Option.{none-some, same_Some}
 use Rattle.std.proofs.Math.Path.{fun_ext}
 use Rattle.std.proofs.lemmas.Bool.{cases_eq, true≢false}
 use Rattle.interleavings.specs.ConcurrentLaws.{AreTheOthers, AreTogetherIn, BeginTogether, EndTogether, LeadTogether, StepTogether}
@@ -291,21 +292,15 @@ module _ (steps : StepTogether) (ends : EndTogether) (begins : BeginTogether) {K
       same_caller : call_at new.seats seat ≡ Some come → (x : ActiveView) → call_at new.seats seat ≡ Some x →
           x.machine.caller ≡ a.machine.caller
       same_caller left x at =
-          let both : ◌≡◌ {A = Option ActiveView} (Some come) (Some x) = sym left ∙ at in
-          let its : come ≡ x = cc in
-          sym (ap (λ (y : ActiveView). y.machine.caller) its) ∙ turn.makes.aim.caller
+          sym (ap (λ (y : ActiveView). y.machine.caller) (same_Some come x (sym left ∙ at))) ∙ turn.makes.aim.caller
 
       -- or that has begun anew
       over_caller : (waits : Bool) → IsLeftWhenOver waits come (call_at new.seats seat) → (x : ActiveView) →
           call_at new.seats seat ≡ Some x → x.machine.caller ≡ a.machine.caller
       over_caller true (again, left, begun) x at =
-          let both : ◌≡◌ {A = Option ActiveView} (Some again) (Some x) = sym left ∙ at in
-          let its : again ≡ x = cc in
-          sym (ap (λ (y : ActiveView). y.machine.caller) its) ∙ begun.begins.caller_is ∙ turn.makes.aim.caller
-      over_caller false left x at = absurd (none_some (sym left ∙ at))
-        where
-          none_some : ◌≡◌ {A = Option ActiveView} None (Some x) → ⊥
-          none_some clash = cc
+          sym (ap (λ (y : ActiveView). y.machine.caller) (same_Some again x (sym left ∙ at)))
+          ∙ begun.begins.caller_is ∙ turn.makes.aim.caller
+      over_caller false left x at = absurd (none-some x (sym left ∙ at))
 
       pub led_on : LeadsDoing hash base seat a did before.change old new
       led_on = by turn.did refl turn.left_is

@@ -1,5 +1,5 @@
 -- The call that a seat has under way, and whether the journal has a stop, told by the outcomes of events.
-use Rattle.std.proofs.Common.{ℕ, zero, suc, ◌≡◌, ◌≢◌, ◌⊎◌, ◌↔◌, inl, inr, refl, sym, ap, ◌∙◌, subst, ◌==◌, Bool, true, false, ◌||◌, if◌then◌else◌, List, [], ◌∷◌, ◌++◌, Option, Some, None, length, arith}
+use Rattle.std.proofs.Common.{ℕ, zero, suc, ◌≡◌, ◌↔◌, inl, inr, refl, sym, ap, ◌∙◌, subst, ◌==◌, Bool, true, false, ◌||◌, if◌then◌else◌, List, [], ◌∷◌, ◌++◌, Option, Some, None, length, arith}
 use Rattle.std.specs.List.{list_any}
 use Rattle.std.proofs.lemmas.Bool.{eqb-false, eqb-true}
 use Rattle.std.proofs.lemmas.List.Elements.{All-head, All-tail}
@@ -8,7 +8,7 @@ use Rattle.std.specs.Prelude.{sum_by}
 use Rattle.file_pages.specs.declared.fault.FileFault.{FileFault}
 use Rattle.file_pages.specs.declared.fault.FileFault.TheVariants.{Failed}
 use Rattle.interleaving_core.proofs.PartLemmas.{AreOf, added_is_of}
-use Rattle.interleaving_core.proofs.PlaceLemmas.{at_other, at_same, length-with_call}
+use Rattle.interleaving_core.proofs.PlaceLemmas.{at_other, at_same}
 use Rattle.interleaving_core.specs.Fault.{IsOfPage}
 use Rattle.interleaving_core.specs.Owing.{IsMove, failed, is_end, is_failure, told_of_failure}
 use Rattle.interleaving_core.specs.declared.fault.StepFault.TheVariants as faults
@@ -22,6 +22,7 @@ use Rattle.interleavings.specs.declared.event.Event.{Event}
 use Rattle.interleavings.specs.declared.event.Event.TheVariants as events
 use Rattle.interleavings.specs.declared.event.Outcome.{Outcome}
 use Rattle.interleavings.specs.declared.event.Outcome.TheVariants as outcomes
+use Rattle.interleavings.proofs.EventLemmas.{event_keeps}
 
 -- the call of a seat
 abbrev pub call_on : {K : Type 0} → ℕ → KernelState K → Option Call
@@ -36,7 +37,7 @@ pub told_where : (at : Option ActiveView) → (call_of at ≡ None → ⊥) → 
 told_where None there = absurd (there refl)
 told_where (Some a) there = refl
 
--- ---- so many places
+-- ---- what a stop leaves
 
 pub stop_same : {K : Type 0} {X : Type 0} (get : KernelState K → X) (old new : KernelState K) → IsStopped old new →
     ((journal : List Entry) (room : ℕ) → get (record old { journal = journal; stopped = true; room = room })
@@ -44,20 +45,6 @@ pub stop_same : {K : Type 0} {X : Type 0} (get : KernelState K → X) (old new :
     (b : Bool) → old.stopped ≡ b → get new ≡ get old
 stop_same get old new stops kept true is = ap get (stops.again is)
 stop_same get old new stops kept false is = ap get (stops.first is) ∙ kept (old.journal ++ Stopped ∷ []) new.room
-
-pub event_places : {K : Type 0} (hash : RecordKey → ℕ) (e : Event) (o : Outcome) (old new : KernelState K) →
-    Happens hash e o old new → length new.seats ≡ length old.seats
-event_places {K} hash (events.Begin seat call) outcomes.Begun old new has =
-    ap (λ (k : KernelState K). length k.seats) has.is ∙ length-with_call old.seats seat (Some has.active)
-event_places {K} hash (events.Begin seat call) (outcomes.Refused back fault) old new is =
-    ap (λ (k : KernelState K). length k.seats) is.same
-event_places hash (events.Step seat) (outcomes.Stepped did) old new step =
-    ap length step.turn.run.seats ∙ length-with_call old.seats seat (call_at new.seats seat)
-event_places hash (events.Drive seat) (outcomes.Driven did) old new drives =
-    ap length drives.run.seats ∙ length-with_call old.seats seat (call_at new.seats seat)
-event_places {K} hash events.Stop outcomes.Stopped old new stops =
-    stop_same (λ (k : KernelState K). length k.seats) old new stops (λ journal room. refl) old.stopped refl
-event_places hash _ _ old new never = absurd never
 
 -- ---- a step, and a drive
 
@@ -216,7 +203,7 @@ module _ {K : Type 0} (hash : RecordKey → ℕ) where
   pub seats_behind : (e : Event) (es : List Event) (o : Outcome) (old new : KernelState K) → Happens hash e o old new →
       AreOfSeats (length old.seats) (e ∷ es) → AreOfSeats (length new.seats) es
   seats_behind e es o old new happens are =
-      subst (λ (n : ℕ). AreOfSeats n es) (sym (event_places hash e o old new happens))
+      subst (λ (n : ℕ). AreOfSeats n es) (sym (event_keeps hash e o old new happens).places)
       (All-tail (IsOfSeat (length old.seats)) e es are)
 
   pub leaves_along : (seat : ℕ) (es : List Event) (os : List Outcome) (old new : KernelState K) →
@@ -316,42 +303,3 @@ marked_along hash (e ∷ es) (o ∷ os) old new runs =
       stopped = rest.stopped ∙ ap (λ (b : Bool). b || list_any is_stop es) first.stopped
           ∙ or_or old.stopped (is_stop e) (list_any is_stop es);
     }
-
--- ---- who sits at the seats, and whether the device is honest
-
-pub record KeepsPlaces {K : Type 0} (old new : KernelState K) : Type 0 where
-  pub callers : new.callers ≡ old.callers
-  pub honest : new.pool.honest ≡ old.pool.honest
-
-same_places : {K : Type 0} (old new : KernelState K) → new.callers ≡ old.callers →
-    new.pool.honest ≡ old.pool.honest → KeepsPlaces old new
-same_places old new callers honest = record { callers = callers; honest = honest }
-
-event_keeps_places : {K : Type 0} (hash : RecordKey → ℕ) (e : Event) (o : Outcome) (old new : KernelState K) →
-    Happens hash e o old new → KeepsPlaces old new
-event_keeps_places {K} hash (events.Begin seat call) outcomes.Begun old new has =
-    same_places old new (ap (λ (k : KernelState K). k.callers) has.is)
-    (ap (λ (k : KernelState K). k.pool.honest) has.is)
-event_keeps_places {K} hash (events.Begin seat call) (outcomes.Refused back fault) old new refused =
-    same_places old new (ap (λ (k : KernelState K). k.callers) refused.same)
-    (ap (λ (k : KernelState K). k.pool.honest) refused.same)
-event_keeps_places hash (events.Step seat) (outcomes.Stepped did) old new step =
-    same_places old new step.turn.run.rest.callers step.turn.run.rest.honest
-event_keeps_places hash (events.Drive seat) (outcomes.Driven did) old new drives =
-    same_places old new drives.run.rest.callers drives.run.rest.honest
-event_keeps_places {K} hash events.Stop outcomes.Stopped old new stops =
-    same_places old new
-    (stop_same (λ (k : KernelState K). k.callers) old new stops (λ journal room. refl) old.stopped refl)
-    (stop_same (λ (k : KernelState K). k.pool.honest) old new stops (λ journal room. refl) old.stopped refl)
-event_keeps_places hash _ _ old new never = absurd never
-
-pub places_along : {K : Type 0} (hash : RecordKey → ℕ) (es : List Event) (os : List Outcome)
-    (old new : KernelState K) → Runs hash es os old new → KeepsPlaces old new
-places_along {K} hash [] [] old new same =
-    same_places old new (ap (λ (k : KernelState K). k.callers) same) (ap (λ (k : KernelState K). k.pool.honest) same)
-places_along hash [] (o ∷ os) old new never = absurd never
-places_along hash (e ∷ es) [] old new never = absurd never
-places_along hash (e ∷ es) (o ∷ os) old new runs =
-    let first = event_keeps_places hash e o old runs.between runs.first in
-    let rest = places_along hash es os runs.between new runs.rest in
-    same_places old new (rest.callers ∙ first.callers) (rest.honest ∙ first.honest)

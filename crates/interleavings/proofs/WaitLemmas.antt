@@ -5,35 +5,21 @@ use Rattle.std.proofs.lemmas.Bool.{or_right}
 use Rattle.std.proofs.lemmas.List.{drop-append-le}
 use Rattle.std.proofs.lemmas.List.Folds.{list_any-append}
 use Rattle.queue_model.specs.declared.entry.Entry.TheVariants.{Stopped}
-use Rattle.interleavings.specs.LoneCallLaws.{BeginsAtRest, StopsAtRest}
+use Rattle.interleavings.specs.ConcurrentLaws.{BeginTogether}
 use Rattle.interleaving_core.specs.Waiting.{is_woken, queue_on, wakes}
 use Rattle.interleaving_core.specs.Words.{Entry}
-use Rattle.interleaving_core.specs.xsi_calls.Machine.{IsNew, conclusion_at}
-use Rattle.interleavings.specs.LoneKernelWords.{ActiveView, Call, CallView, Caller, IsFileAtRest, IsStopped, KernelState, RecordKey, State, conclusion_of, is_waiting, stays_waiting}
+use Rattle.interleavings.specs.LoneKernelWords.{ActiveView, Call, Caller, HasFittingCall, HasFittingCaller, IsFileAtRest, IsStopped, KernelState, RecordKey, State, stays_waiting}
 use Rattle.interleavings.specs.Lone.{IsAsleep, ServesOver}
 use Rattle.interleavings.specs.LoneKernelLaws.{StopsAWaitingCall}
-
-pub none_apart : {A : Type 0} (x : Option A) → x ≡ None → IsSome x → ⊥
-none_apart None none some = cc
-none_apart (Some a) none some = cc
+use Rattle.interleavings.proofs.DriveLemmas.{new_so}
+use Rattle.interleavings.proofs.LoneCallLemmas.{begins_alone, fits, stops_at_rest}
 
 -- ---- a call that does not wait
-
-pub awake_apart : (wait : Option ℕ) (since : ℕ) → wait ≡ None → wait ≡ Some since → ⊥
-awake_apart None since none some = cc
-awake_apart (Some n) since none some = cc
 
 pub awake_goes : (wait : Option ℕ) (call : Call) (journal : List Entry) → wait ≡ None →
     stays_waiting wait call journal ≡ true → ⊥
 awake_goes None call journal none stays = cc
 awake_goes (Some since) call journal none stays = cc
-
--- a new one has decided nothing
-pub undecided_yet : (m : CallView) → IsNew m → IsSome (conclusion_of m) → ⊥
-undecided_yet m new some = none_apart (conclusion_of m) (ap conclusion_at new.stage) some
-
-pub undecided_no_wait : (m : CallView) → IsNew m → is_waiting (conclusion_of m) ≡ true → ⊥
-undecided_no_wait m new waits = true≢false (sym waits ∙ ap is_waiting (ap conclusion_at new.stage))
 
 -- ---- what a longer journal leaves
 
@@ -56,7 +42,7 @@ module _ (call : Call) (since : ℕ) (journal : List Entry) (within : since ≤ 
 
 -- ---- it is stopped
 
-module _ (begins : BeginsAtRest) (stops : StopsAtRest) {K : Type 0} (hash : RecordKey → ℕ) (seat : ℕ)
+module _ (begins : BeginTogether) {K : Type 0} (hash : RecordKey → ℕ) (seat : ℕ)
     (caller : Caller) (call : Call) (s : State) (old new : KernelState K)
     (serves : ServesOver hash seat caller call s old) (stop : IsStopped old new) where
   abbrev then : State
@@ -69,12 +55,15 @@ module _ (begins : BeginsAtRest) (stops : StopsAtRest) {K : Type 0} (hash : Reco
   again is = subst (λ (t : State). ServesOver hash seat caller call t old)
       (ap (λ (b : Bool). record s { stopped = b }) (serves.mark ∙ is)) serves
 
+  its : HasFittingCaller caller × HasFittingCall call
+  its = fits hash seat caller call s a.machine old.pool old.locks serves.served.lone
+
   module _ (since : ℕ) (is : a.wait ≡ Some since) where
     asleep : IsAsleep hash caller call s a.machine since old
     asleep = serves.asleep since is
 
     file : IsFileAtRest hash then old.pool old.locks
-    file = stops hash s true old.pool old.locks asleep.file
+    file = stops_at_rest hash s old.pool old.locks asleep.file true
 
     -- it begins over the file at rest with the stopped system
     first : ServesOver hash seat caller call then
@@ -82,8 +71,8 @@ module _ (begins : BeginsAtRest) (stops : StopsAtRest) {K : Type 0} (hash : Reco
     first = record {
       active = a;
       there = serves.there;
-      served = begins hash seat caller call then a.machine old.pool old.locks file serves.served.lone.seated
-          serves.served.lone.caller_fits serves.served.lone.call_fits asleep.begins;
+      served = begins_alone hash then old.pool old.locks file begins seat caller call a.machine
+          serves.served.lone.seated its.0 its.1 asleep.begins;
       few = serves.few;
       waits = λ stays. absurd (stop_wakes a.machine.call since old.journal asleep.within a.wait is stays);
       asleep = λ n some. record {
@@ -91,8 +80,7 @@ module _ (begins : BeginsAtRest) (stops : StopsAtRest) {K : Type 0} (hash : Reco
         file = file;
         within = still_within n old.journal (Stopped ∷ []) (serves.asleep n some).within;
       };
-      quiet = λ waits. absurd (undecided_no_wait a.machine asleep.begins.new waits);
-      decided = λ some. still_within a.decided old.journal (Stopped ∷ []) (serves.decided some);
+      quiet = new_so a (old.journal ++ Stopped ∷ []) asleep.begins.new;
       others = serves.others;
       sound = serves.sound;
       mark = refl;
@@ -106,7 +94,7 @@ module _ (begins : BeginsAtRest) (stops : StopsAtRest) {K : Type 0} (hash : Reco
   stopped_by (Some since) is some false mark =
       subst (ServesOver hash seat caller call then) (sym (stop.first mark)) (first since is)
 
-pub stops_a_waiting_call : BeginsAtRest → StopsAtRest → (K : Type 0) → StopsAWaitingCall K
-stops_a_waiting_call begins stops K hash seat caller call s old new over stop =
-    stopped_by begins stops hash seat caller call s old new over.serves stop over.serves.active.wait refl over.told
+pub stops_a_waiting_call : BeginTogether → (K : Type 0) → StopsAWaitingCall K
+stops_a_waiting_call begins K hash seat caller call s old new over stop =
+    stopped_by begins hash seat caller call s old new over.serves stop over.serves.active.wait refl over.told
     old.stopped refl

@@ -18,6 +18,7 @@ use Rattle.interleaving_core.specs.xsi_calls.declared.conclusion.Conclusion.TheV
 use Rattle.interleaving_core.specs.declared.step.Step.TheVariants as told
 use Rattle.interleavings.specs.Words.{ActiveView, Call, CallView, Caller, Entry, FileFault, IsOver, KernelState, PoolState, Progress, RecordKey, State, Step, Table, after, answer_of_call, call_at, conclusion_of, outcome}
 use Rattle.interleavings.specs.Doing.{DoesAsTold, DoesBy}
+use Rattle.interleavings.proofs.SeatNameLemmas.{none_is}
 
 -- ---- what is so of a call
 
@@ -45,10 +46,6 @@ founded_there base k seat a there founded = subst (IsFoundedAt base k.callers k.
 
 pub new_undecided : (m : CallView) → IsNew m → conclusion_of m ≡ None
 new_undecided m new = ap (λ (s : Stage). conclusion_at s) new.stage
-
-pub none_some : {X : Type 0} (o : Option X) → o ≡ None → IsSome o → ⊥
-none_some None none some = cc
-none_some (Some x) none some = cc
 
 module _ (base : State) (callers : List Caller) where
   -- beside a journal that has grown
@@ -130,7 +127,7 @@ module _ (base : State) (callers : List Caller) (hash : RecordKey → ℕ) (seat
 
       was_put_off : WasPutOff t.come → Unanswered t.come (take t.come.decided (journal ++ added))
       was_put_off (inl waits) = waits_now (conclusion_of a.machine) refl waits
-      was_put_off (inr some) = absurd (none_some t.come.wait t.marked.awake some)
+      was_put_off (inr some) = absurd (none_is t.come.wait t.marked.awake some)
 
   -- it is left so, unless it is over
   left_founded : did ≢ told.Waiting → IsFounded base callers journal' t.come → IsFoundedAt base callers journal' left

@@ -10,13 +10,13 @@ pub mod DecisionLaws
 pub mod AlikeLaws
 pub mod LoneCallWords
 pub mod Serving
-pub mod LoneCallLaws
-pub mod LoneKernelWords
-pub mod Lone
-pub mod LoneKernelLaws
 pub mod ConcurrentWords
 pub mod Together
 pub mod ConcurrentLaws
+pub mod LoneCalls
+pub mod LoneKernelWords
+pub mod Lone
+pub mod LoneKernelLaws
 pub mod Words
 pub mod Runs
 pub mod Counting

@@ -1,5 +1,6 @@
 -- A kernel over a system, with no call under way or with one. docs/STEPS.md, "Calls".
-use Rattle.std.specs.Prelude.{ℕ, ◌≡◌, ◌≢◌, ◌≤◌, true, false, IsSome, Some, None, length}
+use Rattle.std.specs.Prelude.{ℕ, ◌≡◌, ◌≢◌, ◌≤◌, Bool, true, false, ◌&&◌, IsSome, List, Some, None, length}
+use Rattle.interleaving_core.specs.Words.{Entry}
 use Rattle.interleavings.specs.LoneKernelWords.{ActiveView, Begins, Call, CallView, Caller, IsFileAtRest, IsServed, KernelState, MOST_CALL_STEPS, RecordKey, State, call_at, call_left, conclusion_of, is_waiting, is_woken, outcome, stays_waiting, store_of}
 
 -- no call is under way, and the file is at rest with this system
@@ -20,6 +21,10 @@ pub record IsAsleep {K : Type 0} (hash : RecordKey → ℕ) (caller : Caller) (c
   -- the journal has so many
   pub within : since ≤ length k.journal
 
+-- it was decided to wait, and something has woken it since: it begins anew where it would wait
+abbrev pub is_to_begin_anew : ActiveView → List Entry → Bool
+is_to_begin_anew a journal = is_waiting (conclusion_of a.machine) && is_woken a.machine.call a.decided journal
+
 -- this caller's call over a system is under way on a seat, and no other call
 pub record ServesOver {K : Type 0} (hash : RecordKey → ℕ) (seat : ℕ) (caller : Caller) (call : Call) (s : State)
     (k : KernelState K) : Type 0 where
@@ -33,10 +38,7 @@ pub record ServesOver {K : Type 0} (hash : RecordKey → ℕ) (seat : ℕ) (call
   -- woken or not, where its seat was told so it has not begun anew yet
   pub asleep : (since : ℕ) → active.wait ≡ Some since → IsAsleep hash caller call s active.machine since k
   -- where it was decided to wait nothing has woken it since
-  pub quiet : is_waiting (conclusion_of active.machine) ≡ true →
-      is_woken active.machine.call active.decided k.journal ≡ false
-  -- once it has decided, the journal is no shorter than at its Decide
-  pub decided : IsSome (conclusion_of active.machine) → active.decided ≤ length k.journal
+  pub quiet : is_to_begin_anew active k.journal ≡ false
   pub others : (other : ℕ) → other ≢ seat → call_at k.seats other ≡ None
   pub sound : k.failed ≡ false
   pub mark : s.stopped ≡ k.stopped

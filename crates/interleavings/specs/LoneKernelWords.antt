@@ -3,7 +3,7 @@ pub use Rattle.step_rules.specs.queue_records.bucket_page.directory.page_device.
 pub use Rattle.interleavings.specs.OpenedLaws.{restarted}
 pub use Rattle.interleavings.specs.Resting.{IsFileAtRest}
 pub use Rattle.interleaving_core.specs.file_check.Whole.{IsFileOf}
-pub use Rattle.interleavings.specs.Serving.{FoundNoRoom, IsServed}
+pub use Rattle.interleavings.specs.LoneCalls.{FoundNoRoom, IsServed}
 pub use Rattle.interleavings.specs.LoneCallWords.{Answer, Begins, Call, CallView, Caller, Conclusion, FileFault, HasFittingCall, HasFittingCaller, IsOver, IsSeat, MakesCall, PoolState, Progress, RecordKey, State, Table, call_left, conclusion_of, outcome, store_of}
 pub use Rattle.interleaving_core.specs.Words.{caller_at}
 pub use Rattle.interleaving_core.specs.Active.{ActiveView, IsMarked, is_waiting}

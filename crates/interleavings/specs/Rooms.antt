@@ -1,6 +1,6 @@
 -- Why a seat is told that a record has no room: at a step of the run its call found none in the file as that then was.
 -- docs/STEPS.md, "Insert, Replace, Delete"; docs/FAULTS.md.
-use Rattle.std.specs.Prelude.{ℕ, suc, ◌≡◌, ◌≤◌, ◌+◌, ◌⊎◌, Bool, true, false, ◌&&◌, ◌||◌, List, [], ◌∷◌, Some, drop, slice_get, take}
+use Rattle.std.specs.Prelude.{ℕ, suc, ◌≡◌, ◌+◌, ◌⊎◌, Bool, true, false, ◌&&◌, ◌||◌, List, ◌∷◌, Some, drop, slice_get, take}
 use Rattle.step_rules.specs.declared.kind.Kind.{Kind}
 use Rattle.interleaving_core.specs.declared.step.Step.TheVariants as steps
 use Rattle.interleavings.specs.Words.{ActiveView, IsDriven, IsStep, KernelState, Moves, RecordKey, State, Step, call_at, lacks_room}

@@ -7,7 +7,6 @@
 mod concurrent_laws;
 mod event;
 mod laws;
-mod lone_call_laws;
 mod lone_kernel_laws;
 mod new_file_laws;
 mod opened_laws;
@@ -30,14 +29,10 @@ pub use laws::{
     drives_refine, events_refine, refusals_refine, seats_hold_their_names, steps_refine,
     stops_refine, what_is_owed_is_the_rest,
 };
-pub use lone_call_laws::{
-    a_call_begins_at_rest, a_call_ends_at_rest, a_file_at_rest_is_stopped, a_lone_call_goes_on,
-    a_lone_call_nears_its_end, a_lone_call_tells_its_system,
-};
 pub use lone_kernel_laws::{
     a_call_begins_on_a_kernel_at_rest, a_call_that_waits_is_stopped,
     a_kernel_at_rest_closes_on_its_file, a_kernel_at_rest_is_stopped, a_kernel_opens_at_rest,
-    a_lone_call_is_answered_by_the_rules, a_lone_drive_answers_by_the_rules,
+    a_lone_call_goes_on, a_lone_call_is_answered_by_the_rules, a_lone_drive_answers_by_the_rules,
     a_lone_step_answers_by_the_rules, a_refusal_leaves_a_kernel_at_rest,
 };
 pub use new_file_laws::a_new_file_has_no_queues;

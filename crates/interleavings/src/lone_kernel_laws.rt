@@ -1,10 +1,17 @@
-//! Laws of calls that are made one at a time on a kernel. The functions do nothing; their contracts
-//! are the laws.
+//! Laws of calls that are made one at a time, on a kernel. The functions do nothing; their
+//! contracts are the laws.
 
+ghost use Rattle.interleavings.specs.LoneCalls.{GoesOnAlone};
 ghost use Rattle.interleavings.specs.LoneKernelLaws.{AnswersByTheRules, AnswersLoneCalls, BeginsOnAKernel, ClosesAKernel, DrivesByTheRules, OpensAKernel, RefusesAtRest, StopsAKernel, StopsAWaitingCall};
 
-use crate::lone_call_laws::{a_call_begins_at_rest, a_file_at_rest_is_stopped};
+use crate::concurrent_laws::calls_begin_together;
 use interleaving_core::xsi_calls::calls_have_few_steps;
+
+/// A call that is made alone goes on: each step of it leaves fewer steps, unless it has ended or a
+/// transfer of the device failed; nobody blocks it; and it is served still, unless the step failed.
+pub fn a_lone_call_goes_on()
+    ensures { GoesOnAlone }
+{}
 
 /// A kernel that is opened over the file of a system rests over that system.
 pub fn a_kernel_opens_at_rest<K>()
@@ -15,7 +22,7 @@ pub fn a_kernel_opens_at_rest<K>()
 pub fn a_call_begins_on_a_kernel_at_rest<K>()
     ensures { BeginsOnAKernel K }
 {
-    a_call_begins_at_rest();
+    calls_begin_together();
     calls_have_few_steps();
 }
 
@@ -24,7 +31,7 @@ pub fn a_call_begins_on_a_kernel_at_rest<K>()
 pub fn a_lone_step_answers_by_the_rules<K>()
     ensures { AnswersByTheRules K }
 {
-    a_call_begins_at_rest();
+    calls_begin_together();
     calls_have_few_steps();
 }
 
@@ -33,7 +40,7 @@ pub fn a_lone_step_answers_by_the_rules<K>()
 pub fn a_lone_drive_answers_by_the_rules<K>()
     ensures { DrivesByTheRules K }
 {
-    a_call_begins_at_rest();
+    calls_begin_together();
     calls_have_few_steps();
 }
 
@@ -42,7 +49,7 @@ pub fn a_lone_drive_answers_by_the_rules<K>()
 pub fn a_lone_call_is_answered_by_the_rules<K>()
     ensures { AnswersLoneCalls K }
 {
-    a_call_begins_at_rest();
+    calls_begin_together();
     calls_have_few_steps();
 }
 
@@ -54,16 +61,13 @@ pub fn a_refusal_leaves_a_kernel_at_rest<K>()
 /// A kernel at rest that is stopped rests over the stopped system.
 pub fn a_kernel_at_rest_is_stopped<K>()
     ensures { StopsAKernel K }
-{
-    a_file_at_rest_is_stopped();
-}
+{}
 
 /// A call that waits on a kernel that is stopped is served over the stopped system.
 pub fn a_call_that_waits_is_stopped<K>()
     ensures { StopsAWaitingCall K }
 {
-    a_call_begins_at_rest();
-    a_file_at_rest_is_stopped();
+    calls_begin_together();
 }
 
 /// A kernel at rest that is closed leaves the file of its system on the device.

@@ -4,7 +4,8 @@ use Rattle.step_rules.specs.declared.kind.Kind.{Kind}
 use Rattle.step_rules.specs.declared.progress.Progress.TheVariants as progress
 use Rattle.bucket_page.specs.Pseudokeys.{sha_key}
 use Rattle.bucket_page.specs.declared.pseudokey.ShaKey.{ShaKey}
-use Rattle.interleavings.proofs.LoneCallCauseLemmas.{fresh_room}
+use Rattle.interleavings.proofs.LackingLemmas.{fresh_room}
+use Rattle.interleavings.proofs.LoneCallLemmas.{under_way}
 use Rattle.interleavings.specs.Serving.{lacks_by, lacks_room}
 use Rattle.interleavings.specs.LoneCallWords.{CallView, Change, Conclusion, FileFault, PoolState, Progress, Records, Table, call_owes, conclusion_of, has_no_room}
 use Rattle.interleaving_core.proofs.PlaceLemmas.{at_same, length-with_call, seat_of_call}
@@ -21,7 +22,7 @@ use Rattle.interleaving_core.specs.xsi_calls.Stages.{Paying, Releasing, Stage, U
 use Rattle.interleaving_core.specs.xsi_calls.Words.{Lock, Owes}
 use Rattle.interleaving_core.specs.xsi_calls.declared.conclusion.Conclusion.TheVariants as conclusions
 use Rattle.interleavings.proofs.LoneKernelStepLemmas.{never_woken}
-use Rattle.interleavings.proofs.WaitLemmas.{none_apart}
+use Rattle.interleavings.proofs.SeatNameLemmas.{none_is}
 use Rattle.interleavings.specs.LoneKernelLaws.{AnswersByTheRules}
 use Rattle.interleavings.specs.Lone.{ServesOver, WaitsOver}
 use Rattle.interleavings.specs.LoneKernelWords.{ActiveView, Call, Caller, HasCall, IsDriven, IsLeft, IsSeat, IsSpent, IsStopped, KernelState, MakesCall, State, Step, TakesTurn, call_at, is_waiting, stays_waiting, told_of, told_when_over}
@@ -67,7 +68,7 @@ module _ (seat : ℕ) (c : Caller) (call : Call) (s : State) where
   waiting_new k waits = by waits.serves.active.wait refl
     where
       by : (w : Option ℕ) → waits.serves.active.wait ≡ w → IsNew waits.serves.active.machine
-      by None none = absurd (none_apart waits.serves.active.wait none waits.told)
+      by None none = absurd (none_is waits.serves.active.wait none waits.told)
       by (Some since) some = (waits.serves.asleep since some).begins.new
 
   -- and where the system was stopped then
@@ -190,9 +191,11 @@ module _ (law : AnswersByTheRules ShaKey) (seat : ℕ) (c : Caller) (call : Call
     by_machine (progress.Moved k) come makes there told lacks =
         let same = same_call come then_served.active (sym there ∙ then_served.there) in
         let lone = way.served.served.lone in
-        let does = makes.step s lone.records lone.change lone.calls way.served.mark refl in
-        lacks_since seat s (progress.Moved k) was come.machine lone.records before.pool after.pool before.locks
-        after.locks lone.change makes.aim does way.cause (λ room full. record {
+        let calls = lone.together in
+        let does = makes.step lone.now calls.records calls.change
+        (under_way sha_key seat c call s was before.pool before.locks lone).calls (lone.mark ∙ way.served.mark) refl in
+        lacks_since seat lone.now (progress.Moved k) was come.machine calls.records before.pool after.pool before.locks
+        after.locks calls.change makes.aim does way.cause (λ room full. record {
           from = from;
           begins = begins;
           moves = moves;

@@ -4,7 +4,7 @@ use Rattle.std.proofs.lemmas.List.{length-replicate}
 use Rattle.interleavings.specs.Runs.{AreOfSeats}
 use Rattle.interleavings.specs.Words.{PoolState}
 use Rattle.interleavings.proofs.PlayedLemmas.{has_played, has_reason, plays_plain}
-use Rattle.interleavings.proofs.UnderWayLemmas.{places_along}
+use Rattle.interleavings.proofs.EventLemmas.{places_along}
 use Rattle.interleavings.proofs.playing.play_on.Goals as goal
 
 -- there is a row of locks for each caller

@@ -1,5 +1,0 @@
-use Rattle.interleavings.proofs.LoneCallGoLemmas.{goes_on_alone}
-use Rattle.interleavings.proofs.lone_call_laws.a_lone_call_goes_on.Goals as goal
-
-pub returns : goal.returns
-returns c = goes_on_alone
