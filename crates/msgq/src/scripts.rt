@@ -11,7 +11,7 @@ use msgq_cli::{
     unread,
 };
 use page_device::MemDevice;
-use replays::{MEMORY_PAGES, complain_of_ran, is_of_one_seat, script_text, serve_text};
+use replays::{MEMORY_PAGES, complain_of_ran, is_of_one_seat, script_in, serve_text};
 use rollback_journal::{Opening, open_in_turn};
 use std::fs::File;
 use std::io::{Eprint, IsTerminal, Read, Write};
@@ -42,13 +42,9 @@ where
     E: Write + IsTerminal,
 {
     // a wrong script is told before the file is opened
-    let text = match script_text(rt, script, output, errors) {
-        Ok(text) => text,
-        Err(ending) => return ending,
-    };
-    let script = match read_script(rt.alloc(), text.as_slice()) {
+    let script = match script_in(rt, script, output, errors) {
         Ok(script) => script,
-        Err(error) => return refuse(rt.alloc(), error, text.as_slice(), output, errors),
+        Err(ending) => return ending,
     };
     let device = match open_in_turn(rt, file) {
         Ok(device) => device,

@@ -3,14 +3,16 @@
 use crate::ending::Ran;
 use crate::texts::{Texts, refuse_schedule, replay_on};
 use msgq_cli::{
-    Ending, Failure, Output, Plain, STANDARD_INPUT, complain, complain_of_fault, complain_of_lines,
-    complain_of_refused, leave_unopened, read_file, read_fullness, read_script, refuse, unread,
+    Ending, Failure, Output, Plain, STANDARD_INPUT, Script, complain, complain_of_fault,
+    complain_of_lines, complain_of_refused, leave_unopened, read_file, read_fullness, read_script,
+    refuse, unread,
 };
 use numbers::faults;
 use numbers::faults::BUSY;
 use rollback_journal::safe_device::SafeDevice;
 use rollback_journal::{Opening, SystemPair, open_in_turn};
 use schedules::read_schedule;
+use std::alloc::Global;
 use std::fs::File;
 use std::io::Write;
 use std::rt::{Clock, Files};
@@ -116,12 +118,32 @@ fn is_busy(ending: Ending) -> bool {
     )
 }
 
+/// The script that is in a file or comes by standard input.
+///
+/// # Errors
+///
+/// How the run ends where it can't be read or is wrong: that was told.
+pub fn script_in<R, W, E>(
+    rt: &R,
+    name: &str,
+    output: &mut Output<W>,
+    errors: &mut E,
+) -> Result<Script, Ending>
+where
+    R: Files<File = File> + AllocGlobal + Input,
+    W: Write + Drop,
+    E: Write,
+{
+    let text = text_in(rt, name, output, errors)?;
+    script_of(rt.alloc(), text.as_slice(), name, output, errors)
+}
+
 /// The text of a script that is in a file or comes by standard input, once it is known to be one.
 ///
 /// # Errors
 ///
 /// How the run ends where it can't be read or is wrong: that was told.
-pub fn script_text<R, W, E>(
+fn script_text<R, W, E>(
     rt: &R,
     name: &str,
     output: &mut Output<W>,
@@ -132,17 +154,9 @@ where
     W: Write + Drop,
     E: Write,
 {
-    let text = match read_file(rt, name) {
-        Ok(text) => text,
-        Err(error) => return Err(unread(name, &error, output, errors)),
-    };
-    match read_script(rt.alloc(), text.as_slice()) {
-        Ok(_) => Ok(text),
-        Err(error) => {
-            let ending = refuse(rt.alloc(), error, text.as_slice(), output, errors);
-            Err(name_text(name, ending, errors))
-        }
-    }
+    let text = text_in(rt, name, output, errors)?;
+    let _ = script_of(rt.alloc(), text.as_slice(), name, output, errors)?;
+    Ok(text)
 }
 
 /// So of a schedule.
@@ -157,14 +171,50 @@ where
     W: Write + Drop,
     E: Write,
 {
-    let text = match read_file(rt, name) {
-        Ok(text) => text,
-        Err(error) => return Err(unread(name, &error, output, errors)),
-    };
+    let text = text_in(rt, name, output, errors)?;
     match read_schedule(rt.alloc(), text.as_slice()) {
         Ok(_) => Ok(text),
         Err(error) => {
             let ending = refuse_schedule(rt.alloc(), error, text.as_slice(), output, errors);
+            Err(name_text(name, ending, errors))
+        }
+    }
+}
+
+/// What is in a file or comes by standard input.
+fn text_in<R, W, E>(
+    rt: &R,
+    name: &str,
+    output: &mut Output<W>,
+    errors: &mut E,
+) -> Result<Vec<u8>, Ending>
+where
+    R: Files<File = File> + AllocGlobal + Input,
+    W: Write + Drop,
+    E: Write,
+{
+    match read_file(rt, name) {
+        Ok(text) => Ok(text),
+        Err(error) => Err(unread(name, &error, output, errors)),
+    }
+}
+
+/// The script that a text of this name spells.
+fn script_of<W, E>(
+    alloc: Global,
+    text: &[u8],
+    name: &str,
+    output: &mut Output<W>,
+    errors: &mut E,
+) -> Result<Script, Ending>
+where
+    W: Write + Drop,
+    E: Write,
+{
+    match read_script(alloc, text) {
+        Ok(script) => Ok(script),
+        Err(error) => {
+            let ending = refuse(alloc, error, text, output, errors);
             Err(name_text(name, ending, errors))
         }
     }

@@ -29,7 +29,7 @@ mod waiter;
 pub use deed::Deed;
 pub use desk::{Desk, at_desks, seats_of};
 pub use ending::{Ran, run, tell_end};
-pub use files::{Sources, complain_of_ran, replay_file, script_text};
+pub use files::{Sources, complain_of_ran, replay_file, script_in};
 pub use msgq_cli;
 pub use onlooker::{Onlooker, Sight};
 pub use opening::{FileKeys, leave_refused, open, open_kernel};

@@ -1,7 +1,7 @@
 //! Scripts run on files: the subcommand of the program.
 
-use crate::files::{complain_of_ran, script_text};
-use crate::serving::run_text_on;
+use crate::files::{complain_of_ran, script_in};
+use crate::serving::run_on;
 use msgq_cli::{Ending, Output, leave_unopened};
 use rollback_journal::{Opening, open_in_turn};
 use std::fs::File;
@@ -12,7 +12,7 @@ use std::rt::{Clock, Files};
 ///
 /// The script is read first: fault 20 or 60 alone where it can't be read, and nothing is run where
 /// it is wrong. Then the file is opened, and what a run that was cut off has left is undone:
-/// `fault N` alone where it is not. Then it is as `run_text_on` says.
+/// `fault N` alone where it is not. Then it is as `run_on` says.
 pub fn run_file<R, W, E>(
     rt: &R,
     file: Opening,
@@ -25,15 +25,15 @@ where
     W: Write + Drop,
     E: Write,
 {
-    // a wrong text is told before the file is opened
-    let text = match script_text(rt, script, output, errors) {
-        Ok(text) => text,
+    // a wrong script is told before the file is opened
+    let script = match script_in(rt, script, output, errors) {
+        Ok(script) => script,
         Err(ending) => return ending,
     };
     let device = match open_in_turn(rt, file) {
         Ok(device) => device,
         Err(error) => return leave_unopened(file.path, error, output, errors),
     };
-    let ran = run_text_on(rt.alloc(), device, text.as_slice(), output, errors);
+    let ran = run_on(rt.alloc(), device, &script, output);
     complain_of_ran(file.path, ran, output, errors)
 }
