@@ -14,7 +14,7 @@ use Rattle.page_locks.specs.Locks.{without}
 use Rattle.page_locks.specs.Table.{Table, row_of, with_row, with_lock, without_lock}
 use Rattle.page_locks.proofs.ChangeLemmas.{length-with_row, with_row-own, with_row-twice}
 use Rattle.page_locks.proofs.TableLemmas.{row_of-empty, row_of-other, row_of-same}
-use Rattle.record_file.specs.AccessRuns.{FindsAtOnce}
+use Rattle.record_file.specs.AccessRuns.{FindsAtOnce, ReachesAtOnce}
 use Rattle.record_file.specs.Accesses.{AccessView, access_locks}
 use Rattle.machine_trials.specs.declared.task.Task.{Task}
 use Rattle.machine_trials.specs.declared.task.Value.{Value}
@@ -76,6 +76,18 @@ row_skipped true seat old new pool t finds spares before =
     did.given before ∙ sym (did.bare before)
 row_skipped false seat old new pool t finds spares before =
     ap (λ (a : AccessView). access_locks a before) (spares refl)
+
+-- a write that has gone to its page in one go has the lock of that page; one that has made no step is what it was
+pub row_reached : (made : Bool) (seat : ℕ) (old new : AccessView) (pool : PoolState) (t t' : Table) →
+    (made ≡ true → ReachesAtOnce seat old new pool t t') → (made ≡ false → (new ≡ old) × (t' ≡ t)) →
+    (before : List Lock) → row_of t seat ≡ access_locks old before → t' ≡ with_row t seat (access_locks new before)
+row_reached true seat old new pool t t' reaches spares before row =
+    let did = reaches refl in
+    did.row ∙ ap (λ (r : List Lock). with_row t seat (access_locks new r)) (row ∙ did.bare before)
+row_reached false seat old new pool t t' reaches spares before row =
+    let same = spares refl in
+    same.1 ∙ sym (with_row-own t seat)
+    ∙ ap (with_row t seat) (row ∙ ap (λ (a : AccessView). access_locks a before) (sym same.0))
 
 -- a seat holds what its work says also where that makes its steps in one go
 pub holds_skipped : (w w' : Work) (v : Value) (guard : Option LockName) (row : List Lock) →

@@ -1,4 +1,4 @@
-//! Finds that make all their steps in one go, or none of them.
+//! Finds that make all their steps in one go, and writes that go to their page so, or make no step.
 
 use crate::files::{COUNTER, LONG, MOST_STEPS, count, key, new_file};
 use crate::merges::two_halves;
@@ -7,13 +7,21 @@ use crate::trial::Trial;
 use bucket_page::{NumberKey, RecordKey};
 use file_pages::FileFault;
 use page_device::MemDevice;
-use queue_records::{Counter, Record};
+use queue_records::{Counter, Link, Links, Record, TypeEntry, TypeLinks};
+use std::alloc::Global;
 use std::test::Fail;
-use step_rules::Kind::{Grant, Look, ReadDepth, ReadEntry, Release};
+use step_rules::Kind::{Grant, Look, ReadDepth, ReadEntry, Release, WriteRecord};
 use step_rules::{Kind, Progress};
+use xsi_inquiry::Write;
 
 /// The steps of a find that meets nobody.
 const STEPS: [Kind; 7] = [Grant, ReadDepth, ReadEntry, Grant, Release, Look, Release];
+
+/// The steps of a write up to where its page answers, if it meets nobody.
+const WAY: [Kind; 6] = [Grant, ReadDepth, ReadEntry, Grant, Release, Look];
+
+/// The pages of a new file that an operation reads.
+const READ: [u32; 3] = [0, 1, 257];
 
 /// The Counter of a new file.
 const NEW: Counter = Counter {
@@ -128,5 +136,162 @@ fn a_value_that_is_no_record_is_left_to_steps(rt: HostRuntime) -> Result<(), Fai
         )
     );
     assert_eq!(rt; trial.step(seat), Some(Progress::Fault(FileFault::Failed)));
+    Ok(())
+}
+
+// ---- writes
+
+/// A Type of the queue 9.
+const ENTRY: TypeEntry = TypeEntry {
+    id: 9,
+    mtype: 5,
+    first: 1,
+    last: 3,
+    lower: None,
+    higher: None,
+};
+
+/// What an access writes.
+#[derive(Clone, Copy)]
+enum Deed {
+    /// The Type is inserted.
+    Insert,
+    /// It gets another last message, and a type behind it.
+    Relink,
+    /// The Counter counts on.
+    Replace,
+    /// The Type goes.
+    Delete,
+}
+
+/// The seat that has begun it.
+fn begin(trial: &mut Trial<MemDevice, NumberKey>, deed: Deed) -> Option<u8> {
+    match deed {
+        Deed::Insert => trial.put(&Record::Type(ENTRY)),
+        Deed::Relink => {
+            let links = TypeLinks {
+                last: Some(4),
+                higher: Link::LeadsTo(7),
+                ..TypeLinks::default()
+            };
+            trial.write(ENTRY.key(), &Write::Relink(ENTRY.key(), Links::Type(links)))
+        }
+        Deed::Replace => {
+            let counter = Counter {
+                next_id: 2,
+                queues_alive: 1,
+            };
+            trial.write(COUNTER, &Write::Replace(Record::Counter(counter)))
+        }
+        Deed::Delete => trial.write(ENTRY.key(), &Write::Delete(ENTRY.key())),
+    }
+}
+
+/// A new file, of which these pages are in frames.
+fn framed(alloc: Global) -> Result<Trial<MemDevice, NumberKey>, Fail> {
+    let mut trial = new_file(alloc, NumberKey)?;
+    for page in READ {
+        trial.payload(page)?;
+    }
+    Ok(trial)
+}
+
+/// Whether a seat writes its record now, gives the page back, and has ended.
+fn writes(trial: &mut Trial<MemDevice, NumberKey>, seat: u8) -> bool {
+    makes(trial, seat, &[WriteRecord, Release]) && trial.step(seat) == Some(Progress::Ended)
+}
+
+/// One of two files has the writes that go to their page in one go, the other those that step there.
+#[test]
+fn a_write_in_one_go_leaves_what_its_steps_leave(rt: HostRuntime) -> Result<(), Fail> {
+    let mut trial = framed(rt.alloc())?;
+    let mut stepped = framed(rt.alloc())?;
+    let deeds = [Deed::Insert, Deed::Replace, Deed::Relink, Deed::Delete];
+    for (row, deed) in deeds.into_iter().enumerate() {
+        let (Some(seat), Some(other)) = (begin(&mut trial, deed), begin(&mut stepped, deed)) else {
+            panic!(rt; "row {row}: no seat");
+        };
+        assert!(rt; trial.reach(seat) == Some(true), "row {row}");
+        assert!(rt; trial.reach(seat) == Some(false), "row {row}: it has begun");
+        assert!(rt; makes(&mut stepped, other, &WAY), "row {row}");
+        assert!(rt;
+            writes(&mut trial, seat) && writes(&mut stepped, other),
+            "row {row}"
+        );
+        for page in READ {
+            assert!(rt;
+                trial.payload(page)? == stepped.payload(page)?,
+                "row {row}, page {page}"
+            );
+        }
+    }
+    Ok(())
+}
+
+/// An insert of a key that has a record gives its page back; what is written to a key that has none
+/// is a fault.
+#[test]
+fn a_write_that_can_not_be_made_is_left_to_steps(rt: HostRuntime) -> Result<(), Fail> {
+    let mut trial = framed(rt.alloc())?;
+    for (row, deed) in [Deed::Relink, Deed::Delete].into_iter().enumerate() {
+        let Some(seat) = begin(&mut trial, deed) else {
+            panic!(rt; "row {row}: no seat");
+        };
+        assert!(rt; trial.reach(seat) == Some(false), "row {row}");
+        assert!(rt;
+            makes(
+                &mut trial,
+                seat,
+                &[Grant, ReadDepth, ReadEntry, Grant, Release]
+            )
+        );
+        assert_eq!(rt; trial.step(seat), Some(Progress::Fault(FileFault::Failed)));
+        trial.renew(rt.alloc())?;
+    }
+    for at_once in [true, false] {
+        let Some(seat) = begin(&mut trial, Deed::Insert) else {
+            panic!(rt; "no seat");
+        };
+        assert_eq!(rt; trial.reach(seat), Some(at_once));
+        if at_once {
+            assert!(rt; writes(&mut trial, seat));
+        } else {
+            assert!(rt; makes(&mut trial, seat, &WAY) && makes(&mut trial, seat, &[Release]));
+        }
+    }
+    Ok(())
+}
+
+/// The page of the first one is held as if it had stepped there.
+#[test]
+fn a_write_in_one_go_holds_its_page(rt: HostRuntime) -> Result<(), Fail> {
+    let mut trial = framed(rt.alloc())?;
+    let (Some(first), Some(second)) = (
+        begin(&mut trial, Deed::Replace),
+        begin(&mut trial, Deed::Insert),
+    ) else {
+        panic!(rt; "no seat");
+    };
+    assert_eq!(rt; trial.reach(first), Some(true));
+    assert_eq!(rt; trial.reach(second), Some(false));
+    assert!(rt; makes(&mut trial, second, &[Grant, ReadDepth, ReadEntry]));
+    assert_eq!(rt; trial.step(second), Some(Progress::Blocked(first)));
+    assert!(rt; writes(&mut trial, first));
+    assert!(rt; makes(&mut trial, second, &[Grant, Release, Look]) && writes(&mut trial, second));
+    Ok(())
+}
+
+#[test]
+fn a_write_waits_for_each_of_its_pages_to_be_in_a_frame(rt: HostRuntime) -> Result<(), Fail> {
+    let mut trial = new_file(rt.alloc(), NumberKey)?;
+    let Some(seat) = begin(&mut trial, Deed::Replace) else {
+        panic!(rt; "no seat");
+    };
+    assert_eq!(rt; trial.reach(seat), Some(false));
+    for (page, at_once) in [(0, false), (1, false), (257, true)] {
+        trial.payload(page)?;
+        assert!(rt; trial.reach(seat) == Some(at_once), "page {page}");
+    }
+    assert!(rt; writes(&mut trial, seat));
     Ok(())
 }

@@ -112,6 +112,25 @@ impl Task {
         self.work.skip(pool, locks, seat)
     }
 
+    /// All steps of its work up to where it writes, in one go, where that can make them so.
+    pub fn reach<D: PageDevice>(
+        &mut self,
+        pool: &mut Pool<D>,
+        locks: &mut LockTable,
+        seat: u8,
+    ) -> bool
+        requires seat { IsSeat locks.old seat }
+        requires ready { IsReady pool.old }
+        requires holds { Holds (Some self.old) (row_of locks.old seat) }
+        ensures pool { pool.new ≡ pool.old }
+        ensures follows { Follows seat locks.old (Some self.new) locks.new }
+    {
+        let Some(_) = self.guard else {
+            return false;
+        };
+        self.work.reach(pool, locks, seat)
+    }
+
     /// The work.
     pub fn work(&self) -> &Work {
         &self.work

@@ -2,6 +2,8 @@
 
 ghost use Rattle.std.specs.Prelude.{IfOk};
 ghost use Rattle.file_pages.specs.Files.{IsReady};
+ghost use Rattle.queue_records.specs.Range.{IsInRange};
+ghost use Rattle.xsi_inquiry.specs.Writing.{HasRange};
 ghost use Rattle.machine_trials.specs.Seats.{AreIdle, IsBegun};
 
 use crate::task::{Task, Value};
@@ -16,6 +18,7 @@ use record_file::{RecordOperation, Tried};
 use std::alloc::Global;
 use std::marker::Model;
 use step_rules::Progress;
+use xsi_inquiry::Write;
 
 /// The frames that a pool of a trial has at least.
 const LEAST_FRAMES: usize = 4;
@@ -124,6 +127,23 @@ impl<D: PageDevice + Drop, K: PseudoKey + Drop> Trial<D, K> {
         self.begin(&key, access, NO_VALUE)
     }
 
+    /// The seat that has begun an access that inserts a record of queues.
+    pub fn put(&mut self, entry: &Record<'_>) -> Option<u8>
+        requires { IsInRange entry.now }
+    {
+        let key = entry.key();
+        let access = Work::put(entry, self.keys.of(&key));
+        self.begin(&key, access, NO_VALUE)
+    }
+
+    /// The seat that has begun an access that writes at this key.
+    pub fn write(&mut self, key: RecordKey, write: &Write) -> Option<u8>
+        requires { HasRange write.now }
+    {
+        let access = Work::write(write, self.keys.of(&key));
+        self.begin(&key, access, NO_VALUE)
+    }
+
     /// The seat that has begun a search alone, which stays on the page that answers.
     pub fn search(&mut self, key: RecordKey) -> Option<u8> {
         let search = Work::search(key, self.keys.of(&key));
@@ -163,6 +183,16 @@ impl<D: PageDevice + Drop, K: PseudoKey + Drop> Trial<D, K> {
         }
         let task = self.seats[seat as usize - 1].as_mut()?;
         Some(task.skip(&mut self.pool, &self.locks, seat))
+    }
+
+    /// Whether the access of a seat has made all its steps up to where it writes in one go; else it
+    /// has made none.
+    pub fn reach(&mut self, seat: u8) -> Option<bool> {
+        if seat == 0 || seat > self.locks.seats() {
+            return None;
+        }
+        let task = self.seats[seat as usize - 1].as_mut()?;
+        Some(task.reach(&mut self.pool, &mut self.locks, seat))
     }
 
     /// What the access of a seat has found at its key, once a page answered.

@@ -1,11 +1,12 @@
-//! What a seat is at: an operation on a record, an access that finds a record of queues, or a search
-//! alone.
+//! What a seat is at: an operation on a record, an access to a record of queues, or a search alone.
 
 ghost use Rattle.std.specs.Prelude.{◌≡◌, ℕ, List, length};
 ghost use Rattle.page_locks.specs.declared.lock.Lock.{Lock};
 ghost use Rattle.page_locks.specs.Table.{IsSeat, row_of, with_row};
 ghost use Rattle.file_pages.specs.Files.{IsReady};
+ghost use Rattle.queue_records.specs.Range.{IsInRange};
 ghost use Rattle.stale_search.specs.Rows.{EndsRow, HasNoFileLock};
+ghost use Rattle.xsi_inquiry.specs.Writing.{HasRange};
 ghost use Rattle.machine_trials.specs.Seats.{IsBegun, MayLend, MOST_LOCKS, work_locks};
 
 use bucket_page::{PseudoKey, RecordKey};
@@ -17,6 +18,7 @@ use queue_records::Record;
 use record_file::{Access, RecordOperation, Tried};
 use stale_search::{Search, SearchPlace};
 use step_rules::Progress;
+use xsi_inquiry::Write;
 
 /// An operation on a record, an access, or a search that stays on the page that answers.
 #[derive(Drop)]
@@ -39,6 +41,22 @@ impl Work {
         ensures { IsBegun result }
     {
         Work::Access(Access::find(key, pseudokey))
+    }
+
+    /// An access that inserts a record whose key has this pseudokey.
+    pub fn put(entry: &Record<'_>, pseudokey: u32) -> Work
+        requires { IsInRange entry.now }
+        ensures { IsBegun result }
+    {
+        Work::Access(Access::insert(entry, pseudokey))
+    }
+
+    /// An access that writes at a key of this pseudokey.
+    pub fn write(write: &Write, pseudokey: u32) -> Work
+        requires { HasRange write.now }
+        ensures { IsBegun result }
+    {
+        Work::Access(Access::write(write, pseudokey))
     }
 
     /// One step. A value is lent to it; of an access and of a search nothing is read of that.
@@ -79,6 +97,29 @@ impl Work {
     {
         match self {
             Work::Access(access) => access.skip(pool, locks, seat),
+            _ => false,
+        }
+    }
+
+    /// All steps of an access that writes, up to the Look of its page, in one go, where it can make
+    /// them so. Others make none so.
+    pub fn reach<D: PageDevice>(
+        &mut self,
+        pool: &mut Pool<D>,
+        locks: &mut LockTable,
+        seat: u8,
+    ) -> bool
+        requires seat { IsSeat locks.old seat }
+        requires ready { IsReady pool.old }
+        requires row { EndsRow (work_locks self.old) MOST_LOCKS (row_of locks.old seat) }
+        ensures pool { pool.new ≡ pool.old }
+        ensures lent { (bytes : ℕ) → MayLend bytes self.old → MayLend bytes self.new }
+        ensures row { (before : List Lock) → HasNoFileLock before →
+            row_of locks.old seat ≡ work_locks self.old before →
+            locks.new ≡ with_row locks.old seat (work_locks self.new before) }
+    {
+        match self {
+            Work::Access(access) => access.reach(pool, locks, seat),
             _ => false,
         }
     }
