@@ -3,7 +3,7 @@
 
 use page_device::{
     DIGEST_BYTES, DeviceFault, FaultyDevice, FileDevice, MemDevice, PAGE_BYTES, PAYLOAD_BYTES,
-    PageDevice, seal, unseal,
+    PageDevice, SystemFile, seal, unseal,
 };
 use std::fs;
 use std::fs::{OpenFile, OpenOptions};
@@ -243,5 +243,14 @@ fn a_full_device_refuses_a_page_more_and_nothing_else(rt: HostRuntime) -> Result
     file.set_len(65_536 * PAGE_BYTES as u64)?;
     assert!(rt; is_full(FileDevice::open(&rt, "device_filled/pages")?)?);
     fs::remove_dir_all(&rt, "device_filled")?;
+    Ok(())
+}
+
+#[test]
+fn what_can_not_be_synced_is_a_transfer_that_failed(rt: HostRuntime) -> Result<(), Fail> {
+    let null = OpenOptions::new().write(true).open(&rt, "/dev/null")?;
+    let mut device = FileDevice::new(SystemFile::new(null), 0);
+    assert!(rt; device.sync() == Err(DeviceFault::Device));
+    assert!(rt; device.faults() == 1);
     Ok(())
 }
