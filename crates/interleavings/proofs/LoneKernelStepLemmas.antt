@@ -1,5 +1,5 @@
 -- What a step of a lone call leaves of a kernel.
-use Rattle.std.proofs.Common.{ℕ, ◌≡◌, ◌≢◌, ◌<◌, refl, sym, ap, ◌∙◌, subst, Bool, true, false, true≢false, inl, inr, List, Option, Some, None, length, arith}
+use Rattle.std.proofs.Common.{ℕ, ◌≡◌, ◌≢◌, ◌<◌, ◌≤◌, refl, sym, ap, ◌∙◌, subst, Bool, true, false, true≢false, inl, inr, List, Option, Some, None, length, arith}
 use Rattle.std.proofs.lemmas.Option.{none-some, same_Some}
 use Rattle.std.proofs.lemmas.Bool.{cases_eq}
 use Rattle.page_device.specs.Device.{HasRisen}
@@ -25,6 +25,7 @@ use Rattle.interleavings.proofs.LackingLemmas.{over_concluded}
 use Rattle.interleavings.proofs.LoneCallLemmas.{begins_alone, fits, goes_alone, leaves_at_rest}
 use Rattle.interleavings.proofs.RestingLemmas.{at_rest_too}
 use Rattle.interleavings.proofs.WaitLemmas.{awake_goes}
+use Rattle.interleavings.proofs.WaitingLemmas.{still_decided, undecided_yet}
 
 -- where a call has come to waiting the rules have no answer, and the system is as it was
 waits_so : (o : Option Conclusion) (caller : Caller) (call : Call) (bytes : List ℕ) (s now : State) →
@@ -116,6 +117,7 @@ module _ (begins : BeginTogether) (few_steps : HaveFewSteps) {K : Type 0} (hash 
       asleep = λ since some.
           subst (λ (n : ℕ). IsAsleep hash caller call s x.machine n new) (same_Some _ since some) asleep;
       quiet = new_so (record x { wait = Some (length old.journal) }) new.journal begun.new;
+      decided = λ some. absurd (undecided_yet x.machine begun.new some);
       others = others;
       sound = goes.failed ∙ ap is_failure t.told_is;
       mark = mark;
@@ -202,6 +204,10 @@ module _ (begins : BeginTogether) (few_steps : HaveFewSteps) {K : Type 0} (hash 
             new.locks old.journal new.journal turn anew) ∙ serves.quiet))
         by false still = refl
 
+    decided : come.decided ≤ length new.journal
+    decided = still_decided hash seat old.stopped did a left old.pool new.pool old.locks new.locks
+        old.journal new.journal turn serves.decided
+
     abbrev Makes : Progress FileFault → Type 0
     Makes p = MakesCall hash seat old.stopped p a.machine come.machine old.pool new.pool old.locks new.locks
 
@@ -258,6 +264,7 @@ module _ (begins : BeginTogether) (few_steps : HaveFewSteps) {K : Type 0} (hash 
             waits = λ stays. absurd (awake_goes come.wait come.machine.call new.journal turn.marked.awake stays);
             asleep = λ since some. absurd (none-some since (sym turn.marked.awake ∙ some));
             quiet = quiet;
+            decided = λ some. decided;
             others = others;
             sound = goes.failed ∙ ap is_failure told;
             mark = mark;

@@ -13,6 +13,7 @@ use Rattle.interleavings.specs.LoneKernelLaws.{BeginsOnAKernel, ClosesAKernel, O
 use Rattle.interleavings.proofs.DriveLemmas.{new_so}
 use Rattle.interleavings.proofs.LoneCallLemmas.{begins_alone, stops_at_rest}
 use Rattle.interleavings.proofs.WaitLemmas.{awake_goes}
+use Rattle.interleavings.proofs.WaitingLemmas.{undecided_yet}
 
 -- ---- it is opened
 
@@ -62,6 +63,7 @@ module _ (begins : BeginTogether) (few : HaveFewSteps) {K : Type 0} (hash : Reco
     waits = λ stays. absurd (awake_goes has.active.wait has.active.machine.call old.journal has.begun.awake stays);
     asleep = λ since some. absurd (none-some since (sym has.begun.awake ∙ some));
     quiet = new_so has.active old.journal has.begun.begins.new;
+    decided = λ some. absurd (undecided_yet has.active.machine has.begun.begins.new some);
     others = λ other apart. at_other old.seats seat other (Some has.active) apart ∙ rests.idle other;
     sound = rests.sound;
     mark = rests.mark;

@@ -13,6 +13,7 @@ use Rattle.interleavings.specs.Lone.{IsAsleep, ServesOver}
 use Rattle.interleavings.specs.LoneKernelLaws.{StopsAWaitingCall}
 use Rattle.interleavings.proofs.DriveLemmas.{new_so}
 use Rattle.interleavings.proofs.LoneCallLemmas.{begins_alone, fits, stops_at_rest}
+use Rattle.interleavings.proofs.WaitingLemmas.{undecided_yet}
 
 -- ---- a call that does not wait
 
@@ -81,6 +82,7 @@ module _ (begins : BeginTogether) {K : Type 0} (hash : RecordKey → ℕ) (seat 
         within = still_within n old.journal (Stopped ∷ []) (serves.asleep n some).within;
       };
       quiet = new_so a (old.journal ++ Stopped ∷ []) asleep.begins.new;
+      decided = λ some. absurd (undecided_yet a.machine asleep.begins.new some);
       others = serves.others;
       sound = serves.sound;
       mark = refl;

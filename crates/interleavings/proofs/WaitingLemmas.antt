@@ -1,6 +1,6 @@
 -- A call is decided to wait only where the rules have no answer to it, and that stays so of the journal as it then
 -- stood.
-use Rattle.std.proofs.Common.{ℕ, ◌≡◌, ◌≢◌, ◌+◌, ◌≤◌, ◌⊎◌, inl, inr, refl, sym, ap, ◌∙◌, subst, Bool, true, false, IsSome, List, ◌++◌, Option, Some, None, length, length-append, take, arith}
+use Rattle.std.proofs.Common.{ℕ, ◌≡◌, ◌≢◌, ◌≤◌, ◌⊎◌, inl, inr, refl, sym, ap, ◌∙◌, subst, Bool, true, false, IsSome, List, ◌++◌, Option, Some, None, length, length-append, take, arith}
 use Rattle.std.specs.Prelude.{⊤}
 use Rattle.std.proofs.lemmas.List.{take-append-le}
 use Rattle.std.proofs.Math.Seq.{take-append_seam}
@@ -47,6 +47,9 @@ founded_there base k seat a there founded = subst (IsFoundedAt base k.callers k.
 pub new_undecided : (m : CallView) → IsNew m → conclusion_of m ≡ None
 new_undecided m new = ap (λ (s : Stage). conclusion_at s) new.stage
 
+pub undecided_yet : (m : CallView) → IsNew m → IsSome (conclusion_of m) → ⊥
+undecided_yet m new some = none_is (conclusion_of m) (new_undecided m new) some
+
 module _ (base : State) (callers : List Caller) where
   -- beside a journal that has grown
   still_founded : (journal added : List Entry) (a : ActiveView) → IsFounded base callers journal a →
@@ -75,6 +78,33 @@ module _ (base : State) (callers : List Caller) where
 
 -- ---- a step of its machine
 
+module _ (hash : RecordKey → ℕ) (seat : ℕ) (stopped : Bool) (did : Step) (a : ActiveView)
+    (left : Option ActiveView) (pool pool' : PoolState) (locks locks' : Table)
+    (journal journal' : List Entry)
+    (t : MakesTurn hash seat stopped did a left pool pool' locks locks' journal journal') where
+  -- the journal stays no shorter than at the call's Decide
+  pub still_decided : (IsSome (conclusion_of a.machine) → a.decided ≤ length journal) →
+      t.come.decided ≤ length journal'
+  still_decided before = by (conclusion_of a.machine) refl
+    where
+      decided_at : (c : Option Conclusion) → conclusion_of a.machine ≡ c →
+          t.come.decided ≡ decided_by c (length journal) a.decided
+      decided_at c is = t.marked.decided
+          ∙ ap (λ (x : Option Conclusion). decided_by x (length journal) a.decided) is
+
+      longer : length journal ≤ length journal'
+      longer = let long = ap length t.journal ∙ length-append journal _ in omega (arith, long)
+
+      by : (c : Option Conclusion) → conclusion_of a.machine ≡ c →
+          t.come.decided ≤ length journal'
+      by None is =
+          let now : t.come.decided ≡ length journal = decided_at None is in
+          omega (arith, now, longer)
+      by (Some c) is =
+          let now : t.come.decided ≡ a.decided = decided_at (Some c) is in
+          let within = before (subst IsSome (sym is) refl) in
+          omega (arith, now, within, longer)
+
 module _ (base : State) (callers : List Caller) (hash : RecordKey → ℕ) (seat : ℕ) (stopped : Bool) (did : Step)
     (a : ActiveView) (left : Option ActiveView) (pool pool' : PoolState) (locks locks' : Table)
     (journal journal' : List Entry)
@@ -93,25 +123,13 @@ module _ (base : State) (callers : List Caller) (hash : RecordKey → ℕ) (seat
   come_founded : IsFounded base callers journal a →
       (conclusion_of a.machine ≡ None → conclusion_of t.come.machine ≡ Some conclusions.Waits →
       Unanswered a journal) → IsFounded base callers journal' t.come
-  come_founded founded at_decide = subst (λ (es : List Entry). IsFounded base callers es t.come) (sym t.journal)
-      record {
-        within = decided_then (conclusion_of a.machine) refl;
-        put_off = was_put_off;
-      }
+  come_founded founded at_decide = record {
+    within = still_decided hash seat stopped did a left pool pool' locks locks' journal journal' t
+        (λ some. founded.within);
+    put_off = λ was. subst (λ (es : List Entry). Unanswered t.come (take t.come.decided es))
+        (sym t.journal) (was_put_off was);
+  }
     where
-      long : length (journal ++ added) ≡ length journal + length added
-      long = length-append journal added
-
-      decided_then : (c : Option Conclusion) → conclusion_of a.machine ≡ c →
-          t.come.decided ≤ length (journal ++ added)
-      decided_then None is =
-          let now = t.marked.decided ∙ ap (λ (c : Option Conclusion). decided_by c (length journal) a.decided) is in
-          omega (arith, now, long)
-      decided_then (Some c) is =
-          let now = t.marked.decided ∙ ap (λ (c : Option Conclusion). decided_by c (length journal) a.decided) is in
-          let within = founded.within in
-          omega (arith, now, within, long)
-
       waits_now : (c : Option Conclusion) → conclusion_of a.machine ≡ c →
           conclusion_of t.come.machine ≡ Some conclusions.Waits →
           Unanswered t.come (take t.come.decided (journal ++ added))

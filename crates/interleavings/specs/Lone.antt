@@ -39,6 +39,8 @@ pub record ServesOver {K : Type 0} (hash : RecordKey → ℕ) (seat : ℕ) (call
   pub asleep : (since : ℕ) → active.wait ≡ Some since → IsAsleep hash caller call s active.machine since k
   -- where it was decided to wait nothing has woken it since
   pub quiet : is_to_begin_anew active k.journal ≡ false
+  -- once it has decided, the journal is no shorter than at its Decide
+  pub decided : IsSome (conclusion_of active.machine) → active.decided ≤ length k.journal
   pub others : (other : ℕ) → other ≢ seat → call_at k.seats other ≡ None
   pub sound : k.failed ≡ false
   pub mark : s.stopped ≡ k.stopped
