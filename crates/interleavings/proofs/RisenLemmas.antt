@@ -1,5 +1,5 @@
 -- Where a step of a kernel that is led fails, a transfer of its device has.
-use Rattle.std.proofs.Common.{ℕ, zero, suc, ◌≡◌, ◌≤◌, inl, inr, refl, sym, ap, ◌∙◌, subst, Bool, true, false, ◌||◌, List, [], Option, Some, None, length, arith}
+use Rattle.std.proofs.Common.{ℕ, zero, suc, ◌≡◌, ◌≤◌, inl, inr, refl, sym, ap, ◌∙◌, subst, Bool, true, false, ◌||◌, List, Option, Some, None, length, arith}
 use Rattle.std.proofs.lemmas.Bool.{cases_lt}
 use Rattle.page_device.specs.Device.{HasRisen}
 use Rattle.interleaving_core.specs.Owing.{is_failure}

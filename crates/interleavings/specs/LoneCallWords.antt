@@ -7,6 +7,6 @@ pub use Rattle.file_pages.specs.declared.fault.FileFault.{FileFault}
 pub use Rattle.xsi_calls.specs.Below.{IsFiled, StandsAt, answer_of}
 pub use Rattle.xsi_calls.specs.Calling.{IsCalling}
 pub use Rattle.xsi_calls.specs.CallSteps.{MakesCall}
-pub use Rattle.xsi_calls.specs.Machine.{Begins, CallView, IsOver, answer_of_call, call_left, call_locks, call_owes, conclusion_of}
+pub use Rattle.xsi_calls.specs.Machine.{Begins, CallView, IsOver, call_left, call_locks, call_owes, conclusion_of}
 pub use Rattle.xsi_calls.specs.Words.{Blocked, Call, Caller, Change, IsSeat, NearsOrSpares, PoolState, Progress, RecordKey, Records, State, Table, TrialLacksRoom, has_no_room, is_fault, its_plan, overlaid, record_of, row_of, store_of, trials_of, world}
 pub use Rattle.xsi_calls.specs.declared.conclusion.Conclusion.{Conclusion}

@@ -6,7 +6,7 @@ pub use Rattle.interleaving_core.specs.file_check.Whole.{IsFileOf}
 pub use Rattle.interleavings.specs.LoneCalls.{FoundNoRoom, IsServed}
 pub use Rattle.interleavings.specs.LoneCallWords.{Answer, Begins, Call, CallView, Caller, Conclusion, FileFault, HasFittingCall, HasFittingCaller, IsOver, IsSeat, MakesCall, PoolState, Progress, RecordKey, State, Table, call_left, conclusion_of, outcome, store_of}
 pub use Rattle.interleaving_core.specs.Words.{caller_at}
-pub use Rattle.interleaving_core.specs.Active.{ActiveView, IsMarked, is_waiting}
+pub use Rattle.interleaving_core.specs.Active.{ActiveView, is_waiting}
 pub use Rattle.interleaving_core.specs.Beginning.{HasCall, IsOpened, IsRefused, IsStopped}
 pub use Rattle.interleaving_core.specs.Closing.{IsFlushedTo}
 pub use Rattle.interleaving_core.specs.Driving.{IsDriven, IsSpent}
