@@ -5,7 +5,9 @@ use Rattle.xsi_calls.proofs.UndecidedCounterLemmas.{undecided_none}
 use Rattle.xsi_calls.proofs.Names.{FileFault, nears_with}
 use Rattle.xsi_calls.specs.Stages.{Stage, Undecided, Paying, Releasing}
 use Rattle.xsi_calls.specs.Words.{Blocked, Call, Caller, Ended, Fault, Moved, PoolState, Progress, RecordKey, Table, Trials, UndecidedCall, store_of, undecided_left}
-use Rattle.xsi_calls.specs.Machine.{CallView, IsReading, STEPS_FROM_DECIDE, is_undecided}
+use Rattle.xsi_calls.specs.Machine.{CallView, IsReading, STEPS_FROM_DECIDE, call_locks, is_undecided, locks_at}
+use Rattle.xsi_calls.specs.Undecided.{locks_in}
+use Rattle.xsi_calls.specs.UndecidedWords.{questions_locks}
 use Rattle.xsi_calls.specs.CallSteps.{MakesCall, is_end}
 use Rattle.xsi_calls.specs.UndecidedSteps.{MakesUndecided}
 
@@ -88,3 +90,14 @@ goes_from hash seat stopped caller call u u' stage now view undecided did pool p
   where
     there : stage ≡ Undecided
     there = at_undecided stage (subst (λ (m : CallView). is_undecided m.stage ≡ true) (sym view) undecided)
+
+-- ---- while nothing is inserted on trial
+
+-- the row of its seat is that of its questions
+pub asks_row : (caller : Caller) (call : Call) (u : UndecidedCall) (stage : Stage) (now : CallView) →
+    with_stage caller call u stage ≡ now → is_undecided now.stage ≡ true → u.trials ≡ None →
+    call_locks now ≡ questions_locks u.questions
+asks_row caller call u stage now view undecided none =
+    sym (ap call_locks view)
+    ∙ ap (locks_at u) (at_undecided stage (subst (λ (m : CallView). is_undecided m.stage ≡ true) (sym view) undecided))
+    ∙ ap (locks_in u.questions) none

@@ -31,8 +31,8 @@ use xsi_inquiry::{Inquiry, NotASystem, Room};
 /// decision would have it insert.
 #[derive(Drop)]
 pub struct UndecidedCall {
-    questions: Questions,
-    trials: TrialsPlace,
+    pub(crate) questions: Questions,
+    pub(crate) trials: TrialsPlace,
 }
 
 impl UndecidedCall {
