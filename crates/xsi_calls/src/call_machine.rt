@@ -230,7 +230,13 @@ impl CallMachine {
         ensures { MakesCall (K.of_key keys.now) seat stopped result self.old self.new
             pool.old pool.new locks.old locks.new }
     {
-        let did = self.undecided.step(pool, locks, keys, seat, &self.call);
+        if self.undecided.still_asks(&self.call) {
+            return self
+                .undecided
+                .questions
+                .step(pool, locks, keys, seat, &self.call);
+        }
+        let did = self.undecided.try_on(pool, locks, keys, seat, &self.call);
         if !is_end(did) {
             return did;
         }
