@@ -3,9 +3,13 @@ use Rattle.std.proofs.Common.{◌≡◌, refl, sym, ap, ◌∙◌, subst, ℕ, B
 use Rattle.std.proofs.lemmas.Bool.{true≢false}
 use Rattle.xsi_calls.proofs.UndecidedCounterLemmas.{undecided_none}
 use Rattle.xsi_calls.proofs.Names.{FileFault, nears_with}
+use Rattle.xsi_calls.proofs.StepLemmas.{asked}
 use Rattle.xsi_calls.specs.Stages.{Stage, Undecided, Paying, Releasing}
 use Rattle.xsi_calls.specs.Words.{Blocked, Call, Caller, Ended, Fault, Moved, PoolState, Progress, RecordKey, Table, Trials, UndecidedCall, store_of, undecided_left}
-use Rattle.xsi_calls.specs.Machine.{CallView, IsReading, STEPS_FROM_DECIDE, is_undecided}
+use Rattle.xsi_calls.specs.Machine.{CallView, IsReading, STEPS_FROM_DECIDE, call_locks, is_undecided, locks_at}
+use Rattle.xsi_calls.specs.Undecided.{locks_in}
+use Rattle.xsi_calls.specs.UndecidedWords.{QuestionsView, is_done, questions_locks}
+use Rattle.xsi_calls.specs.QuestionSteps.{MakesQuestions}
 use Rattle.xsi_calls.specs.CallSteps.{MakesCall, is_end}
 use Rattle.xsi_calls.specs.UndecidedSteps.{MakesUndecided}
 
@@ -77,14 +81,43 @@ with_stage caller call u stage = record { caller = caller; call = call; undecide
 pub goes_from : (hash : RecordKey → ℕ) (seat : ℕ) (stopped : Bool) (caller : Caller) (call : Call)
     (u u' : UndecidedCall) (stage : Stage) (now : CallView) → with_stage caller call u stage ≡ now →
     is_undecided now.stage ≡ true → (did : Progress FileFault) (pool pool' : PoolState) (locks locks' : Table) →
-    is_end did ≡ false → MakesUndecided hash seat call did u u' pool pool' locks locks' →
+    (did ≡ Ended → ⊥) → MakesUndecided hash seat call did u u' pool pool' locks locks' →
     MakesCall hash seat stopped did now (with_stage caller call u' stage) pool pool' locks locks'
 goes_from hash seat stopped caller call u u' stage now view undecided did pool pool' locks locks' more made =
     subst (λ (m : CallView). MakesCall hash seat stopped did m (with_stage caller call u' stage) pool pool' locks
     locks') view
     (subst (λ (x : Stage). MakesCall hash seat stopped did (with_stage caller call u x) (with_stage caller call u' x)
     pool pool' locks locks') (sym there)
-    (goes_on hash seat stopped caller call u u' did pool pool' locks locks' (not_end did more) made))
+    (goes_on hash seat stopped caller call u u' did pool pool' locks locks' more made))
   where
     there : stage ≡ Undecided
     there = at_undecided stage (subst (λ (m : CallView). is_undecided m.stage ≡ true) (sym view) undecided)
+
+-- ---- while nothing is inserted on trial
+
+-- the row of its seat is that of its questions
+pub asks_row : (caller : Caller) (call : Call) (u : UndecidedCall) (stage : Stage)
+    (now : CallView) → with_stage caller call u stage ≡ now → is_undecided now.stage ≡ true →
+    u.trials ≡ None → call_locks now ≡ questions_locks u.questions
+asks_row caller call u stage now view undecided none =
+    sym (ap call_locks view)
+    ∙ ap (locks_at u) (at_undecided stage
+    (subst (λ (m : CallView). is_undecided m.stage ≡ true) (sym view) undecided))
+    ∙ ap (locks_in u.questions) none
+
+-- a question makes its step
+pub asked_from : (hash : RecordKey → ℕ) (seat : ℕ) (stopped : Bool) (caller : Caller)
+    (call : Call) (u : UndecidedCall) (q : QuestionsView) (stage : Stage) (now : CallView) →
+    with_stage caller call u stage ≡ now → is_undecided now.stage ≡ true →
+    (did : Progress FileFault) (pool pool' : PoolState) (locks locks' : Table) →
+    (u.trials ≡ None) × (is_done call u.questions ≡ false) →
+    MakesQuestions hash seat call did u.questions q pool pool' locks locks' →
+    MakesCall hash seat stopped did now
+    (with_stage caller call (record { questions = q; trials = u.trials }) stage) pool pool' locks
+    locks'
+asked_from hash seat stopped caller call u q stage now view undecided did pool pool' t t' asks m =
+    goes_from hash seat stopped caller call u (record { questions = q; trials = u.trials }) stage
+    now view undecided did pool pool' t t' (λ e. true≢false (sym (m.aim.ended.0 e) ∙ asks.1))
+    (subst (λ (o : Option Trials). MakesUndecided hash seat call did
+    (record { questions = u.questions; trials = o }) (record { questions = q; trials = o }) pool
+    pool' t t') (sym asks.0) (asked hash seat call u.questions pool t asks.1 did q pool' t' m))

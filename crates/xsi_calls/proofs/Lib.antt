@@ -61,7 +61,6 @@ pub mod SweepLemmas
 pub mod BeginLemmas
 pub mod TryLemmas
 pub mod StepLemmas
-pub mod UndecidedAtOnceLemmas
 pub mod UndecidedReachLemmas
 pub mod UndecidedDecideLemmas
 pub mod UndecidedLawLemmas

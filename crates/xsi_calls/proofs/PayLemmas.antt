@@ -7,14 +7,19 @@ use Rattle.step_rules.specs.Turns.{TurnsAt, no_ask}
 use Rattle.xsi_calls.proofs.Names.{AccessView, Deed, FileFault, facts_under, locks_under, next_deed, set_out, turn_under, nears_with, owes_nothing_at_end, row_of-same, with_row-twice}
 use Rattle.xsi_calls.specs.declared.payment.Stage.TheVariants as stages
 use Rattle.xsi_calls.specs.declared.conclusion.Conclusion.{Conclusion}
-use Rattle.xsi_calls.specs.Stages.{Stage, Paying, Releasing}
+use Rattle.xsi_calls.specs.declared.phase.Phase.{Phase}
+use Rattle.xsi_calls.specs.Stages.{Stage, Paying, Releasing, stage_at}
+use Rattle.xsi_calls.specs.PaymentWords.{Work}
+use Rattle.xsi_calls.specs.PaySteps.{StepsPart}
+use Rattle.xsi_calls.proofs.PaymentPayLemmas.{makes_payment}
+use Rattle.xsi_calls.proofs.PhaseLemmas.{paying_still}
 use Rattle.xsi_calls.proofs.PlanLemmas.{plans_have_one_counter}
 use Rattle.xsi_calls.proofs.CounterLemmas.{paid_counter}
-use Rattle.xsi_calls.proofs.GoLemmas.{at_end, not_end, with_stage}
-use Rattle.xsi_calls.specs.Words.{AreNames, Blocked, Call, Caller, Change, Ended, Fault, IsPaid, IsPaying, IsSeat, Known, Lock, MakesPayment, Moved, NearsOrSpares, OnlyWrites, PaymentStage, Pays, Plan, PoolState, Progress, QuestionsView, RecordKey, Records, Sees, State, Store, Table, Turn, UndecidedCall, World, is_fault, its_plan, TrialLacksRoom, trials_of, payment_facts, payment_left, payment_locks, payment_turn, row_of, store_of, with_row, world}
+use Rattle.xsi_calls.proofs.GoLemmas.{at_end, with_stage}
+use Rattle.xsi_calls.specs.Words.{AreNames, Blocked, Call, Caller, Change, Ended, Fault, IsPaid, IsPaying, IsReady, IsSeat, Known, Lock, MakesPayment, Moved, NearsOrSpares, OnlyWrites, PaymentStage, Pays, Plan, PoolState, Progress, QuestionsView, RecordKey, Records, Sees, State, Store, Table, Turn, UndecidedCall, World, is_fault, its_plan, TrialLacksRoom, trials_of, payment_facts, payment_left, payment_locks, payment_turn, row_of, store_of, with_row, world}
 use Rattle.xsi_calls.specs.Payments.{payment_access}
 use Rattle.xsi_remove.specs.UnderWay.{StepsUnderWay}
-use Rattle.xsi_calls.specs.Machine.{CallView, call_access, call_facts, call_left, call_locks}
+use Rattle.xsi_calls.specs.Machine.{CallView, call_access, call_facts, call_left, call_locks, is_paying}
 use Rattle.xsi_calls.specs.Calling.{IsPayingCall, IsReleasing}
 use Rattle.xsi_calls.specs.CallSteps.{MakesCall, MakesRelease, StepsCall, is_end}
 
@@ -223,46 +228,60 @@ module _ (hash : RecordKey → ℕ) (seat : ℕ) (caller : Caller) (call : Call)
                 change) (sym (paid_access p v all_paid)) tt;
           }
 
--- ---- from its place
+-- ---- from its place, by a step of the part under way
 
-module _ (hash : RecordKey → ℕ) (seat : ℕ) (caller : Caller) (call : Call) (u : UndecidedCall) (stage : Stage)
-    (now : CallView) (view : with_stage caller call u stage ≡ now) (v : PaymentStage) (conclusion : Conclusion)
-    (there : stage ≡ Paying v conclusion) (q : QuestionsView) (lent : q ≡ u.questions) (names : AreNames q.names)
-    (x : Plan) (plan : x ≡ its_plan call u.questions) (v' : PaymentStage) (did : Progress FileFault)
-    (pool pool' : PoolState) (locks locks' : Table) (row : row_of locks seat ≡ call_locks now)
-    (made : MakesPayment hash seat x did v v' pool pool' locks locks') where
+module _ (hash : RecordKey → ℕ) (seat : ℕ) (caller : Caller) (call : Call) (u : UndecidedCall)
+    (phase : Phase) (v : PaymentStage) (conclusion : Conclusion) (now : CallView)
+    (view : with_stage caller call u (stage_at phase v conclusion) ≡ now)
+    (pays : is_paying now.stage ≡ true) (q : QuestionsView) (lent : q ≡ u.questions)
+    (names : AreNames q.names) (x : Plan) (plan : x ≡ its_plan call u.questions)
+    (v' : PaymentStage) (did : Progress FileFault) (pool pool' : PoolState) (locks locks' : Table)
+    (seated : IsSeat locks seat) (ready : IsReady pool) (row : row_of locks seat ≡ call_locks now)
+    (part : StepsPart hash seat x did v v' pool pool' locks locks') where
   ordered : AreNames u.questions.names
   ordered = subst (λ (y : QuestionsView). AreNames y.names) lent names
 
+  its_place : is_paying (stage_at phase v conclusion) ≡ true
+  its_place = subst (λ (m : CallView). is_paying m.stage ≡ true) (sym view) pays
+
   sees_now : with_stage caller call u (Paying v conclusion) ≡ now
-  sees_now = ap (with_stage caller call u) (sym there) ∙ view
+  sees_now =
+      ap (with_stage caller call u) (sym (paying_still phase v v conclusion its_place)) ∙ view
 
   row_here : row_of locks seat ≡ payment_locks v u.questions.names
   row_here = subst (λ (m : CallView). row_of locks seat ≡ call_locks m) (sym sees_now) row
 
-  by_plan : MakesPayment hash seat (its_plan call u.questions) did v v' pool pool' locks locks'
-  by_plan = subst (λ (y : Plan). MakesPayment hash seat y did v v' pool pool' locks locks') plan made
+  made : MakesPayment hash seat (its_plan call u.questions) did v v' pool pool' locks locks'
+  made =
+      subst (λ (y : Plan). MakesPayment hash seat y did v v' pool pool' locks locks') plan
+      (makes_payment hash seat x did v v' pool pool' locks locks' seated ready part)
 
-  pub pays_from : is_end did ≡ false → (stopped : Bool) →
-      MakesCall hash seat stopped did now (with_stage caller call u (Paying v' conclusion)) pool pool' locks locks'
+  pub pays_from : (did ≡ Ended → ⊥) → (stopped : Bool) →
+      MakesCall hash seat stopped did now (with_stage caller call u (stage_at phase v' conclusion))
+      pool pool' locks locks'
   pays_from more stopped =
-      subst (λ (m : CallView). MakesCall hash seat stopped did m (with_stage caller call u (Paying v' conclusion)) pool
-      pool' locks locks') sees_now
-      (pays_on hash seat caller call u conclusion ordered v v' did pool pool' locks locks' row_here by_plan
-      (not_end did more) stopped)
+      subst (λ (y : Stage). MakesCall hash seat stopped did now (with_stage caller call u y) pool
+      pool' locks locks') (sym (paying_still phase v v' conclusion its_place))
+      (subst (λ (m : CallView). MakesCall hash seat stopped did m
+      (with_stage caller call u (Paying v' conclusion)) pool pool' locks locks') sees_now
+      (pays_on hash seat caller call u conclusion ordered v v' did pool pool' locks locks' row_here
+      made more stopped))
 
-  pub row_behind : is_end did ≡ true → IsSeat locks seat → row_of locks' seat ≡ u.questions.names
-  row_behind is seated =
-      row_paid hash seat caller call u conclusion ordered v v' did pool pool' locks locks' row_here by_plan
-      (at_end did is) seated
+  -- while it sweeps it has not ended
+  pub sweeps_from : (sweep : Option Work) → v ≡ stages.Sweeping sweep → (stopped : Bool) →
+      MakesCall hash seat stopped did now (with_stage caller call u (stage_at phase v' conclusion))
+      pool pool' locks locks'
+  sweeps_from sweep is =
+      pays_from (λ e. subst (IsPaid (its_plan call u.questions)) is (made.aim.ended.0 e))
 
-  pub released_from : is_end did ≡ true → IsSeat locks seat → (ended : Stage) → ended ≡ Releasing conclusion →
+  pub released_from : is_end did ≡ true → (ended : Stage) → ended ≡ Releasing conclusion →
       (did2 : Progress FileFault) (m : CallView) (locks2 : Table) →
       MakesRelease seat did2 (with_stage caller call u ended) m locks' locks2 →
       (stopped : Bool) → MakesCall hash seat stopped did2 now m pool pool' locks locks2
-  released_from is seated ended is_paid did2 m locks2 released stopped =
-      subst (λ (old : CallView). MakesCall hash seat stopped did2 old m pool pool' locks locks2) sees_now
-      (then_released hash seat caller call u conclusion ordered v v' did pool pool' locks locks' row_here by_plan
-      (at_end did is) seated did2 m locks2
-      (subst (λ (x : Stage). MakesRelease seat did2 (with_stage caller call u x) m locks' locks2) is_paid released)
-      stopped)
+  released_from is ended is_paid did2 m locks2 released stopped =
+      subst (λ (old : CallView). MakesCall hash seat stopped did2 old m pool pool' locks locks2)
+      sees_now
+      (then_released hash seat caller call u conclusion ordered v v' did pool pool' locks locks'
+      row_here made (at_end did is) seated did2 m locks2
+      (subst (λ (y : Stage). MakesRelease seat did2 (with_stage caller call u y) m locks' locks2)
+      is_paid released) stopped)

@@ -11,7 +11,7 @@ mod skipping;
 
 use crate::conclusion::Conclusion;
 use crate::decided::Decided;
-use crate::payment::Payment;
+use crate::payment::{Payment, Stage, is_move, unwritten};
 use crate::phase::Phase;
 use crate::undecided::UndecidedCall;
 use bucket_page::PseudoKey;
@@ -230,7 +230,13 @@ impl CallMachine {
         ensures { MakesCall (K.of_key keys.now) seat stopped result self.old self.new
             pool.old pool.new locks.old locks.new }
     {
-        let did = self.undecided.step(pool, locks, keys, seat, &self.call);
+        if self.undecided.still_asks(&self.call) {
+            return self
+                .undecided
+                .questions
+                .step(pool, locks, keys, seat, &self.call);
+        }
+        let did = self.undecided.try_on(pool, locks, keys, seat, &self.call);
         if !is_end(did) {
             return did;
         }
@@ -249,7 +255,9 @@ impl CallMachine {
         Progress::Moved(Kind::Decide)
     }
 
-    /// One step of what it owes; behind the last one it gives its names back.
+    /// One step of what it owes: of the sweep, or else of the writes, which begin in the step after
+    /// that by which the sweep has ended. A sweep that has failed is refused as `Failed`, and nothing
+    /// is written after it. Behind the last write it gives its names back.
     fn pay<D: PageDevice, K: PseudoKey>(
         &mut self,
         pool: &mut Pool<D>,
@@ -266,9 +274,28 @@ impl CallMachine {
     {
         self.undecided.questions().keep_order();
         let plan = self.undecided.plan(&self.call);
-        let did = self.payment.step(&plan, pool, locks, keys, seat);
-        if !is_end(did) {
-            return did;
+        let payment = &mut self.payment;
+        match &mut payment.stage {
+            Stage::Sweeping(sweep) => {
+                if sweep.is_over() {
+                    return Progress::Fault(FileFault::Failed);
+                }
+                let did = sweep.step(pool, locks, keys, seat);
+                if !is_move(did) {
+                    return did;
+                }
+                if !sweep.is_over() {
+                    return did;
+                }
+                payment.stage = Stage::Writing(unwritten());
+                return did;
+            }
+            Stage::Writing(writes) => {
+                let did = writes.step(&plan, pool, locks, keys, seat);
+                if !is_end(did) {
+                    return did;
+                }
+            }
         }
         self.phase = Phase::Releasing;
         self.release(locks, seat)

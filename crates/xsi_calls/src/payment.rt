@@ -1,21 +1,16 @@
 //! The payment.
 
 ghost use Rattle.std.specs.Prelude.{◌≡◌};
-ghost use Rattle.xsi_calls.specs.PaymentWords.{EndsRow, IsReady, IsSeat, is_move, row_of};
-ghost use Rattle.xsi_calls.specs.Payments.{begun_payment, decided, payment_locks, sweep_of, unwritten};
-ghost use Rattle.xsi_calls.specs.PaySteps.{MakesPayment};
+ghost use Rattle.xsi_calls.specs.PaymentWords.{is_move};
+ghost use Rattle.xsi_calls.specs.Payments.{begun_payment, decided, sweep_of, unwritten};
 
 mod skipping;
 
 use crate::due::Due;
-use crate::plan::PlanOf;
 use crate::writes::CallWrites;
 use bucket_page::PseudoKey;
-use buffer_pool::Pool;
 use call_decisions::Settled;
 use file_pages::FileFault;
-use page_device::PageDevice;
-use page_locks::LockTable;
 use std::marker::Model;
 use xsi_inquiry::Sweep;
 use xsi_remove::SweepTurns;
@@ -26,7 +21,7 @@ use xsi_remove::step_rules::Progress;
 /// it holds those of the call.
 #[derive(Drop)]
 pub struct Payment {
-    stage: Stage,
+    pub(crate) stage: Stage,
 }
 
 /// What is paid.
@@ -84,42 +79,6 @@ impl Payment {
         }
         self.stage = Stage::Writing(decided(due));
     }
-
-    /// One step, of the sweep or else of the writes, which begin in the step after that by which the
-    /// sweep has ended. It has ended where nothing is owed any more. A sweep that has failed is refused
-    /// as `Failed`, and nothing is written after it.
-    pub fn step<D: PageDevice, K: PseudoKey>(
-        &mut self,
-        plan: &PlanOf<'_>,
-        pool: &mut Pool<D>,
-        locks: &mut LockTable,
-        keys: &K,
-        seat: u8,
-    ) -> Progress<FileFault>
-        requires seat { IsSeat locks.old seat }
-        requires ready { IsReady pool.old }
-        requires row { EndsRow (payment_locks self.old) 3 (row_of locks.old seat) }
-        ensures { MakesPayment (K.of_key keys.now) seat plan.now result self.old self.new
-            pool.old pool.new locks.old locks.new }
-    {
-        match &mut self.stage {
-            Stage::Writing(writes) => writes.step(plan, pool, locks, keys, seat),
-            Stage::Sweeping(sweep) => {
-                if sweep.is_over() {
-                    return Progress::Fault(FileFault::Failed);
-                }
-                let did = sweep.step(pool, locks, keys, seat);
-                if !is_move(did) {
-                    return did;
-                }
-                if !sweep.is_over() {
-                    return did;
-                }
-                self.stage = Stage::Writing(unwritten());
-                did
-            }
-        }
-    }
 }
 
 /// The sweep that a call has come to.
@@ -151,14 +110,14 @@ fn decided(due: Due) -> CallWrites
 }
 
 /// A plan of which nothing is written yet.
-fn unwritten() -> CallWrites
+pub(crate) fn unwritten() -> CallWrites
     ensures { result ≡ unwritten }
 {
     decided(Due::Trying(0))
 }
 
 /// Whether the step moved.
-fn is_move(did: Progress<FileFault>) -> bool
+pub(crate) fn is_move(did: Progress<FileFault>) -> bool
     ensures { result ≡ is_move did }
 {
     matches!(did, Progress::Moved(_))

@@ -1,18 +1,12 @@
 //! A question under way.
 
 ghost use Rattle.std.specs.Prelude.{◌≡◌, true, None, Some, if◌then◌else◌};
-ghost use Rattle.record_file.specs.AccessSteps.{MakesAccess};
-ghost use Rattle.record_file.specs.AccessWords.{EndsRow};
-ghost use Rattle.xsi_calls.specs.QuestionWords.{IsReady, IsSeat, Look, Moved, access_locks, row_of};
+ghost use Rattle.xsi_calls.specs.QuestionWords.{Look, Moved};
 ghost use Rattle.xsi_calls.specs.QuestionSteps.{Closes, Listens};
 
 use crate::hearing::hear;
-use bucket_page::PseudoKey;
-use buffer_pool::Pool;
 use call_decisions::AnyInquiry;
 use file_pages::FileFault;
-use page_device::PageDevice;
-use page_locks::LockTable;
 use queue_model::Call;
 use record_file::Access;
 use step_rules::{Kind, Progress};
@@ -24,24 +18,6 @@ use xsi_inquiry::{NotASystem, Room};
 pub(crate) struct Question {
     pub(crate) access: Access,
     pub(crate) told: bool,
-}
-
-/// One step of its access.
-pub(crate) fn read<D: PageDevice, K: PseudoKey>(
-    question: &mut Question,
-    pool: &mut Pool<D>,
-    locks: &mut LockTable,
-    keys: &K,
-    seat: u8,
-) -> Progress<FileFault>
-    requires seat { IsSeat locks.old seat }
-    requires ready { IsReady pool.old }
-    requires row { EndsRow (access_locks question.old.access) 3 (row_of locks.old seat) }
-    ensures told { question.new.told ≡ question.old.told }
-    ensures step { MakesAccess (K.of_key keys.now) seat result question.old.access
-        question.new.access pool.old pool.new locks.old locks.new }
-{
-    question.access.step(pool, locks, keys, seat)
 }
 
 /// Tells the inquiry what the access has found, in the Look by which a page answered: behind it

@@ -14,7 +14,7 @@ mod skipping;
 
 use crate::counting::finds_behind;
 use crate::held_names::HeldNames;
-use crate::question::{Question, goes_on, listen, read};
+use crate::question::{Question, goes_on, listen};
 use crate::turn::NameTurn;
 use bucket_page::{PseudoKey, RecordKey};
 use buffer_pool::Pool;
@@ -310,7 +310,7 @@ impl Questions {
             pool.old pool.new locks.old locks.new }
     {
         self.names.keep_order();
-        let did = read(&mut self.question, pool, locks, keys, seat);
+        let did = self.question.access.step(pool, locks, keys, seat);
         let heard = listen(
             &mut self.question,
             &mut self.inquiry,

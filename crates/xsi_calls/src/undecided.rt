@@ -31,8 +31,8 @@ use xsi_inquiry::{Inquiry, NotASystem, Room};
 /// decision would have it insert.
 #[derive(Drop)]
 pub struct UndecidedCall {
-    questions: Questions,
-    trials: TrialsPlace,
+    pub(crate) questions: Questions,
+    pub(crate) trials: TrialsPlace,
 }
 
 impl UndecidedCall {
@@ -117,9 +117,23 @@ impl UndecidedCall {
         self.questions.give_back(locks, seat)
     }
 
-    /// One step: of a question, or of a trial once all is asked. It has ended where it can decide:
-    /// all is asked, and what is to be inserted stands, or has no room.
-    pub fn step<D: PageDevice, K: PseudoKey>(
+    /// Whether it still asks: nothing is inserted on trial, and not all is asked.
+    pub(crate) fn still_asks(&self, call: &Call) -> bool
+        ensures asks { result ≡ true → (self.now.trials ≡ None)
+            × (is_done call.now self.now.questions ≡ false) }
+        ensures asked { result ≡ false → self.now.trials ≡ None →
+            is_done call.now self.now.questions ≡ true }
+    {
+        if self.trials.have_begun() {
+            return false;
+        }
+        !self.questions.is_done(call)
+    }
+
+    /// One step of the trials, once all is asked: the first one begins where the call inserts on
+    /// trial. It has ended where the call can decide: nothing is to be inserted, or all of that
+    /// stands, or has no room.
+    pub(crate) fn try_on<D: PageDevice, K: PseudoKey>(
         &mut self,
         pool: &mut Pool<D>,
         locks: &mut LockTable,
@@ -130,16 +144,22 @@ impl UndecidedCall {
         requires seat { IsSeat locks.old seat }
         requires ready { IsReady pool.old }
         requires row { row_of locks.old seat ≡ undecided_locks self.old }
+        requires asked { self.old.trials ≡ None → is_done call.now self.old.questions ≡ true }
         ensures { MakesUndecided (K.of_key keys.now) seat call.now result self.old self.new
             pool.old pool.new locks.old locks.new }
     {
         if self.trials.have_begun() {
-            return self.go_on(pool, locks, keys, seat, call);
+            return self.try_next(pool, locks, keys, seat, call);
         }
-        if self.questions.is_done(call) {
-            return self.set_out(pool, locks, keys, seat, call);
+        if self.questions.inquiry().trial(call, 0).is_none() {
+            return Progress::Ended;
         }
-        self.ask(pool, locks, keys, seat, call)
+        self.questions.keep_order();
+        let Ok(decision) = decide(call, self.questions.inquiry()) else {
+            return Progress::Fault(FileFault::Failed);
+        };
+        self.trials.begin(decision);
+        self.try_next(pool, locks, keys, seat, call)
     }
 
     /// The decision, at the call's Decide, once a step has ended: by what it was told, and by the
@@ -170,56 +190,10 @@ impl UndecidedCall {
         Ok(decided)
     }
 
-    /// One step of the questions.
-    fn ask<D: PageDevice, K: PseudoKey>(
-        &mut self,
-        pool: &mut Pool<D>,
-        locks: &mut LockTable,
-        keys: &K,
-        seat: u8,
-        call: &Call,
-    ) -> Progress<FileFault>
-        requires seat { IsSeat locks.old seat }
-        requires ready { IsReady pool.old }
-        requires row { row_of locks.old seat ≡ undecided_locks self.old }
-        requires untried { self.old.trials ≡ None }
-        requires asks { is_done call.now self.old.questions ≡ false }
-        ensures { MakesUndecided (K.of_key keys.now) seat call.now result self.old self.new
-            pool.old pool.new locks.old locks.new }
-    {
-        self.questions.step(pool, locks, keys, seat, call)
-    }
-
-    /// The first step of the first trial, where the call inserts on trial.
-    fn set_out<D: PageDevice, K: PseudoKey>(
-        &mut self,
-        pool: &mut Pool<D>,
-        locks: &mut LockTable,
-        keys: &K,
-        seat: u8,
-        call: &Call,
-    ) -> Progress<FileFault>
-        requires seat { IsSeat locks.old seat }
-        requires ready { IsReady pool.old }
-        requires row { row_of locks.old seat ≡ undecided_locks self.old }
-        requires untried { self.old.trials ≡ None }
-        requires asked { is_done call.now self.old.questions ≡ true }
-        ensures { MakesUndecided (K.of_key keys.now) seat call.now result self.old self.new
-            pool.old pool.new locks.old locks.new }
-    {
-        if self.questions.inquiry().trial(call, 0).is_none() {
-            return Progress::Ended;
-        }
-        self.questions.keep_order();
-        let Ok(decision) = decide(call, self.questions.inquiry()) else {
-            return Progress::Fault(FileFault::Failed);
-        };
-        self.trials.begin(decision);
-        self.go_on(pool, locks, keys, seat, call)
-    }
-
-    /// One step of the trials that are under way. Their searches are counted too.
-    fn go_on<D: PageDevice, K: PseudoKey>(
+    /// One step of the trials that are under way. Their searches are counted too. It stands in
+    /// `try_on`, of which it is all but the first step.
+    #[inline(always)]
+    fn try_next<D: PageDevice, K: PseudoKey>(
         &mut self,
         pool: &mut Pool<D>,
         locks: &mut LockTable,

@@ -12,8 +12,9 @@ use page_device::PageDevice;
 use page_locks::LockTable;
 
 impl CallMachine {
-    /// All steps of the next question, in one go, where it has not decided and the question can be
-    /// asked so (`UndecidedCall::skip`). Else nothing is done, and it is left to `step`.
+    /// All steps of the next question, in one go, where it has not decided, nothing is inserted on
+    /// trial, and the question can be asked so (`Questions::skip`). Else nothing is done, and it is
+    /// left to `step`.
     pub fn skip<D: PageDevice, K: PseudoKey>(
         &mut self,
         pool: &mut Pool<D>,
@@ -34,7 +35,12 @@ impl CallMachine {
         if !self.is_undecided() {
             return false;
         }
-        self.undecided.skip(pool, locks, keys, seat, &self.call)
+        if self.undecided.trials.have_begun() {
+            return false;
+        }
+        self.undecided
+            .questions
+            .skip(pool, locks, keys, seat, &self.call)
     }
 
     /// All steps up to the Look of the next record that it inserts on trial, writes or takes out of

@@ -1,7 +1,7 @@
-//! A question of a call that is asked in one go, and a trial of it that goes to its page so.
+//! A trial of a call that goes to its page in one go.
 
 ghost use Rattle.std.specs.Prelude.{◌≡◌, IsSome, None, false, true};
-ghost use Rattle.xsi_calls.specs.QuestionRuns.{AsksAtOnce, ReachesAtOnce};
+ghost use Rattle.xsi_calls.specs.QuestionRuns.{ReachesAtOnce};
 ghost use Rattle.xsi_calls.specs.UndecidedWords.{IsReady, IsSeat, is_done, row_of};
 ghost use Rattle.xsi_calls.specs.Undecided.{undecided_locks};
 ghost use Rattle.xsi_calls.specs.UndecidedSteps.{MakesUndecided};
@@ -17,31 +17,6 @@ use queue_model::Call;
 use xsi_inquiry::Inquiry;
 
 impl UndecidedCall {
-    /// All steps of the next question, in one go, where nothing is inserted on trial and it can be
-    /// asked so (`Questions::skip`). Else nothing is done, and it is left to `step`.
-    pub fn skip<D: PageDevice, K: PseudoKey>(
-        &mut self,
-        pool: &mut Pool<D>,
-        locks: &LockTable,
-        keys: &K,
-        seat: u8,
-        call: &Call,
-    ) -> bool
-        requires seat { IsSeat locks.now seat }
-        requires ready { IsReady pool.old }
-        requires row { row_of locks.now seat ≡ undecided_locks self.old }
-        ensures pool { pool.new ≡ pool.old }
-        ensures made { result ≡ true → AsksAtOnce
-            (MakesUndecided (K.of_key keys.now) seat call.now) seat self.old self.new
-            pool.old locks.now }
-        ensures spares { result ≡ false → self.new ≡ self.old }
-    {
-        if self.trials.have_begun() {
-            return false;
-        }
-        self.questions.skip(pool, locks, keys, seat, call)
-    }
-
     /// All steps up to the Look of the next record that it inserts on trial, in one go, where all
     /// is asked and it can go to its page so (`CallWrites::reach`). Else nothing is done, and it is
     /// left to `step`.

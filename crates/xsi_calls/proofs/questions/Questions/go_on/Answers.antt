@@ -10,10 +10,10 @@ invariant_of-self g c =
     let some = subst (λ (v : QuestionsView). IsSome v.question) (sym c.self.view_is) c.requires.under_way in
     under_in (g.K.PseudoKey.of_key c.args.keys.now) c.args.seat c.args.call.now
     c.self.inside.inquiry c.self.inside.room c.self.inside.names c.self.inside.finds
-    c.keep_order.ensures c.read-did.result c.args.pool.now
-    c.read-did.new.pool c.args.locks.now c.read-did.new.locks c.listen-heard.new.inquiry c.listen-heard.new.room
-    c.listen-heard.result c.self.inside.question c.read-did.new.question c.listen-heard.new.question
-    c.goes_on-self-inside.result c.read-did.ensures.told c.read-did.ensures.step c.listen-heard.ensures
+    c.keep_order.ensures c.step-did.result c.args.pool.now
+    c.step-did.new.pool c.args.locks.now c.step-did.new.locks c.listen-heard.new.inquiry
+    c.listen-heard.new.room c.listen-heard.result c.self.inside.question c.step-did.new.self c.listen-heard.new.question
+    c.goes_on-self-inside.result c.step-did.ensures c.listen-heard.ensures
     c.goes_on-self-inside.ensures c.self.inside.is_asking some c.self.invariant row
 
 pub invariant_of-self-2 : goal.invariant_of-self-2
@@ -22,10 +22,10 @@ invariant_of-self-2 g c =
     let some = subst (λ (v : QuestionsView). IsSome v.question) (sym c.self.view_is) c.requires.under_way in
     under_in (g.K.PseudoKey.of_key c.args.keys.now) c.args.seat c.args.call.now
     c.self.inside.inquiry c.self.inside.room c.self.inside.names c.self.inside.finds
-    c.keep_order.ensures c.read-did.result c.args.pool.now
-    c.read-did.new.pool c.args.locks.now c.read-did.new.locks c.listen-heard.new.inquiry c.listen-heard.new.room
-    c.listen-heard.result c.self.inside.question c.read-did.new.question c.listen-heard.new.question
-    c.goes_on-self-inside.result c.read-did.ensures.told c.read-did.ensures.step c.listen-heard.ensures
+    c.keep_order.ensures c.step-did.result c.args.pool.now
+    c.step-did.new.pool c.args.locks.now c.step-did.new.locks c.listen-heard.new.inquiry
+    c.listen-heard.new.room c.listen-heard.result c.self.inside.question c.step-did.new.self c.listen-heard.new.question
+    c.goes_on-self-inside.result c.step-did.ensures c.listen-heard.ensures
     c.goes_on-self-inside.ensures c.self.inside.is_asking some c.self.invariant row
 
 pub finds_behind-self-inside-requires : goal.finds_behind-self-inside-requires
@@ -34,10 +34,10 @@ finds_behind-self-inside-requires g c =
     let some = subst (λ (v : QuestionsView). IsSome v.question) (sym c.self.view_is) c.requires.under_way in
     seated_in (g.K.PseudoKey.of_key c.args.keys.now) c.args.seat c.args.call.now
     c.self.inside.inquiry c.self.inside.room c.self.inside.names c.self.inside.finds
-    c.keep_order.ensures c.read-did.result c.args.pool.now
-    c.read-did.new.pool c.args.locks.now c.read-did.new.locks c.listen-heard.new.inquiry c.listen-heard.new.room
-    c.listen-heard.result c.self.inside.question c.read-did.new.question c.listen-heard.new.question
-    c.goes_on-self-inside.result c.read-did.ensures.told c.read-did.ensures.step c.listen-heard.ensures
+    c.keep_order.ensures c.step-did.result c.args.pool.now
+    c.step-did.new.pool c.args.locks.now c.step-did.new.locks c.listen-heard.new.inquiry
+    c.listen-heard.new.room c.listen-heard.result c.self.inside.question c.step-did.new.self c.listen-heard.new.question
+    c.goes_on-self-inside.result c.step-did.ensures c.listen-heard.ensures
     c.goes_on-self-inside.ensures c.self.inside.is_asking some row c.requires.seat
 
 pub returns : goal.returns
@@ -46,10 +46,10 @@ returns g c =
     let some = subst (λ (v : QuestionsView). IsSome v.question) (sym c.self.view_is) c.requires.under_way in
     rw (← c.self.view_is) (went_in (g.K.PseudoKey.of_key c.args.keys.now) c.args.seat c.args.call.now
     c.self.inside.inquiry c.self.inside.room c.self.inside.names c.self.inside.finds
-    c.keep_order.ensures c.read-did.result c.args.pool.now
-    c.read-did.new.pool c.args.locks.now c.read-did.new.locks c.listen-heard.new.inquiry c.listen-heard.new.room
-    c.listen-heard.result c.self.inside.question c.read-did.new.question c.listen-heard.new.question
-    c.goes_on-self-inside.result c.read-did.ensures.told c.read-did.ensures.step c.listen-heard.ensures
+    c.keep_order.ensures c.step-did.result c.args.pool.now
+    c.step-did.new.pool c.args.locks.now c.step-did.new.locks c.listen-heard.new.inquiry
+    c.listen-heard.new.room c.listen-heard.result c.self.inside.question c.step-did.new.self c.listen-heard.new.question
+    c.goes_on-self-inside.result c.step-did.ensures c.listen-heard.ensures
     c.goes_on-self-inside.ensures c.requires.seat c.finds_behind-self-inside.result c.finds_behind-self-inside.ensures
     c.self.inside.is_asking some c.self.invariant row)
 
@@ -59,8 +59,8 @@ returns-in_default g c =
     let some = subst (λ (v : QuestionsView). IsSome v.question) (sym c.self.view_is) c.requires.under_way in
     rw (← c.self.view_is) (failed_in (g.K.PseudoKey.of_key c.args.keys.now) c.args.seat c.args.call.now
     c.self.inside.inquiry c.self.inside.room c.self.inside.names c.self.inside.finds
-    c.keep_order.ensures c.read-did.result c.args.pool.now
-    c.read-did.new.pool c.args.locks.now c.read-did.new.locks c.listen-heard.new.inquiry c.listen-heard.new.room
-    c.listen-heard.result c.self.inside.question c.read-did.new.question c.listen-heard.new.question
-    c.goes_on-self-inside.result c.read-did.ensures.told c.read-did.ensures.step c.listen-heard.ensures
+    c.keep_order.ensures c.step-did.result c.args.pool.now
+    c.step-did.new.pool c.args.locks.now c.step-did.new.locks c.listen-heard.new.inquiry
+    c.listen-heard.new.room c.listen-heard.result c.self.inside.question c.step-did.new.self c.listen-heard.new.question
+    c.goes_on-self-inside.result c.step-did.ensures c.listen-heard.ensures
     c.goes_on-self-inside.ensures c.self.inside.is_asking some c.self.invariant row c.in_default.not-Ok)

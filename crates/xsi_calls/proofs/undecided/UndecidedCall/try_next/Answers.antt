@@ -7,7 +7,7 @@ use Rattle.xsi_calls.specs.Undecided.{locks_in}
 use Rattle.xsi_calls.specs.UndecidedSteps.{MakesUndecided}
 use Rattle.xsi_calls.specs.UndecidedWords.{AnyInquiry, IsSeat, QuestionsView, Table, plan_of, writes_locks}
 use Rattle.xsi_calls.proofs.StepLemmas.{tried_with}
-use Rattle.xsi_calls.proofs.undecided.UndecidedCall.go_on.Goals as goal
+use Rattle.xsi_calls.proofs.undecided.UndecidedCall.try_next.Goals as goal
 
 pub count-requires : goal.count-requires
 count-requires g c =
