@@ -33,17 +33,25 @@ impl<D: PageDevice + Drop, K: PseudoKey + Drop> Kernel<D, K> {
     {
         self.is_whole();
         let mut moves = 0;
+        let mut may_go_ahead = true;
         while moves < MOST_STEPS {
-            if self.skip(seat, MOST_STEPS - moves) {
-                moves += QUESTION_STEPS;
-                continue;
-            }
-            if self.reach(seat, MOST_STEPS - moves) {
-                moves += WRITE_STEPS;
-                continue;
+            if may_go_ahead {
+                if self.skip(seat, MOST_STEPS - moves) {
+                    moves += QUESTION_STEPS;
+                    continue;
+                }
+                if self.reach(seat, MOST_STEPS - moves) {
+                    moves += WRITE_STEPS;
+                    // The write itself comes next.
+                    may_go_ahead = false;
+                    continue;
+                }
             }
             match self.step(seat) {
-                Step::Moved(_) => moves += 1,
+                Step::Moved(kind) => {
+                    moves += 1;
+                    may_go_ahead = may_begin_access(kind);
+                }
                 other => return other,
             }
         }
@@ -106,5 +114,32 @@ impl<D: PageDevice + Drop, K: PseudoKey + Drop> Kernel<D, K> {
         self.searches.note(seat, Kind::ReadDepth, true, false);
         self.searches.are_sound();
         true
+    }
+}
+
+/// Whether a question or a write may begin behind a step of this kind. The one before it ends by a
+/// Release, the names that it needs come by Grants, and what a call pays begins behind its Decide.
+/// Only time hangs on it: where nothing can be made in one go, `step` makes it.
+fn may_begin_access(kind: Kind) -> bool {
+    match kind {
+        Kind::Grant | Kind::Release | Kind::Decide => true,
+        Kind::ReadDepth
+        | Kind::ReadEntry
+        | Kind::Look
+        | Kind::Hop
+        | Kind::WriteRecord
+        | Kind::TakePage
+        | Kind::CopyDirectory
+        | Kind::RaiseDepth
+        | Kind::WriteNew
+        | Kind::WriteOld
+        | Kind::Retarget
+        | Kind::SetCounts
+        | Kind::WriteLeft
+        | Kind::Tombstone
+        | Kind::Convert
+        | Kind::WriteFree
+        | Kind::LinkFree
+        | Kind::LowerDepth => false,
     }
 }

@@ -7,7 +7,23 @@ use Rattle.interleaving_core.specs.declared.kernel.TheConstants.{MOST_STEPS}
 use Rattle.interleaving_core.specs.declared.kernel.driving.TheConstants.{QUESTION_STEPS, WRITE_STEPS}
 use Rattle.interleaving_core.proofs.DriveLemmas.{HasMoved, is_spent, moves_after, moves_on, none_made, rests_at}
 use Rattle.interleaving_core.proofs.RunLemmas.{no_move, runs_on}
+use Rattle.interleaving_core.proofs.kernel.Kernel.drive.Given as given
+use Rattle.interleaving_core.proofs.kernel.Kernel.drive.Goals.{After-step}
 use Rattle.interleaving_core.proofs.kernel.Kernel.drive.Goals as goal
+
+-- what was tried in vain before a step has changed nothing
+has_moved : (g : given.Over) (c : After-step g) →
+    HasMoved g.K.PseudoKey.of_key c.args.seat c.loop-moves.moves c.args.self.now
+    c.if-may_go_ahead.self
+has_moved g c =
+    let same : c.if-may_go_ahead.self ≡ c.loop-moves.self = elim c.if-may_go_ahead.branch [
+      | goal.then-may_go_ahead+else-skip+else-reach w ↦
+          w.self-is ∙ w.reach.ensures.spares w.if-reach.false
+          ∙ w.skip.ensures.spares w.if-skip.false
+      | goal.else-may_go_ahead w ↦ w.self-is
+    ] in
+    subst (HasMoved g.K.PseudoKey.of_key c.args.seat c.loop-moves.moves c.args.self.now) (sym same)
+    c.loop-moves.invariant.moved
 
 pub loop-moves-init : goal.loop-moves-init
 loop-moves-init g c = record {
@@ -59,22 +75,25 @@ loop-moves-preserved-then-reach g c =
 
 pub step-requires : goal.step-requires
 step-requires g c =
-    subst (λ (k : KernelState g.row.K.Denot). IsSeat k.locks c.args.seat)
-    (sym (c.reach.ensures.spares c.if-reach.false ∙ c.skip.ensures.spares c.if-skip.false))
+    let same : c.if-may_go_ahead.self ≡ c.loop-moves.self = elim c.if-may_go_ahead.branch [
+      | goal.then-may_go_ahead+else-skip+else-reach w ↦
+          w.self-is ∙ w.reach.ensures.spares w.if-reach.false
+          ∙ w.skip.ensures.spares w.if-skip.false
+      | goal.else-may_go_ahead w ↦ w.self-is
+    ] in
+    subst (λ (k : KernelState g.row.K.Denot). IsSeat k.locks c.args.seat) (sym same)
     c.loop-moves.invariant.moved.seated
 
 pub loop-moves-preserved : goal.loop-moves-preserved
 loop-moves-preserved g c =
     let test = c.loop-moves-test.true in
-    let so_far = subst (λ (k : KernelState g.row.K.Denot). HasMoved g.K.PseudoKey.of_key c.args.seat
-    c.loop-moves.moves c.args.self.now k)
-    (sym (c.reach.ensures.spares c.if-reach.false ∙ c.skip.ensures.spares c.if-skip.false))
-    c.loop-moves.invariant.moved in
+    let moved = has_moved g (goal.at.loop-moves-preserved g c).After-step in
     record {
       few = omega (arith, test);
-      moved = moves_on g.K.PseudoKey.of_key c.args.seat c.loop-moves.moves c.args.self.now c.reach.new.self so_far
-          c.step.result c.step.new.self (record { turn = c.step.ensures.turn; makes = c.step.ensures.makes })
-          c.in-Moved.field-0 c.in-Moved.is;
+      moved = moves_on g.K.PseudoKey.of_key c.args.seat c.loop-moves.moves c.args.self.now
+          c.if-may_go_ahead.self moved c.step.result c.step.new.self
+          (record { turn = c.step.ensures.turn; makes = c.step.ensures.makes })
+          c.in-Moved.kind c.in-Moved.is;
     }
 
 pub returns-in_default : goal.returns-in_default
@@ -82,17 +101,14 @@ returns-in_default g c =
     let rests = no_move c.step.result c.in_default.not-Moved in
     let test = c.loop-moves-test.true in
     let few : c.loop-moves.moves < MOST_STEPS = omega (arith, test) in
-    let so_far = subst (λ (k : KernelState g.row.K.Denot). HasMoved g.K.PseudoKey.of_key c.args.seat
-    c.loop-moves.moves c.args.self.now k)
-    (sym (c.reach.ensures.spares c.if-reach.false ∙ c.skip.ensures.spares c.if-skip.false))
-    c.loop-moves.invariant.moved in
+    let moved = has_moved g (goal.at.returns-in_default g c).After-step in
     record {
-      run = runs_on c.args.seat c.step.result c.args.self.now c.reach.new.self c.step.new.self so_far.run
-          c.step.ensures.turn;
+      run = runs_on c.args.seat c.step.result c.args.self.now c.if-may_go_ahead.self
+          c.step.new.self moved.run c.step.ensures.turn;
       rests = rests;
-      driven = rests_at g.K.PseudoKey.of_key c.args.seat c.loop-moves.moves c.args.self.now c.reach.new.self so_far
-          c.step.result c.step.new.self (record { turn = c.step.ensures.turn; makes = c.step.ensures.makes })
-          few rests;
+      driven = rests_at g.K.PseudoKey.of_key c.args.seat c.loop-moves.moves c.args.self.now
+          c.if-may_go_ahead.self moved c.step.result c.step.new.self
+          (record { turn = c.step.ensures.turn; makes = c.step.ensures.makes }) few rests;
     }
 
 pub returns-clause-driven : goal.returns-clause-driven
