@@ -20,8 +20,9 @@ use Rattle.msgq_cli.specs.declared.reply.Reply.TheVariants as replies
 use Rattle.msgq_cli.specs.Scripts.{Parts}
 use Rattle.replays.specs.Replays.{IsOpenedForSeats}
 use Rattle.replays.specs.Runs.{HasDecided, IsLeft, IsReady, IsRight, LacksRoom, Stands, standing, stop}
+use Rattle.replays.specs.Taking.{TakesCall, TakesCallIf, is_full}
 use Rattle.replays.specs.Telling.{is_waiting, reply_to}
-use Rattle.replays.proofs.CountLemmas.{answered_more, none_due, stops_count}
+use Rattle.replays.proofs.CountLemmas.{answered_more, full_parts, none_due, stops_count}
 
 -- a count that rose since a later step rose since an earlier one
 pub risen_since : (first old new : ℕ) → first ≤ old → HasRisen old new → HasRisen first new
@@ -49,7 +50,38 @@ opened_decided {script} {content} {honest} {k} for =
 
 -- ---- it does not begin
 
+module _ (answered seat : ℕ) (call : Call) where
+  -- a full run takes no call
+  pub takes_none : (k : KernelState ShaKey) → is_full answered k ≡ true →
+      TakesCall answered seat call (replies.Failed 61) k k
+  takes_none k full =
+      subst (λ (b : Bool). TakesCallIf b seat call (replies.Failed 61) k k) (sym full) (refl, refl)
+
+  -- another takes it
+  pub takes_some : (reply : Reply) (old new : KernelState ShaKey) → is_full answered old ≡ false →
+      TakesCallIf false seat call reply old new → TakesCall answered seat call reply old new
+  takes_some reply old new free taken =
+      subst (λ (b : Bool). TakesCallIf b seat call reply old new) (sym free) taken
+
 module _ (seat : ℕ) (c : Caller) (call : Call) (was n : ℕ) where
+  -- nothing has changed where the run is full
+  pub past_full : (answered : ℕ) (k : KernelState ShaKey) → is_full answered k ≡ true → answered ≤ n →
+      (s : Option State) → Stands was k s n →
+      IsLeft was k (IsRight seat c (command.Call call) (standing k s n) (replies.Failed 61))
+  past_full answered k full few (Some s) stands =
+      let most = (full_parts answered k full).0 in
+      record {
+        system = Some s;
+        decided = n;
+        is = record {
+          by_rules = (s, inl refl, (inr (inr (refl, omega (arith, most, few))), refl));
+          counted = no_more n;
+        };
+        stands = stands;
+      }
+  past_full answered k full few None stands =
+      absurd (sound_apart k (full_parts answered k full).1 stands.failed)
+
   -- nothing has changed where there is no memory for a copy of the call
   pub uncopied : (s : Option State) (k : KernelState ShaKey) → Stands was k s n →
       IsLeft was k (IsRight seat c (command.Call call) (standing k s n) (replies.Failed 60))
@@ -93,7 +125,7 @@ module _ (seat : ℕ) (c : Caller) (call : Call) (was n : ℕ) where
         let full : MAX_DECIDED < sum_by due_at old.seats + (length old.journal + due_for_stop old.stopped) =
         cause.2 in
         let none = none_due old.seats (λ place. stands.rests.idle (suc place)) in
-        let counted : length old.journal + due_for_stop old.stopped ≡ n + 1 = stands.counted in
+        let counted : length old.journal + due_for_stop old.stopped ≤ n + 1 = stands.counted in
         record {
           by_rules = (s, inl refl, (inr (inr (refl, omega (arith, full, none, counted))), refl));
           counted = no_more n;

@@ -22,7 +22,7 @@ use Rattle.msgq_cli.specs.declared.line.SeatIds.{SeatIds}
 use Rattle.msgq_cli.specs.declared.reply.Reply.{Reply}
 use Rattle.msgq_cli.specs.declared.reply.Reply.TheVariants.{Answered, Stopped, Failed}
 use Rattle.replays.specs.Replays.{callers_of}
-use Rattle.replays.specs.Taking.{IsDrivenFrom, TakesCommand, TakesLines}
+use Rattle.replays.specs.Taking.{IsDrivenFrom, TakesLine, TakesLines, decided_by}
 
 -- where a run is between two lines: its kernel, the system that this holds, unless the file has failed, and how many
 -- calls were decided
@@ -94,31 +94,27 @@ IsByRules seat c (command.Call call) None old reply t = IsTurned reply × (t ≡
 IsByRules seat c command.Stop (Some s) old reply t = (reply ≡ Stopped) × (t ≡ Some (stop s))
 IsByRules seat c command.Stop None old reply t = (reply ≡ Stopped) × (t ≡ None)
 
--- the calls that are decided where a line is replied this
-abbrev pub decided_by : Reply → ℕ
-decided_by (Answered answer) = 1
-decided_by Stopped = 0
-decided_by (Failed fault) = 0
-
 -- what a command is replied, and where it leaves the run
 pub record IsRight (seat : ℕ) (c : Caller) (said : Command) (old : Standing) (reply : Reply) (new : Standing)
     : Type 0 where
   pub by_rules : IsByRules seat c said old.system old reply new.system
   pub counted : new.decided ≡ old.decided + decided_by reply
 
--- and the kernel has done so
-pub record IsReplied (seat : ℕ) (c : Caller) (said : Command) (old : Standing) (reply : Reply) (new : Standing)
-    : Type 0 where
-  pub takes : TakesCommand seat said reply old.kernel new.kernel
+-- and the kernel has done so, behind so many calls of the run that were answered
+pub record IsReplied (answered seat : ℕ) (c : Caller) (said : Command) (old : Standing)
+    (reply : Reply) (new : Standing) : Type 0 where
+  pub takes : TakesLine answered seat said reply old.kernel new.kernel
   pub right : IsRight seat c said old reply new
 
 -- what the lines are replied, one after the other, and where the last leaves the run
-abbrev pub AreReplied : List SeatIds → List Line → Standing → List Reply → Standing → Type 0
-AreReplied ids [] old [] new = new ≡ old
-AreReplied ids (line ∷ lines) old (reply ∷ replies) new =
-    (next : Standing) × IsReplied line.seat (caller_of line.seat ids) line.command old reply next
-    × AreReplied ids lines next replies new
-AreReplied ids lines old replies new = ⊥
+abbrev pub AreReplied : List SeatIds → (answered : ℕ) → List Line → Standing → List Reply →
+    Standing → Type 0
+AreReplied ids answered [] old [] new = new ≡ old
+AreReplied ids answered (line ∷ lines) old (reply ∷ replies) new =
+    (next : Standing)
+    × IsReplied answered line.seat (caller_of line.seat ids) line.command old reply next
+    × AreReplied ids (answered + decided_by reply) lines next replies new
+AreReplied ids answered lines old replies new = ⊥
 
 -- ---- the kernel
 
@@ -126,9 +122,10 @@ AreReplied ids lines old replies new = ⊥
 abbrev pub AreSeated : Parts → List Caller → Type 0
 AreSeated script callers = callers ≡ callers_of script.ids (greatest_seat script.lines)
 
--- so many calls were decided: the journal has an entry of each, and one of the stop where the system is stopped
+-- so many calls were decided: the journal has an entry of each at most, and one of the stop where
+-- the system is stopped
 abbrev pub HasDecided : {K : Type 0} → ℕ → KernelState K → Type 0
-HasDecided decided k = length k.journal + due_for_stop k.stopped ≡ decided + 1
+HasDecided decided k = length k.journal + due_for_stop k.stopped ≤ decided + 1
 
 -- a step has failed, since the device had failed so often
 pub record HasFailed {K : Type 0} (was : ℕ) (k : KernelState K) : Type 0 where
@@ -164,7 +161,7 @@ pub record GoesByRules (script : Parts) (replies : List Reply) (first : Standing
     : Type 0 where
   pub system : Option State
   pub decided : ℕ
-  pub replied : AreReplied script.ids script.lines first replies (standing last system decided)
+  pub replied : AreReplied script.ids 0 script.lines first replies (standing last system decided)
   pub stands : Stands first.kernel.pool.faults last system decided
 
 -- a script was run: a kernel has taken its lines, and a line was printed for each, in order, with what it was replied;
@@ -172,7 +169,7 @@ pub record GoesByRules (script : Parts) (replies : List Reply) (first : Standing
 pub record IsRun (script : Parts) (first last : KernelState ShaKey) (old new : OutputState) (ending : Ending)
     : Type 0 where
   pub replies : List Reply
-  pub takes : TakesLines script.lines replies first last
+  pub takes : TakesLines 0 script.lines replies first last
   pub prints : Prints old new (printed script.lines replies)
   pub ends : ending ≡ ending_of replies
   -- from a system at rest they are replied by the rules

@@ -8,11 +8,11 @@ ghost use Rattle.interleavings.specs.LoneKernelWords.{Call, Caller, HasCall, IsS
 ghost use Rattle.interleavings.specs.interleaving_core.Words.{spared};
 ghost use Rattle.replays.specs.Events.{BeginsCall};
 ghost use Rattle.replays.specs.Runs.{AreSeated, HasDecided, IsLeft, IsRight, IsRun, Stands, standing};
-ghost use Rattle.replays.specs.Taking.{TakesCall, TakesCommand};
+ghost use Rattle.replays.specs.Taking.{IsDrivenToReply, IsShortened, TakesCall, TakesCommand, decided_by, is_full};
 ghost use Rattle.replays.specs.Telling.{is_waiting, reply_to};
 
 use crate::opening::FileKeys;
-use interleavings::interleaving_core::{Kernel, Step};
+use interleavings::interleaving_core::{Kernel, MAX_DECIDED, Step};
 use interleavings::{
     a_call_begins_on_a_kernel_at_rest, a_call_that_waits_is_stopped, a_kernel_at_rest_is_stopped,
     a_lone_drive_answers_by_the_rules, a_lone_step_answers_by_the_rules,
@@ -23,6 +23,9 @@ use numbers::faults;
 use page_device::PageDevice;
 use queue_model::Call;
 use std::io::Write;
+
+/// The journal of a run is let go once it has so many entries.
+const LONG_JOURNAL: usize = 256;
 
 /// Runs the lines of a script one after the other, each at its seat, and prints what each is replied.
 ///
@@ -46,32 +49,36 @@ pub fn run_lines<D: PageDevice + Drop, W: Write + Drop>(
 {
     script.keeps_seats();
     let mut ending = Ending::Done;
+    let mut answered = 0;
     for line in script.lines() {
         kernel.is_whole();
-        let reply = reply(kernel, line.seat, &line.command);
+        let reply = reply(kernel, line.seat, &line.command, answered);
         reply.print(line.number, output);
         ending = ending.after(&reply);
+        answered += decided_by(&reply);
+        shorten(kernel);
     }
     ending
 }
 
-/// What a command of a seat is replied.
+/// What a command of a seat is replied, where so many calls of the run were answered.
 fn reply<D: PageDevice + Drop>(
     kernel: &mut Kernel<D, FileKeys>,
     seat: u8,
     command: &Command,
+    answered: usize,
 ) -> Reply
     requires { IsSeat kernel.old.locks seat }
-    ensures takes { TakesCommand seat command.now result kernel.old kernel.new }
+    ensures takes { TakesCommand answered seat command.now result kernel.old kernel.new }
     ensures replied { (c : Caller) (was : ℕ) (s : Option State) (n : ℕ) →
-        caller_at kernel.old.callers seat ≡ Some c → Stands was kernel.old s n →
+        caller_at kernel.old.callers seat ≡ Some c → answered ≤ n → Stands was kernel.old s n →
         IsLeft was kernel.new (IsRight seat c command.now (standing kernel.old s n) result) }
     ensures callers { kernel.new.callers ≡ kernel.old.callers }
     ensures honest { kernel.new.pool.honest ≡ kernel.old.pool.honest }
     ensures stored { spared kernel.new.pool ≡ spared kernel.old.pool }
 {
     match command {
-        Command::Call(call) => call_at(kernel, seat, call),
+        Command::Call(call) => call_at(kernel, seat, call, answered),
         Command::Stop => {
             a_kernel_at_rest_is_stopped::<FileKeys>();
             kernel.stop();
@@ -80,22 +87,38 @@ fn reply<D: PageDevice + Drop>(
     }
 }
 
-/// What a call of a seat is replied.
-fn call_at<D: PageDevice + Drop>(kernel: &mut Kernel<D, FileKeys>, seat: u8, call: &Call) -> Reply
+/// What a call of a seat is replied, where so many calls of the run were answered.
+fn call_at<D: PageDevice + Drop>(
+    kernel: &mut Kernel<D, FileKeys>,
+    seat: u8,
+    call: &Call,
+    answered: usize,
+) -> Reply
     requires { IsSeat kernel.old.locks seat }
-    ensures takes { TakesCall seat call.now result kernel.old kernel.new }
+    ensures takes { TakesCall answered seat call.now result kernel.old kernel.new }
     ensures replied { (c : Caller) (was : ℕ) (s : Option State) (n : ℕ) →
-        caller_at kernel.old.callers seat ≡ Some c → Stands was kernel.old s n →
+        caller_at kernel.old.callers seat ≡ Some c → answered ≤ n → Stands was kernel.old s n →
         IsLeft was kernel.new
         (IsRight seat c (Command.Call call.now) (standing kernel.old s n) result) }
     ensures callers { kernel.new.callers ≡ kernel.old.callers }
     ensures honest { kernel.new.pool.honest ≡ kernel.old.pool.honest }
     ensures stored { spared kernel.new.pool ≡ spared kernel.old.pool }
 {
+    if is_full(kernel, answered) {
+        return Reply::Failed(faults::SESSION_FULL);
+    }
     if let Some(reply) = begin(kernel, seat, call) {
         return reply;
     }
     reply_to(conclude(kernel, seat))
+}
+
+/// Whether so many calls of a run were answered that it may have no more. A failure of the file is
+/// told first, by the kernel.
+fn is_full<D: PageDevice + Drop>(kernel: &Kernel<D, FileKeys>, answered: usize) -> bool
+    ensures { result ≡ is_full answered kernel.now }
+{
+    answered >= MAX_DECIDED && !kernel.has_failed()
 }
 
 /// A call of a seat begins, or is replied why it does not.
@@ -133,7 +156,8 @@ fn begin<D: PageDevice + Drop>(
 fn conclude<D: PageDevice + Drop>(kernel: &mut Kernel<D, FileKeys>, seat: u8) -> Step
     requires { IsSeat kernel.old.locks seat }
     ensures takes { (call : Call) (before : KernelState ShaKey) →
-        HasCall seat call before kernel.old → TakesCall seat call (reply_to result) before kernel.new }
+        HasCall seat call before kernel.old →
+        IsDrivenToReply seat call (reply_to result) before kernel.new }
     ensures concluded { (c : Caller) (call : Call) (was : ℕ) (s : State) (n : ℕ)
         (before : KernelState ShaKey) → HasCall seat call before kernel.old →
         ServesOver sha_key seat c call s kernel.old → was ≤ kernel.old.pool.faults →
@@ -173,4 +197,25 @@ fn reply_to(told: Step) -> Reply
             Reply::Failed(faults::FAILED)
         }
     }
+}
+
+/// The calls that are decided where a line is replied this.
+fn decided_by(reply: &Reply) -> usize
+    ensures value { result ≡ decided_by reply.now }
+    ensures few { result ≤ 1 }
+{
+    match reply {
+        Reply::Answered(_) => 1,
+        Reply::Stopped | Reply::Failed(_) => 0,
+    }
+}
+
+/// Lets the journal go where it is long: nobody reads it, and its memory is used again.
+fn shorten<D: PageDevice + Drop>(kernel: &mut Kernel<D, FileKeys>)
+    ensures { IsShortened kernel.old kernel.new }
+{
+    if kernel.journal().len() < LONG_JOURNAL || !kernel.is_between_calls() {
+        return;
+    }
+    kernel.forget();
 }

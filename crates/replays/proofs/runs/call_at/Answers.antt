@@ -1,21 +1,34 @@
-use Rattle.std.proofs.Common.{inl, sym, ap, ◌∙◌, subst, Option, Some}
+use Rattle.std.proofs.Common.{inl, inr, sym, ap, ◌∙◌, subst, Option, Some}
 use Rattle.interleavings.specs.LoneKernelWords.{HasCall}
 use Rattle.interleavings.specs.interleaving_core.Words.{spared}
 use Rattle.msgq_cli.specs.declared.command.Command.TheVariants as command
 use Rattle.msgq_cli.specs.declared.reply.Reply.{Reply}
 use Rattle.replays.specs.Events.{BeginsCall}
 use Rattle.replays.specs.Runs.{IsLeft, IsRight, standing}
-use Rattle.replays.specs.Taking.{TakesCall}
-use Rattle.replays.proofs.CallLemmas.{goes_on}
+use Rattle.replays.specs.Taking.{IsDrivenToReply}
+use Rattle.replays.proofs.CallLemmas.{goes_on, past_full, takes_none, takes_some}
 use Rattle.replays.proofs.runs.call_at.Goals as goal
 
+-- the run is full
+pub returns-then-is_full-clause-takes : goal.returns-then-is_full-clause-takes
+returns-then-is_full-clause-takes g c =
+    takes_none c.args.answered c.args.seat c.args.call.now c.args.kernel.now (sym c.if-is_full.ensures)
+
+pub returns-then-is_full-clause-replied : goal.returns-then-is_full-clause-replied
+returns-then-is_full-clause-replied g c = λ who was s n sits few stands.
+    past_full c.args.seat who c.args.call.now was n c.args.answered c.args.kernel.now (sym c.if-is_full.ensures)
+    few s stands
+
+-- its call does not begin
 pub returns-in-Some-clause-takes : goal.returns-in-Some-clause-takes
 returns-in-Some-clause-takes g c =
-    inl (subst (λ (r : Option Reply). BeginsCall c.args.seat c.args.call.now r c.args.kernel.now c.begin.new.kernel)
-    c.in-Some.is c.begin.ensures.begins)
+    takes_some c.args.answered c.args.seat c.args.call.now c.in-Some.reply c.args.kernel.now c.begin.new.kernel
+    (sym c.if-is_full.ensures)
+    (inl (subst (λ (r : Option Reply). BeginsCall c.args.seat c.args.call.now r c.args.kernel.now c.begin.new.kernel)
+    c.in-Some.is c.begin.ensures.begins))
 
 pub returns-in-Some-clause-replied : goal.returns-in-Some-clause-replied
-returns-in-Some-clause-replied g c = λ who was s n sits stands.
+returns-in-Some-clause-replied g c = λ who was s n sits few stands.
     c.begin.ensures.away c.in-Some.reply who was s n c.in-Some.is stands
 
 -- its call has begun
@@ -24,11 +37,13 @@ returns-clause-takes g c =
     let has : HasCall c.args.seat c.args.call.now c.args.kernel.now c.begin.new.kernel =
     subst (λ (r : Option Reply). BeginsCall c.args.seat c.args.call.now r c.args.kernel.now c.begin.new.kernel)
     c.in_default.is c.begin.ensures.begins in
-    subst (λ (r : Reply). TakesCall c.args.seat c.args.call.now r c.args.kernel.now c.conclude.new.kernel)
-    (sym c.reply_to.ensures) (c.conclude.ensures.takes c.args.call.now c.args.kernel.now has)
+    takes_some c.args.answered c.args.seat c.args.call.now c.reply_to.result c.args.kernel.now c.conclude.new.kernel
+    (sym c.if-is_full.ensures) (inr (subst (λ (r : Reply).
+    IsDrivenToReply c.args.seat c.args.call.now r c.args.kernel.now c.conclude.new.kernel)
+    (sym c.reply_to.ensures) (c.conclude.ensures.takes c.args.call.now c.args.kernel.now has)))
 
 pub returns-clause-replied : goal.returns-clause-replied
-returns-clause-replied g c = λ who was s n sits stands.
+returns-clause-replied g c = λ who was s n sits few stands.
     let has : HasCall c.args.seat c.args.call.now c.args.kernel.now c.begin.new.kernel =
     subst (λ (r : Option Reply). BeginsCall c.args.seat c.args.call.now r c.args.kernel.now c.begin.new.kernel)
     c.in_default.is c.begin.ensures.begins in

@@ -14,14 +14,14 @@ use Rattle.replays.proofs.runs.conclude.Goals as goal
 -- its drive has come to an end
 pub returns-then-not-is_waiting-clause-takes : goal.returns-then-not-is_waiting-clause-takes
 returns-then-not-is_waiting-clause-takes g c = λ call before has.
-    inr (record {
+    record {
       from = c.args.kernel.now;
       begins = inl has;
       did = c.drive-told.result;
       driven = c.drive-told.ensures.driven;
       told = refl;
       stopped = λ waits. absurd (true≢false (sym (ap is_waiting waits) ∙ sym c.if-not-is_waiting.ensures));
-    })
+    }
 
 pub returns-then-not-is_waiting-clause-concluded : goal.returns-then-not-is_waiting-clause-concluded
 returns-then-not-is_waiting-clause-concluded g c = λ who call was s n before has serves so_far counted.
@@ -43,7 +43,7 @@ returns-then-not-is_waiting-clause-concluded g c = λ who call was s n before ha
 -- it waits, and is driven on in the stopped system
 pub returns-clause-takes : goal.returns-clause-takes
 returns-clause-takes g c = λ call before has.
-    inr (record {
+    record {
       from = c.stop.new.self;
       begins = inr (record {
         begun = c.args.kernel.now;
@@ -57,7 +57,7 @@ returns-clause-takes g c = λ call before has.
       driven = c.drive.ensures.driven;
       told = refl;
       stopped = λ waits. stopped_mark c.drive-told.new.self c.stop.new.self c.stop.ensures;
-    })
+    }
 
 pub returns-clause-concluded : goal.returns-clause-concluded
 returns-clause-concluded g c = λ who call was s n before has serves so_far counted.
