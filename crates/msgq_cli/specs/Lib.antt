@@ -9,6 +9,7 @@ pub mod Refusals
 pub mod Reports
 pub mod Runs
 pub mod Scripts
+pub mod Spelling
 pub mod Tasks
 pub mod Texts
 pub mod Unread

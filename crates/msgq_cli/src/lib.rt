@@ -25,6 +25,7 @@ mod refusals;
 mod reply;
 mod reports;
 mod script;
+mod spelling;
 
 pub use advice::advise;
 pub use checks::{check_on, print_found, report_file, warn_of_journal};

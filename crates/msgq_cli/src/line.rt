@@ -9,7 +9,7 @@ ghost use Rattle.schedules.specs.Words.{texts};
 
 use crate::command::{Command, number_at, read_command};
 use crate::mistake::{Expected, Mistake, Unread};
-use schedules::{is_word, seat, words};
+use schedules::{is_word, seat, words_into};
 use std::alloc::Global;
 
 /// A line with a command.
@@ -45,8 +45,14 @@ pub(crate) enum Content {
     Line(Line),
 }
 
-/// What the line of a number says. The bytes have the end of the line.
-pub(crate) fn read_content(alloc: Global, number: u64, line: &[u8]) -> Result<Content, Unread>
+/// What the line of a number says. The bytes have the end of the line. Its words are put into
+/// `words`, in place of what stood there.
+pub(crate) fn read_content<'a>(
+    alloc: Global,
+    number: u64,
+    line: &'a [u8],
+    words: &mut Vec<&'a [u8]>,
+) -> Result<Content, Unread>
     ensures value { IsRead result (content_of number line.now) }
     ensures within { IfOk result HasSeat }
 {
@@ -56,7 +62,10 @@ pub(crate) fn read_content(alloc: Global, number: u64, line: &[u8]) -> Result<Co
     }
     match text {
         [] | [b'#', ..] => Ok(Content::Nothing),
-        _ => worded(alloc, number, &words(alloc, text)?),
+        _ => {
+            words_into(words, text)?;
+            worded(alloc, number, words.as_slice())
+        }
     }
 }
 

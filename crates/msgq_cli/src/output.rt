@@ -1,10 +1,14 @@
 //! Where answers are printed.
 
-ghost use Rattle.std.specs.Prelude.{◌≡◌, false, [], is_some};
+ghost use Rattle.std.specs.Prelude.{◌≡◌, false, [], is_some, map};
 ghost use Rattle.std.specs.Io.Buffered.{writer_contents, writer_inner};
+ghost use Rattle.msgq_cli.specs.Answers.{line_of};
 ghost use Rattle.msgq_cli.specs.Outputs.{Prints, Takes};
+ghost use Rattle.msgq_cli.specs.Texts.{text_of};
 
 use crate::line_faults::LineFaults;
+use crate::printed_word::PrintedWord;
+use crate::spelling::{ROOM, spell_line};
 use std::io;
 use std::io::{BufWriter, ErrorKind, Write};
 use std::marker::Model;
@@ -16,6 +20,8 @@ pub struct Output<W: Write + Drop> {
     writer: BufWriter<W>,
     refusal: Option<io::Error>,
     line_faults: LineFaults,
+    /// Where a line is spelled.
+    room: [u8; ROOM],
 }
 
 impl<W: Write + Drop> Model for Output<W> {
@@ -43,6 +49,7 @@ impl<W: Write + Drop> Output<W> {
             writer,
             refusal: None,
             line_faults: LineFaults::NONE,
+            room: [0; ROOM],
         }
     }
 
@@ -92,6 +99,20 @@ impl<W: Write + Drop> Output<W> {
         ensures { self.new ≡ self.old }
     {
         self.line_faults.note(line, fault);
+    }
+
+    /// Prints words with a space between each two, and an LF behind them: as one text where it can
+    /// be spelled, and else word by word.
+    pub(crate) fn line(&mut self, words: &[PrintedWord<'_>])
+        ensures { Prints self.old self.new (line_of (map text_of words.now)) }
+    {
+        let Some(start) = spell_line(words, &mut self.room) else {
+            return self.word_by_word(words);
+        };
+        if self.refusal.is_none() {
+            let room = self.room.as_slice();
+            self.refusal = write_all(&mut self.writer, &room[start..]);
+        }
     }
 
     /// Prints a text.

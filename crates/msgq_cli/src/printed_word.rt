@@ -32,8 +32,8 @@ pub(crate) enum PrintedWord<'a> {
 }
 
 impl<W: Write + Drop> Output<W> {
-    /// Prints words with a space between each two, and an LF behind them.
-    pub(crate) fn line(&mut self, words: &[PrintedWord<'_>])
+    /// Prints a line word by word.
+    pub(crate) fn word_by_word(&mut self, words: &[PrintedWord<'_>])
         ensures { Prints self.old self.new (line_of (map text_of words.now)) }
     {
         let Some((first, rest)) = words.split_first() else {

@@ -54,12 +54,13 @@ pub fn read_script(alloc: Global, bytes: &[u8]) -> Result<Script, ScriptError>
     ensures { Reads result (script_of bytes.now) }
 {
     let mut script = Script::empty(alloc);
+    let mut words = Vec::new(alloc);
     let mut number = 0;
     let mut rest = bytes;
     'lines: while !rest.is_empty() {
         let (line, after) = rest.split_at(first_line_len(rest));
         number += 1;
-        match script.add(alloc, number, line) {
+        match script.add(alloc, number, line, &mut words) {
             Ok(()) => {}
             Err(Unread::Wrong(mistake)) => {
                 return Err(ScriptError::WrongLine {
@@ -127,13 +128,19 @@ impl Script {
         let _ = &self.lines;
     }
 
-    /// One line more.
-    fn add(&mut self, alloc: Global, number: u64, line: &[u8]) -> Result<(), Unread>
+    /// One line more. Its words are put into `words`, in place of what stood there.
+    fn add<'a>(
+        &mut self,
+        alloc: Global,
+        number: u64,
+        line: &'a [u8],
+        words: &mut Vec<&'a [u8]>,
+    ) -> Result<(), Unread>
         ensures ok { OnOk result (with_line number self.old line.now ≡ Some self.new) }
         ensures wrong { (mistake : Mistake) → IsErrOf result (Unread.Wrong mistake) →
             with_line number self.old line.now ≡ None }
     {
-        let said = read_content(alloc, number, line)?;
+        let said = read_content(alloc, number, line, words)?;
         match said {
             Content::Nothing => {}
             Content::Ids(ids) => {

@@ -35,14 +35,21 @@ pub(crate) fn spelled(alloc: Global, word: &[u8]) -> Result<Body, Refusal>
     Ok(Body::new(bytes))
 }
 
-/// The value of a digit.
+/// The value of a digit. Below the first digit of a range the difference wraps, and passes that of
+/// its last: so each range is one test.
 fn value(digit: u8) -> u8
     ensures { result ≡ unwrap_or (hex_digit_value digit) NO_DIGIT }
 {
-    match digit {
-        b'0'..=b'9' => digit - b'0',
-        b'a'..=b'f' => digit - b'a' + 10,
-        b'A'..=b'F' => digit - b'A' + 10,
-        _ => NO_DIGIT,
+    let decimal = digit.wrapping_sub(b'0');
+    let lower = digit.wrapping_sub(b'a');
+    let upper = digit.wrapping_sub(b'A');
+    if decimal < 10 {
+        decimal
+    } else if lower < 6 {
+        lower + 10
+    } else if upper < 6 {
+        upper + 10
+    } else {
+        NO_DIGIT
     }
 }

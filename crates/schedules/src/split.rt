@@ -15,14 +15,23 @@ pub fn words(alloc: Global, text: &[u8]) -> Result<Vec<&[u8]>, AllocError>
     ensures { IfOk result (λ words. texts words.items ≡ words_of text.now) }
 {
     let mut words = Vec::with_capacity(alloc, ROOM)?;
+    words_into(&mut words, text)?;
+    Ok(words)
+}
+
+/// The same, put into `words` in place of what stood there: so one list serves a whole script.
+pub fn words_into<'a>(words: &mut Vec<&'a [u8]>, text: &'a [u8]) -> Result<(), AllocError>
+    ensures { OnOk result (texts words.new.items ≡ words_of text.now) }
+{
+    words.clear();
     let mut rest = text;
     'blanks: while let Some(end) = memchr2(b' ', b'\t', rest) {
         let (part, after) = rest.split_at(end);
-        keep(&mut words, part)?;
+        keep(words, part)?;
         rest = &after[1..];
     }
-    keep(&mut words, rest)?;
-    Ok(words)
+    keep(words, rest)?;
+    Ok(())
 }
 
 /// What stands before a blank is a word, unless it is empty.
