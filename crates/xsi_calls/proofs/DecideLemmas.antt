@@ -226,10 +226,12 @@ module _ (hash : RecordKey → ℕ) (seat : ℕ) (stopped : Bool) (caller : Call
         call = refl;
         most = refl;
         decides = λ none some. refl;
+        can_decide = λ undecided fine. (λ some. can, λ there. refl);
         stays = λ c same. absurd cc;
         bytes = λ some. refl;
         ended = (λ e. absurd cc, λ over. absurd over);
         over = λ e. absurd cc;
+        stage = tt;
         finds = refl;
       };
       row = alone ∙ ap (with_row locks seat) (sym (begun_alone hash settled trials.due q.names));
@@ -261,10 +263,12 @@ module _ (hash : RecordKey → ℕ) (seat : ℕ) (stopped : Bool) (caller : Call
       call = refl;
       most = refl;
       decides = λ none some. absurd cc;
+      can_decide = λ undecided fine. absurd cc;
       stays = λ c same. absurd cc;
       bytes = λ some. absurd cc;
       ended = (λ e. absurd cc, λ over. absurd over);
       over = λ e. absurd cc;
+      stage = tt;
       finds = refl;
     };
     row = alone ∙ sym (ap (λ (x : Option Question). with_row locks seat (locks_behind x q.names))

@@ -32,10 +32,12 @@ goes_on hash seat stopped caller call u u' did pool pool' locks locks' more made
     call = refl;
     most = made.aim.most;
     decides = λ none some. absurd cc;
+    can_decide = λ undecided fine. (λ some. absurd cc, λ can. absurd (more (made.aim.ended.1 can)));
     stays = λ c is. absurd cc;
     bytes = λ some. absurd cc;
     ended = (λ e. absurd (more e), λ over. absurd over);
     over = λ e. absurd (more e);
+    stage = tt;
     finds = made.aim.finds;
   };
   row = made.row;

@@ -8,7 +8,7 @@ use Rattle.xsi_calls.proofs.Names.{AccessView, Deed, FileFault, facts_under, loc
 use Rattle.xsi_calls.specs.declared.payment.Stage.TheVariants as stages
 use Rattle.xsi_calls.specs.declared.conclusion.Conclusion.{Conclusion}
 use Rattle.xsi_calls.specs.declared.phase.Phase.{Phase}
-use Rattle.xsi_calls.specs.Stages.{Stage, Paying, Releasing, stage_at}
+use Rattle.xsi_calls.specs.Stages.{Stage, Undecided, Paying, Releasing, stage_at}
 use Rattle.xsi_calls.specs.PaymentWords.{Work}
 use Rattle.xsi_calls.specs.PaySteps.{StepsPart}
 use Rattle.xsi_calls.proofs.PaymentPayLemmas.{makes_payment}
@@ -21,7 +21,7 @@ use Rattle.xsi_calls.specs.Payments.{payment_access}
 use Rattle.xsi_remove.specs.UnderWay.{StepsUnderWay}
 use Rattle.xsi_calls.specs.Machine.{CallView, call_access, call_facts, call_left, call_locks, is_paying}
 use Rattle.xsi_calls.specs.Calling.{IsPayingCall, IsReleasing}
-use Rattle.xsi_calls.specs.CallSteps.{MakesCall, MakesRelease, StepsCall, is_end}
+use Rattle.xsi_calls.specs.CallSteps.{KeepsStage, MakesCall, MakesRelease, StepsCall, is_end}
 
 -- ---- nothing is left to do
 
@@ -50,6 +50,13 @@ paid_sees : (hash : RecordKey → ℕ) (seat : ℕ) (names : List Lock) (p : Pla
 paid_sees hash seat names p (stages.Sweeping v) records pool locks change paid is = absurd paid
 paid_sees hash seat names p (stages.Writing w) records pool locks change paid is =
     subst (λ (facts : List Known). Sees hash seat facts pool locks change) (ap facts_under paid.rests) is.carries.sees
+
+-- then the names are given back
+paid_stage : {F : Type 0} (p : Plan) (did : Progress F) (v : PaymentStage) (c : Conclusion) (stage : Stage) →
+    IsPaid p v → KeepsStage p did (Releasing c) stage → KeepsStage p did (Paying v c) stage
+paid_stage p did v c Undecided paid keeps = absurd keeps
+paid_stage p did v c (Paying v' c') paid keeps = absurd keeps
+paid_stage p did v c (Releasing c') paid keeps = paid
 
 nears_release : (did : Progress FileFault) (left names names' : ℕ) (pool pool' : PoolState) → is_fault did ≡ false →
     NearsOrSpares did names names' pool' pool' → NearsOrSpares did (left + names) names' pool pool'
@@ -92,10 +99,12 @@ module _ (hash : RecordKey → ℕ) (seat : ℕ) (caller : Caller) (call : Call)
         call = refl;
         most = refl;
         decides = λ none some. absurd cc;
+        can_decide = λ undecided fine. absurd cc;
         stays = λ c is. is;
         bytes = λ some. refl;
         ended = (λ e. absurd (more e), λ over. absurd (more (made.aim.ended.1 over.0)));
         over = λ e. absurd (more e);
+        stage = made.aim.part;
         finds = refl;
       };
       row = row_on;
@@ -208,10 +217,12 @@ module _ (hash : RecordKey → ℕ) (seat : ℕ) (caller : Caller) (call : Call)
               call = r.aim.call;
               most = r.aim.most;
               decides = λ none some. absurd cc;
+              can_decide = λ undecided fine. absurd cc;
               stays = r.aim.stays;
               bytes = r.aim.bytes;
               ended = (λ e. (all_paid, r.aim.ended.0 e), λ over. r.aim.ended.1 over.1);
               over = r.aim.over;
+              stage = paid_stage p did2 v conclusion m.stage all_paid r.aim.stage;
               finds = r.aim.finds;
             };
             row = r.row ∙ ap (λ (t : Table). with_row t seat (call_locks m)) row_now

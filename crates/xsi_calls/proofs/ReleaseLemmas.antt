@@ -68,10 +68,12 @@ module _ (seat : ℕ) (caller : Caller) (call : Call) (u : UndecidedCall) (concl
           call = refl;
           most = refl;
           decides = λ none some. absurd cc;
+          can_decide = λ undecided unfaulted. absurd cc;
           stays = λ c is. is;
           bytes = λ some. refl;
           ended = is_end;
           over = over;
+          stage = tt;
           finds = refl;
         };
         row = row';

@@ -1,5 +1,5 @@
 -- What a step of a call does. docs/STEPS.md, "Calls".
-use Rattle.std.specs.Prelude.{ℕ, ◌≡◌, ◌↔◌, true, false, not, Bool, Option, Some, None, IsSome, Result, Ok, Err, if◌then◌else◌}
+use Rattle.std.specs.Prelude.{ℕ, ◌≡◌, ◌↔◌, true, false, not, Bool, Option, Some, None, IsSome, Result, Ok, Err, if◌then◌else◌, ⊤}
 use Rattle.file_pages.specs.declared.fault.FileFault.{FileFault}
 use Rattle.step_rules.specs.declared.kind.Kind.TheVariants.{Decide}
 use Rattle.xsi_remove.specs.Words.{StepHasCause}
@@ -8,12 +8,26 @@ use Rattle.xsi_calls.specs.declared.conclusion.Conclusion.{Conclusion}
 use Rattle.xsi_calls.specs.Stages.{Stage, Undecided, Paying, Releasing}
 use Rattle.xsi_calls.specs.Deciding.{IsDecidedIn}
 use Rattle.xsi_calls.specs.Below.{counter_key, owes_at}
-use Rattle.xsi_calls.specs.Words.{Blocked, Call, Change, Ended, Exclusive, Fault, IsBehind, IsReady, IsUndecided, Moved, NearsOrSpares, OnlyWrites, PaymentStage, PoolState, Progress, RecordKey, Records, Settled, State, Step, Table, TrialLacksRoom, UndecidedCall, begun_payment, finds_behind, guard_of, has_no_room, is_fault, is_write, its_plan, kind_of, overlaid, store_of, trials_of, with_row, world}
+use Rattle.xsi_calls.specs.PaySteps.{KeepsPart}
+use Rattle.xsi_calls.specs.Words.{Blocked, Call, CanDecide, Change, Ended, Exclusive, Fault, IsBehind, IsPaid, IsReady, IsUndecided, Moved, NearsOrSpares, OnlyWrites, PaymentStage, Plan, PoolState, Progress, RecordKey, Records, Settled, State, Step, Table, TrialLacksRoom, UndecidedCall, begun_payment, finds_behind, guard_of, has_no_room, is_fault, is_write, its_plan, kind_of, overlaid, store_of, trials_of, with_row, world}
 use Rattle.xsi_calls.specs.Concluding.{IsRightConclusion, conclusion_by}
 use Rattle.xsi_calls.specs.Machine.{CallView, IsOver, IsReading, call_access, call_facts, call_left, call_locks, call_owes, call_turn, conclusion_of, finds_of, is_undecided}
 use Rattle.xsi_calls.specs.Calling.{IsCalling, IsPayingCall, IsReleasing}
 
 -- ---- whatever the device gives
+
+-- it pays from its Decide on, writes nothing of its plan before its sweep has ended, and gives its names back once all
+-- is paid
+abbrev pub KeepsStage : {F : Type 0} → Plan → Progress F → (old new : Stage) → Type 0
+KeepsStage p did Undecided Undecided = ⊤
+KeepsStage p did Undecided (Paying payment conclusion) = ⊤
+KeepsStage p did Undecided (Releasing conclusion) = ⊥
+KeepsStage p did (Paying payment conclusion) Undecided = ⊥
+KeepsStage p did (Paying payment conclusion) (Paying payment' conclusion') = KeepsPart p did payment payment'
+KeepsStage p did (Paying payment conclusion) (Releasing conclusion') = IsPaid p payment
+KeepsStage p did (Releasing conclusion) Undecided = ⊥
+KeepsStage p did (Releasing conclusion) (Paying payment conclusion') = ⊥
+KeepsStage p did (Releasing conclusion) (Releasing conclusion') = ⊤
 
 pub record KeepsCall {F : Type 0} (did : Progress F) (old new : CallView) : Type 0 where
   pub caller : new.caller ≡ old.caller
@@ -22,12 +36,16 @@ pub record KeepsCall {F : Type 0} (did : Progress F) (old new : CallView) : Type
   pub most : new.undecided.questions.room.most ≡ old.undecided.questions.room.most
   -- it comes to something at its Decide alone
   pub decides : conclusion_of old ≡ None → IsSome (conclusion_of new) → did ≡ Moved Decide
+  -- which it makes exactly where it can decide, unless it meets a fault
+  pub can_decide : is_undecided old.stage ≡ true → is_fault did ≡ false →
+      (IsSome (conclusion_of new) ↔ CanDecide old.call old.undecided)
   -- and once; with the bytes of its answer
   pub stays : (c : Conclusion) → conclusion_of old ≡ Some c → conclusion_of new ≡ Some c
   pub bytes : IsSome (conclusion_of new) → new.undecided.questions.room ≡ old.undecided.questions.room
   -- it has ended exactly where nothing is owed and no name is held, and stays so
   pub ended : (did ≡ Ended) ↔ IsOver old
   pub over : did ≡ Ended → IsOver new
+  pub stage : KeepsStage (its_plan old.call old.undecided.questions) did old.stage new.stage
   -- before its Decide a search is counted where its seat was granted the directory to read, and none from then on
   pub finds : finds_of new ≡
       (if is_undecided old.stage then finds_behind did (call_locks new) (finds_of old) else finds_of old)
