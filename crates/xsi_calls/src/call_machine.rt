@@ -192,7 +192,35 @@ impl CallMachine {
             pool.old pool.new locks.old locks.new }
     {
         if self.is_undecided() {
-            return self.go_on(pool, locks, keys, stopped, seat);
+            if self.undecided.still_asks(&self.call) {
+                if self.undecided.questions.is_asking() {
+                    return self
+                        .undecided
+                        .questions
+                        .go_on(pool, locks, keys, seat, &self.call);
+                }
+                return self
+                    .undecided
+                    .questions
+                    .turn(pool, locks, keys, seat, &self.call);
+            }
+            let did = self.undecided.try_on(pool, locks, keys, seat, &self.call);
+            if !is_end(did) {
+                return did;
+            }
+            self.undecided.questions().keep_order();
+            let Ok(conclusion) = decide(
+                &mut self.undecided,
+                &mut self.payment,
+                &self.call,
+                keys,
+                stopped,
+            ) else {
+                return Progress::Fault(FileFault::Failed);
+            };
+            self.conclusion = conclusion;
+            self.phase = Phase::Paying;
+            return Progress::Moved(Kind::Decide);
         }
         if self.is_paying() {
             return self.pay(pool, locks, keys, seat);
@@ -212,47 +240,6 @@ impl CallMachine {
         ensures { result ≡ is_paying self.now.stage }
     {
         matches!(self.phase, Phase::Paying)
-    }
-
-    /// One step of what it asks and tries, or its Decide.
-    fn go_on<D: PageDevice, K: PseudoKey>(
-        &mut self,
-        pool: &mut Pool<D>,
-        locks: &mut LockTable,
-        keys: &K,
-        stopped: bool,
-        seat: u8,
-    ) -> Progress<FileFault>
-        requires seat { IsSeat locks.old seat }
-        requires ready { IsReady pool.old }
-        requires row { row_of locks.old seat ≡ call_locks self.old }
-        requires undecided { is_undecided self.old.stage ≡ true }
-        ensures { MakesCall (K.of_key keys.now) seat stopped result self.old self.new
-            pool.old pool.new locks.old locks.new }
-    {
-        if self.undecided.still_asks(&self.call) {
-            return self
-                .undecided
-                .questions
-                .step(pool, locks, keys, seat, &self.call);
-        }
-        let did = self.undecided.try_on(pool, locks, keys, seat, &self.call);
-        if !is_end(did) {
-            return did;
-        }
-        self.undecided.questions().keep_order();
-        let Ok(conclusion) = decide(
-            &mut self.undecided,
-            &mut self.payment,
-            &self.call,
-            keys,
-            stopped,
-        ) else {
-            return Progress::Fault(FileFault::Failed);
-        };
-        self.conclusion = conclusion;
-        self.phase = Phase::Paying;
-        Progress::Moved(Kind::Decide)
     }
 
     /// One step of what it owes: of the sweep, or else of the writes, which begin in the step after

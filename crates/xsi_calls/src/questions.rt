@@ -1,6 +1,7 @@
 //! The call that asks.
 
 ghost use Rattle.std.specs.Prelude.{◌≡◌, ◌≤◌, None, false, IsSome};
+ghost use Rattle.std.specs.Option.{is_some};
 ghost use Rattle.xsi_calls.specs.NameSteps.{GivesBack, MakesNameStep};
 ghost use Rattle.xsi_inquiry.specs.Rooms.{HasRoom};
 ghost use Rattle.xsi_inquiry.specs.Telling.{most_asked};
@@ -211,30 +212,16 @@ impl Questions {
         self.names.give_back(locks, seat)
     }
 
-    /// One step: a name is taken or given back, or the record is read that the inquiry asks for.
-    pub fn step<D: PageDevice, K: PseudoKey>(
-        &mut self,
-        pool: &mut Pool<D>,
-        locks: &mut LockTable,
-        keys: &K,
-        seat: u8,
-        call: &Call,
-    ) -> Progress<FileFault>
-        requires seat { IsSeat locks.old seat }
-        requires ready { IsReady pool.old }
-        requires row { row_of locks.old seat ≡ questions_locks self.old }
-        ensures { MakesQuestions (K.of_key keys.now) seat call.now result self.old self.new
-            pool.old pool.new locks.old locks.new }
+    /// Whether a question is under way.
+    pub fn is_asking(&self) -> bool
+        ensures { result ≡ is_some self.now.question }
     {
-        if self.is_asking {
-            self.go_on(pool, locks, keys, seat, call)
-        } else {
-            self.turn(pool, locks, keys, seat, call)
-        }
+        self.is_asking
     }
 
-    /// One step where no question is under way: by the names that are needed and held.
-    fn turn<D: PageDevice, K: PseudoKey>(
+    /// One step where no question is under way: a name is taken or given back, or the record is read
+    /// that the inquiry asks for.
+    pub fn turn<D: PageDevice, K: PseudoKey>(
         &mut self,
         pool: &mut Pool<D>,
         locks: &mut LockTable,
@@ -294,7 +281,7 @@ impl Questions {
     }
 
     /// One step of the question under way.
-    fn go_on<D: PageDevice, K: PseudoKey>(
+    pub fn go_on<D: PageDevice, K: PseudoKey>(
         &mut self,
         pool: &mut Pool<D>,
         locks: &mut LockTable,
