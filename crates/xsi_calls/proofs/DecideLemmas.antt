@@ -197,6 +197,7 @@ module _ (hash : RecordKey → ℕ) (seat : ℕ) (stopped : Bool) (caller : Call
         still = λ unwritten. refl;
         reads = λ reading. absurd reading;
         elsewhere = λ key free. refl;
+        leaves = tt;
         owed = λ kept key. absurd cc;
         counter = λ kept owed. refl;
         concludes = λ none c same. subst (IsRightConclusion caller call s q.room.bytes q.names (has_no_room u)

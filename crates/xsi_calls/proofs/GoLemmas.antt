@@ -51,6 +51,7 @@ goes_on hash seat stopped caller call u u' did pool pool' locks locks' more made
         still = on.still;
         reads = λ reading. on.reads (untried_there u'.trials reading);
         elsewhere = on.elsewhere;
+        leaves = tt;
         owed = λ same key. on.owed key;
         counter = λ same owed. absurd (true≢false (sym owed ∙ undecided_none hash seat call s u'.questions u'.trials
             on.after pool' locks' on.step.after on.behind));

@@ -21,7 +21,7 @@ use Rattle.xsi_calls.specs.Payments.{payment_access}
 use Rattle.xsi_remove.specs.UnderWay.{StepsUnderWay}
 use Rattle.xsi_calls.specs.Machine.{CallView, call_access, call_facts, call_left, call_locks, is_paying}
 use Rattle.xsi_calls.specs.Calling.{IsPayingCall, IsReleasing}
-use Rattle.xsi_calls.specs.CallSteps.{KeepsStage, MakesCall, MakesRelease, StepsCall, is_end}
+use Rattle.xsi_calls.specs.CallSteps.{KeepsStage, LeavesStage, MakesCall, MakesRelease, StepsCall, is_end}
 
 -- ---- nothing is left to do
 
@@ -57,6 +57,12 @@ paid_stage : {F : Type 0} (p : Plan) (did : Progress F) (v : PaymentStage) (c : 
 paid_stage p did v c Undecided paid keeps = absurd keeps
 paid_stage p did v c (Paying v' c') paid keeps = absurd keeps
 paid_stage p did v c (Releasing c') paid keeps = paid
+
+paid_leaves : {F : Type 0} (p : Plan) (did : Progress F) (v : PaymentStage) (c : Conclusion) (stage : Stage)
+    (records after : Records) → KeepsStage p did (Releasing c) stage → LeavesStage p (Paying v c) stage records after
+paid_leaves p did v c Undecided records after keeps = tt
+paid_leaves p did v c (Paying v' c') records after keeps = absurd keeps
+paid_leaves p did v c (Releasing c') records after keeps = tt
 
 nears_release : (did : Progress FileFault) (left names names' : ℕ) (pool pool' : PoolState) → is_fault did ≡ false →
     NearsOrSpares did names names' pool' pool' → NearsOrSpares did (left + names) names' pool pool'
@@ -118,6 +124,7 @@ module _ (hash : RecordKey → ℕ) (seat : ℕ) (caller : Caller) (call : Call)
             still = on.still;
             reads = λ reading. absurd reading;
             elsewhere = on.elsewhere;
+            leaves = on.leaves;
             owed = λ same key. on.owed key;
             counter = λ same owed. paid_counter p v v' records on.after
                 (plans_have_one_counter call u.questions.inquiry) on.leaves owed;
@@ -166,6 +173,7 @@ module _ (hash : RecordKey → ℕ) (seat : ℕ) (caller : Caller) (call : Call)
           }
 
           module _ (s : State) (did2 : Progress FileFault) (m : CallView) (locks2 : Table)
+              (keeps : KeepsStage p did2 (Releasing conclusion) m.stage)
               (r : StepsCall hash seat s did2 paid m records pool' pool' locks' locks2 on.step.after) where
             both : StepsCall hash seat s did2 (paying v) m records pool pool' locks locks2 change
             both = record {
@@ -190,6 +198,7 @@ module _ (hash : RecordKey → ℕ) (seat : ℕ) (caller : Caller) (call : Call)
               still = r.still;
               reads = r.reads;
               elsewhere = r.elsewhere;
+              leaves = paid_leaves p did2 v conclusion m.stage records r.after keeps;
               owed = λ kept key. r.owed kept key
                   ∙ sym (owes_nothing_at_end hash seat names p v records pool locks change y.pays all_paid key);
               counter = r.counter;
@@ -232,7 +241,7 @@ module _ (hash : RecordKey → ℕ) (seat : ℕ) (caller : Caller) (call : Call)
                 (call_left m (store_of pool'.images)) pool pool' released.fine
                 (r.progress s records (on records change y).step.after (releasing records change y) mark);
             step = λ s records change y mark fine.
-                both records change y s did2 m locks2
+                both records change y s did2 m locks2 r.aim.stage
                 (r.step s records (on records change y).step.after (releasing records change y) mark fine);
             turns_away = λ s records change y mark fine.
                 subst (λ (o : Option AccessView). StepsUnderWay hash seat did2 o (call_access m) pool pool' locks locks2

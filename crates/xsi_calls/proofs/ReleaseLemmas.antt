@@ -46,6 +46,7 @@ module _ (seat : ℕ) (caller : Caller) (call : Call) (u : UndecidedCall) (concl
           still = λ unwritten. refl;
           reads = λ reading. reads;
           elsewhere = λ key free. refl;
+          leaves = tt;
           owed = λ same key. refl;
           counter = λ same owed. refl;
           concludes = λ none c is_so. absurd cc;

@@ -8,7 +8,7 @@ use Rattle.xsi_calls.specs.declared.conclusion.Conclusion.{Conclusion}
 use Rattle.xsi_calls.specs.Stages.{Stage, Undecided, Paying, Releasing}
 use Rattle.xsi_calls.specs.Deciding.{IsDecidedIn}
 use Rattle.xsi_calls.specs.Below.{counter_key, owes_at}
-use Rattle.xsi_calls.specs.PaySteps.{KeepsPart}
+use Rattle.xsi_calls.specs.PaySteps.{KeepsPart, LeavesPart}
 use Rattle.xsi_calls.specs.Words.{Blocked, Call, CanDecide, Change, Ended, Exclusive, Fault, IsBehind, IsPaid, IsReady, IsUndecided, Moved, NearsOrSpares, OnlyWrites, PaymentStage, Plan, PoolState, Progress, RecordKey, Records, Settled, State, Step, Table, TrialLacksRoom, UndecidedCall, begun_payment, finds_behind, guard_of, has_no_room, is_fault, is_write, its_plan, kind_of, overlaid, store_of, trials_of, with_row, world}
 use Rattle.xsi_calls.specs.Concluding.{IsRightConclusion, conclusion_by}
 use Rattle.xsi_calls.specs.Machine.{CallView, IsOver, IsReading, call_access, call_facts, call_left, call_locks, call_owes, call_turn, conclusion_of, finds_of, is_undecided}
@@ -62,6 +62,12 @@ GoesOnAt hash seat call s u (Paying payment conclusion) records pool locks chang
 GoesOnAt hash seat call s u (Releasing conclusion) records pool locks change =
     IsReleasing hash seat call u.questions.names pool locks change
 
+-- the records after a step that pays are those which its sweep, or the deed that is due, leaves
+abbrev pub LeavesStage : Plan → (old new : Stage) → (records after : Records) → Type 0
+LeavesStage p (Paying payment conclusion) (Paying payment' conclusion') records after =
+    LeavesPart p payment payment' records after
+LeavesStage p old new records after = ⊤
+
 -- a step of the rules, behind which these records stand
 pub record StepsCall {F : Type 0} (hash : RecordKey → ℕ) (seat : ℕ) (s : State) (did : Progress F)
     (old new : CallView) (records : Records) (pool pool' : PoolState) (locks locks' : Table) (change : Change)
@@ -75,6 +81,7 @@ pub record StepsCall {F : Type 0} (hash : RecordKey → ℕ) (seat : ℕ) (s : S
   -- a record whose name it does not hold Exclusive stays
   pub elsewhere : (key : RecordKey) → (kind_of new.undecided.questions.names (guard_of key) ≡ Some Exclusive → ⊥) →
       after key ≡ records key
+  pub leaves : LeavesStage (its_plan old.call old.undecided.questions) old.stage new.stage records after
   -- what will stand once nothing is owed is the same, but at its Decide
   pub owed : conclusion_of new ≡ conclusion_of old → (key : RecordKey) →
       overlaid (call_owes new) after key ≡ overlaid (call_owes old) records key
