@@ -19,7 +19,7 @@ use xsi_inquiry::Inquiry;
 impl Questions {
     /// All steps of the next question, in one go: where none is under way, the names that it needs
     /// are held, and its access can find so (`Access::skip`). Else nothing is done, and it is left
-    /// to `step`.
+    /// to `turn`.
     pub fn skip<D: PageDevice, K: PseudoKey>(
         &mut self,
         pool: &mut Pool<D>,
