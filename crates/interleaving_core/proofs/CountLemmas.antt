@@ -5,13 +5,13 @@ use Rattle.std.specs.Vec.{with_items}
 use Rattle.std.proofs.Math.ListN.{get_or-map}
 use Rattle.std.proofs.Math.Nat.{min-le_right}
 use Rattle.std.proofs.lemmas.List.{get_or_read, length-map, with_items_is}
-use Rattle.std.proofs.lemmas.List.Elements.{All-replicate, All-map, All-set}
+use Rattle.std.proofs.lemmas.List.Elements.{All-map, All-set}
 use Rattle.std.proofs.lemmas.List.Folds.{map_fixed}
 use Rattle.step_rules.specs.Kinds.{may_lengthen}
 use Rattle.step_rules.specs.Ways.{hops_added}
 use Rattle.step_rules.specs.declared.kind.Kind.{Kind}
 use Rattle.step_rules.specs.declared.kind.Kind.TheVariants as kinds
-use Rattle.interleaving_core.specs.Counting.{AreSoundCounts, CountsState, IsCountedSeat, MOST_COUNTED, Notes, begins_change, begun_count, change_after, changes_counts, count_at, count_beside, ends_change, is_nothing, no_count, opened_counts, own_count, touches_others}
+use Rattle.interleaving_core.specs.Counting.{AreSoundCounts, CountsState, IsCountedSeat, MOST_COUNTED, Notes, begins_change, change_after, changes_counts, count_at, count_beside, ends_change, is_nothing, no_count, own_count, touches_others}
 use Rattle.interleaving_core.specs.declared.count.SearchCount.{SearchCount}
 use Rattle.interleaving_core.specs.declared.under_way.UnderWay.{UnderWay}
 use Rattle.interleaving_core.specs.declared.under_way.UnderWay.TheVariants.{Nothing, Split, Merge}
@@ -307,11 +307,3 @@ pub none_noted : (seat : ℕ) (kind : Kind) (begins goes_on : Bool) (s : CountsS
 none_noted seat kind true goes_on s sound is quiet = absurd cc
 none_noted seat kind false true s sound is quiet = absurd cc
 none_noted seat kind false false s sound is quiet = seat_noted seat kind s sound is quiet
-
--- ---- no seat has searched
-
-pub opened_sound : (n : ℕ) → AreSoundCounts (opened_counts n)
-opened_sound n = record {
-  few = All-replicate (λ (x : SearchCount). x.changes ≤ MOST_COUNTED) n (begun_count Nothing) (omega arith);
-  stirred = λ some. absurd cc;
-}

@@ -1,10 +1,10 @@
 -- The lines of a text, taken from its beginning one by one.
-use Rattle.std.proofs.Common.{ℕ, ◌≡◌, ◌≤◌, ◌<◌, List, [], ◌∷◌, ◌++◌, length, take, drop, refl}
+use Rattle.std.proofs.Common.{ℕ, ◌≡◌, ◌≤◌, ◌<◌, List, [], ◌∷◌, ◌++◌, length, take, drop}
 use Rattle.std.specs.List.{All}
 use Rattle.std.proofs.lemmas.List.{append_assoc, append-nil, nil_from_length}
 use Rattle.std.proofs.lemmas.List.Elements.{All-nil, All-push}
 use Rattle.numbers.specs.declared.limits.TheConstants.{MAX_BODY}
-use Rattle.queue_commands.specs.Lines.{AreLines, ArePutAs, IsShort, BeginsWithLine, first_line}
+use Rattle.queue_commands.specs.Lines.{AreLines, ArePutAs, IsShort, first_line}
 
 -- with the lines of the rest behind them, these are the lines of the text
 pub record AreFirst (text rest : List ℕ) (bodies : List (List ℕ)) : Type 0 where

@@ -1,5 +1,5 @@
 -- What a reader gives is cut behind one byte more than is wanted of it.
-use Rattle.std.proofs.Common.{ℕ, ◌+◌, ◌≡◌, ◌≤◌, ◌<◌, ◌∙◌, arith, List, [], ◌++◌, Option, Some, None, IfSome, length, take, ap, sym, subst, refl, Result, Ok, Err, IfErr, IsErrAnd}
+use Rattle.std.proofs.Common.{ℕ, ◌+◌, ◌≡◌, ◌≤◌, ◌<◌, ◌∙◌, arith, List, [], ◌++◌, Option, Some, None, IfSome, length, take, ap, sym, subst, Result, Ok, Err, IfErr, IsErrAnd}
 use Rattle.std.specs.Option.{option_map}
 use Rattle.std.proofs.lemmas.List.{length-take, take_all}
 use Rattle.std.proofs.lemmas.Int.{clamps}
@@ -18,13 +18,6 @@ all_are_read most (Some xs) text read few =
     let long = ap (λ (bytes : List ℕ). length bytes) read ∙ length-take (most + 1) xs in
     let short : length xs ≤ most + 1 = omega (arith, clamps, long, few) in
     read ∙ take_all (most + 1) xs short
-
-pub more_are_left : (most : ℕ) (known : Option (List ℕ)) (text : List ℕ) → IsCutAt most known text →
-    most < length text → IfSome known (λ (xs : List ℕ). most < length xs)
-more_are_left most None text read many = tt
-more_are_left most (Some xs) text read many =
-    let long = ap (λ (bytes : List ℕ). length bytes) read ∙ length-take (most + 1) xs in
-    omega (arith, clamps, long, many)
 
 -- what is read of a reader up to a limit is cut there
 pub limit_cuts : {X : Type 0} (inner reader : X) (remaining : X → Option (List ℕ)) (most limit : ℕ)

@@ -10,7 +10,7 @@ use Rattle.queue_model.specs.declared.errno.Errno.TheVariants.{ENOMSG}
 use Rattle.queue_model.specs.declared.message.Message.{Message}
 use Rattle.queue_commands.specs.Asking.{IsAnswered}
 use Rattle.queue_commands.specs.Coming.{Comes}
-use Rattle.queue_commands.specs.Receiving.{AreTaken, IsRefusedAfter, IsTaken, TakesAllAs, shown_text, shown_texts}
+use Rattle.queue_commands.specs.Receiving.{AreTaken, TakesAllAs, shown_text, shown_texts}
 use Rattle.queue_commands.specs.declared.error.AskError.{AskError}
 use Rattle.queue_commands.specs.declared.error.AskError.TheVariants as errors
 use Rattle.queue_commands.specs.declared.request.Receiving.{Receiving}
@@ -48,11 +48,6 @@ pub record Taken (c : Caller) (call : Call) (heads : Bool) (many : ℕ) (s : Sta
   pub stands : Stands system
 
 module _ (c : Caller) (call : Call) (s : State) where
-  -- none was taken yet
-  pub Taken-none : (heads : Bool) (Stands : State → Type 0) → Stands s → Taken c call heads 0 s [] Stands
-  Taken-none heads Stands stands =
-      record { messages = []; system = s; taken = refl; as_many = refl; printed = refl; stands = stands }
-
   -- one more was
   pub Taken-push : (heads : Bool) (many : ℕ) (text more : List ℕ) (Before Stands : State → Type 0) (Lacks : Type 0)
       (m : Message) → Taken c call heads many s text Before →
@@ -149,10 +144,6 @@ abbrev pub Takes : Call → (Before Stands : Caller → State → Type 0) → (C
     Type 0
 Takes call Before Stands Lacks came = (a : Caller) (u : State) → Before a u →
     Comes (Stands a) (Lacks a) (IsAnswered answers.Received a call u) came
-
-pub TakesOn-none : (call : Call) (heads : Bool) (Stands : Caller → State → Type 0) →
-    TakesOn call heads 0 [] Stands Stands
-TakesOn-none call heads Stands a s stands = Taken-none a call s heads (Stands a) stands
 
 module _ (call : Call) (text : List ℕ) (First Before Stands : Caller → State → Type 0) (Lacks : Caller → Type 0) where
   pub TakesOn-push : (heads : Bool) (many : ℕ) (more : List ℕ) (m : Message) →

@@ -1,5 +1,5 @@
 -- Bodies that are sent one after the other.
-use Rattle.std.proofs.Common.{◌≡◌, ℕ, ◌<◌, ◌+◌, Bool, true, false, List, [], ◌∷◌, ◌++◌, length, take, slice_index_or, Option, Some, None, Result, Ok, Err, refl, sym, ap, ◌∙◌, subst, append_assoc, append-nil}
+use Rattle.std.proofs.Common.{◌≡◌, ℕ, ◌<◌, ◌+◌, Bool, true, false, List, [], ◌∷◌, ◌++◌, Some, Result, Ok, refl, sym, ap, ◌∙◌, subst, append_assoc}
 use Rattle.std.specs.Fmt.{decimal}
 use Rattle.queue_model.specs.Rules.{outcome}
 use Rattle.queue_model.specs.State.{State}
@@ -8,7 +8,7 @@ use Rattle.queue_model.specs.declared.caller.Caller.{Caller}
 use Rattle.queue_model.specs.declared.answer.Answer.TheVariants as answers
 use Rattle.queue_commands.specs.Asking.{IsAnswered}
 use Rattle.queue_commands.specs.Coming.{Comes}
-use Rattle.queue_commands.specs.Sending.{AreSent, IsRefusedAtOne, SendsAllAs, serials_text, told_text}
+use Rattle.queue_commands.specs.Sending.{AreSent, serials_text, told_text}
 use Rattle.queue_commands.specs.declared.error.AskError.{AskError}
 use Rattle.queue_commands.specs.declared.error.AskError.TheVariants as errors
 
@@ -53,11 +53,6 @@ told_none true = refl
 told_none false = refl
 
 module _ (c : Caller) (call : List ℕ → Call) (tells : Bool) (s : State) where
-  -- none was sent yet
-  pub Sent-none : (Stands : State → Type 0) → Stands s → Sent c call tells [] s [] Stands
-  Sent-none Stands stands =
-      record { serials = []; system = s; sent = refl; printed = told_none tells; stands = stands }
-
   -- one more was
   pub Sent-push : (bodies : List (List ℕ)) (text more : List ℕ) (Before Stands : State → Type 0) (Lacks : Type 0)
       (body : List ℕ) (serial : ℕ) → Sent c call tells bodies s text Before →
@@ -76,37 +71,6 @@ module _ (c : Caller) (call : List ℕ → Call) (tells : Bool) (s : State) wher
         stands = one.stands;
       }
 
-  -- all were
-  pub Sent-all : (bodies : List (List ℕ)) (text : List ℕ) (Stands : State → Type 0) (Lacks : Type 0) →
-      Sent c call tells bodies s text Stands → Comes Stands Lacks (SendsAllAs c call tells bodies s) (Ok text)
-  Sent-all bodies text Stands Lacks sent =
-      record { system = sent.system; is = (sent.serials, sent.sent, sent.printed); stands = sent.stands }
-
-  -- the next is not
-  pub Sent-refused : (bodies : List (List ℕ)) (text : List ℕ) (place : ℕ) (Before Stands : State → Type 0)
-      (Lacks : Type 0) (error : AskError) → place < length bodies →
-      Sent c call tells (take place bodies) s text Before →
-      ((u : State) → Before u →
-      Comes Stands Lacks (IsAnswered answers.Sent c (call (slice_index_or bodies place [])) u) (Err error)) →
-      Comes Stands Lacks (SendsAllAs c call tells bodies s) (Err error)
-  Sent-refused bodies text place Before Stands Lacks (errors.Refused e) within before sends =
-      let one = sends before.system before.stands in
-      record {
-        system = one.system;
-        is = record {
-          place = place;
-          within = within;
-          serials = before.serials;
-          before = before.system;
-          sent = before.sent;
-          refused = one.is;
-        };
-        stands = one.stands;
-      }
-  Sent-refused bodies text place Before Stands Lacks errors.Unanswered within before sends =
-      sends before.system before.stands
-  Sent-refused bodies text place Before Stands Lacks errors.NoMemory within before sends = tt
-
 -- ---- by each caller, from each system that stood first
 
 -- the bodies were sent
@@ -120,10 +84,6 @@ abbrev pub Sends : (List ℕ → Call) → List ℕ → (Before Stands : Caller 
 Sends call body Before Stands Lacks came = (a : Caller) (u : State) → Before a u →
     Comes (Stands a) (Lacks a) (IsAnswered answers.Sent a (call body) u) came
 
-pub SendsOn-none : (call : List ℕ → Call) (tells : Bool) (Stands : Caller → State → Type 0) →
-    SendsOn call tells [] [] Stands Stands
-SendsOn-none call tells Stands a s stands = Sent-none a call tells s (Stands a) stands
-
 module _ (call : List ℕ → Call) (tells : Bool) (bodies : List (List ℕ)) (text : List ℕ)
     (First Before Stands : Caller → State → Type 0) (Lacks : Caller → Type 0) where
   pub SendsOn-push : (body more : List ℕ) (serial : ℕ) → SendsOn call tells bodies text First Before →
@@ -132,16 +92,3 @@ module _ (call : List ℕ → Call) (tells : Bool) (bodies : List (List ℕ)) (t
   SendsOn-push body more serial before sends is a s first =
       Sent-push a call tells s bodies text more (Before a) (Stands a) (Lacks a) body serial (before a s first)
       (sends a) is
-
-  pub SendsOn-all : SendsOn call tells bodies text First Stands → (a : Caller) (s : State) → First a s →
-      Comes (Stands a) (Lacks a) (SendsAllAs a call tells bodies s) (Ok text)
-  SendsOn-all before a s first = Sent-all a call tells s bodies text (Stands a) (Lacks a) (before a s first)
-
-  pub SendsOn-refused : (place : ℕ) (error : AskError) → place < length bodies →
-      SendsOn call tells (take place bodies) text First Before →
-      Sends call (slice_index_or bodies place []) Before Stands Lacks (Err error) →
-      (a : Caller) (s : State) → First a s →
-      Comes (Stands a) (Lacks a) (SendsAllAs a call tells bodies s) (Err error)
-  SendsOn-refused place error within before sends a s first =
-      Sent-refused a call tells s bodies text place (Before a) (Stands a) (Lacks a) error within
-      (before a s first) (sends a)

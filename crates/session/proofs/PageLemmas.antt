@@ -26,7 +26,7 @@ use Rattle.interleaving_core.specs.Beginning.{HasSystem, IsOpened}
 use Rattle.interleaving_core.specs.Renewing.{FailsToRead, IsBetweenCalls, IsIdleOrWaits, KeepsPages, Reads}
 use Rattle.interleaving_core.specs.xsi_calls.Words.{world}
 use Rattle.interleavings.specs.LoneKernelLaws.{ClosesAKernel, OpensAKernel}
-use Rattle.interleavings.specs.LoneKernelWords.{Caller, IsFileAtRest, IsFileOf, IsFlushedTo, IsSeat, State, caller_at}
+use Rattle.interleavings.specs.LoneKernelWords.{Caller, IsFileAtRest, IsFileOf, IsFlushedTo, State, caller_at}
 use Rattle.session.specs.Session.{AreItsPages, GivesPage, HasFailed, Holds, IsSession, Opens, OpensNew, PageBecomes, PagesAreTheFile, SessionState, pages_of}
 use Rattle.session.proofs.SessionLemmas.{KeepsSeat, same_caller, same_saved}
 
@@ -42,13 +42,6 @@ is_opened opens caller content keys frames k opened has = record {
   sits = ap (λ (cs : List Caller). caller_at cs 1) opened.callers;
   many = ap (λ (p : PoolState). length p.images) opened.pool ∙ length-map content payload_of;
   saved = ap (λ (p : PoolState). p.stored) opened.pool;
-}
-
-pub is_session : (caller : Caller) (content : List (List ℕ)) (keys : ShaKey) (frames : ℕ) (k : SessionState) →
-    IsOpened keys content true (caller ∷ []) frames k → length content ≤ frames → IsSession k
-is_session caller content keys frames k opened roomy = record {
-  seat = subst (λ (t : Table). IsSeat t 1) (sym opened.locks) (omega arith, omega arith);
-  roomy = subst (λ (p : PoolState). length p.stored ≤ p.frames) (sym opened.pool) roomy;
 }
 
 -- a file of no queues is that of no other system

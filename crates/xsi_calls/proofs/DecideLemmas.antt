@@ -51,12 +51,6 @@ begun_knows hash (Some (settlements.Sweeps sweep)) due = by sweep.first
     by (Some first) = refl
 begun_knows hash (Some settlements.Waits) due = refl
 
--- its trials rest
-pub trials_rest : (call : Call) (q : QuestionsView) (o : Option Trials) → CanDecideIn call q o →
-    (trials_in o).access ≡ None
-trials_rest call q None can = refl
-trials_rest call q (Some t) can = can.rests
-
 -- what it owes
 owes_so : (call : Call) (q : QuestionsView) (o : Option Trials) →
     owes_in call q o ≡ owes (its_plan call q) (trials_in o).due

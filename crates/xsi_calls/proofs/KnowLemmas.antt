@@ -66,9 +66,6 @@ near_more call true held more IsSo s within near = near
 near_more call false held more IsSo s within near = λ t filed agrees.
     near t filed (record { asked = agrees.asked; counter = λ has. agrees.counter (within refl has) })
 
-asks_of : (o : Option Wanted) (wanted : Wanted) → o ≡ Some wanted → is_some o ≡ true
-asks_of o wanted is = ap is_some is
-
 near_told : (call : Call) (asks : Bool) (held : List Lock) (IsSo : State → Type 0) (s : State) →
     IsSoNear call [] IsSo s → IsSoNear call (keeping asks held) IsSo s
 near_told call true held IsSo s near = near

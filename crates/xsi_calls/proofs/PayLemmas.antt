@@ -16,7 +16,7 @@ use Rattle.xsi_calls.proofs.PhaseLemmas.{paying_still}
 use Rattle.xsi_calls.proofs.PlanLemmas.{plans_have_one_counter}
 use Rattle.xsi_calls.proofs.CounterLemmas.{paid_counter}
 use Rattle.xsi_calls.proofs.GoLemmas.{at_end, with_stage}
-use Rattle.xsi_calls.specs.Words.{AreNames, Blocked, Call, Caller, Change, Ended, Fault, IsPaid, IsPaying, IsReady, IsSeat, Known, Lock, MakesPayment, Moved, NearsOrSpares, OnlyWrites, PaymentStage, Pays, Plan, PoolState, Progress, QuestionsView, RecordKey, Records, Sees, State, Store, Table, Turn, UndecidedCall, World, is_fault, its_plan, TrialLacksRoom, trials_of, payment_facts, payment_left, payment_locks, payment_turn, row_of, store_of, with_row, world}
+use Rattle.xsi_calls.specs.Words.{AreNames, Blocked, Call, Caller, Change, Ended, Fault, IsPaid, IsPaying, IsReady, IsSeat, Known, Lock, MakesPayment, Moved, NearsOrSpares, OnlyWrites, PaymentStage, Pays, Plan, PoolState, Progress, QuestionsView, RecordKey, Records, Sees, State, Store, Table, Turn, UndecidedCall, World, is_fault, its_plan, TrialLacksRoom, trials_of, payment_left, payment_locks, payment_turn, row_of, store_of, with_row, world}
 use Rattle.xsi_calls.specs.Payments.{payment_access}
 use Rattle.xsi_remove.specs.UnderWay.{StepsUnderWay}
 use Rattle.xsi_calls.specs.Machine.{CallView, call_access, call_facts, call_left, call_locks, is_paying}
@@ -32,10 +32,6 @@ paid_locks p (stages.Writing w) names paid = ap (λ (o : Option AccessView). loc
 paid_access : (p : Plan) (v : PaymentStage) → IsPaid p v → payment_access v ≡ None
 paid_access p (stages.Sweeping v) paid = absurd paid
 paid_access p (stages.Writing w) paid = paid.rests
-
-paid_facts : (p : Plan) (v : PaymentStage) → IsPaid p v → payment_facts v ≡ []
-paid_facts p (stages.Sweeping v) paid = absurd paid
-paid_facts p (stages.Writing w) paid = ap facts_under paid.rests
 
 paid_turn : (hash : RecordKey → ℕ) (p : Plan) (v : PaymentStage) (s : Store) → IsPaid p v →
     payment_turn hash p v s ≡ no_ask
