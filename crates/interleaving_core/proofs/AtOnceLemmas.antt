@@ -16,7 +16,6 @@ use Rattle.xsi_calls.specs.Words.{AskStep, AsksAtOnce, At, ReachesAtOnce, Way, a
 use Rattle.xsi_calls.specs.declared.conclusion.Conclusion.{Conclusion}
 use Rattle.interleaving_core.specs.Words.{Answer, CallView, Entry, IsSeat, PoolState, Progress, RecordKey, Table, answer_of_call, conclusion_of}
 use Rattle.interleaving_core.specs.Active.{ActiveView, IsDrafted, IsKept, decided_by, draft_by, entries_by}
-use Rattle.interleaving_core.specs.AtOnce.{SeatAsks, SeatReaches}
 use Rattle.interleaving_core.specs.Counting.{CountsState, changes_counts}
 use Rattle.interleaving_core.specs.Driving.{IsStep}
 use Rattle.interleaving_core.specs.Kernel.{IsWhole, KernelState, call_at, with_call}
@@ -170,12 +169,12 @@ none_some : (o : Option ℕ) → is_some o ≡ false → IsSome o → ⊥
 none_some None none some = absurd cc
 none_some (Some n) none some = absurd cc
 
-none_is : (o : Option ℕ) → is_some o ≡ false → o ≡ None
+pub none_is : (o : Option ℕ) → is_some o ≡ false → o ≡ None
 none_is None none = refl
 none_is (Some n) none = absurd cc
 
 -- before its Decide it has come to nothing
-undecided_at : (stage : Stage) → is_undecided stage ≡ true → conclusion_at stage ≡ None
+pub undecided_at : (stage : Stage) → is_undecided stage ≡ true → conclusion_at stage ≡ None
 undecided_at Undecided is = refl
 undecided_at (Paying payment conclusion) is = absurd cc
 undecided_at (Releasing conclusion) is = absurd cc
@@ -187,47 +186,6 @@ kept_still m m' draft wait awake far = record {
   drafted = far.kept;
   waits = λ some. absurd (none_some wait awake some);
 }
-
--- ---- a seat whose call goes on so
-
-module _ (hash : RecordKey → ℕ) (seat many : ℕ) (slot slot' : Option ActiveView) (a : ActiveView) (m : CallView)
-    (pool : PoolState) (locks locks' : Table) (there : slot ≡ Some a) (awake : is_some a.wait ≡ false)
-    (kept : IsDrafted a.machine a.draft) where
-  pub seat_asks : slot' ≡ Some (record a { machine = m; decided = many }) → is_undecided a.machine.stage ≡ true →
-      ((stopped : Bool) → AsksAtOnce (MakesCall hash seat stopped) seat a.machine m pool locks) →
-      SeatAsks hash seat many slot slot' pool locks
-  seat_asks left undecided asks = record {
-    before = a;
-    after = record a { machine = m; decided = many };
-    had = there;
-    has = left;
-    asks = record {
-      awake = none_is a.wait awake;
-      undecided = undecided_at a.machine.stage undecided;
-      kept = kept;
-      asks = asks;
-      others = refl;
-    };
-  }
-
-  -- a write marks its call as a step does
-  pub seat_reaches : (decided : ℕ) → slot' ≡ Some (record a { machine = m; decided = decided }) →
-      ((stopped : Bool) → ReachesAtOnce (MakesCall hash seat stopped) seat a.machine m pool locks locks') →
-      decided ≡ decided_by (conclusion_of m) many a.decided → SeatReaches hash seat many slot slot' pool locks locks'
-  seat_reaches decided left reaches is = record {
-    before = a;
-    after = record a { machine = m; decided = decided };
-    had = there;
-    has = left;
-    reaches = record {
-      awake = none_is a.wait awake;
-      kept = kept;
-      reaches = reaches;
-      others = ap (λ (n : ℕ). record a { machine = m; decided = n }) (is
-          ∙ ap (λ (c : Option Conclusion). decided_by c many a.decided)
-          (reached_far hash seat false a.machine a.draft m pool locks locks' (reaches false) kept).come);
-    };
-  }
 
 -- ---- a move is a step of its seat
 

@@ -5,7 +5,6 @@ use Rattle.std.proofs.lemmas.Bool.{cases_eq}
 use Rattle.std.proofs.lemmas.List.{get_or_read, length-map}
 use Rattle.file_pages.specs.Fault.{FileHasCause}
 use Rattle.file_pages.specs.declared.fault.FileFault.{FileFault}
-use Rattle.page_locks.proofs.ChangeLemmas.{IsSeat-with_row}
 use Rattle.interleaving_core.specs.Counting.{CountsState, IsCountedSeat}
 use Rattle.interleaving_core.specs.Words.{Caller, Entry, IsSeat, PoolState, RecordKey, Table, caller_at, row_of, with_row}
 use Rattle.interleaving_core.specs.Active.{ActiveView}
@@ -36,14 +35,6 @@ module _ {K : Type 0} (s : KernelState K) (whole : IsWhole s) where
 
   pub its_row : (seat : ℕ) → row_of s.locks seat ≡ locks_of (call_at s.seats seat)
   its_row seat = ap (λ (t : Table). row_of t seat) whole.rows ∙ row_at s.seats seat
-
-  -- what is left of the room for a seat's entry
-  pub has_room : (seat : ℕ) → IsSeat s.locks seat → due_at (call_at s.seats seat) + length s.journal ≤ s.room
-  has_room seat is =
-      let many = as_many in
-      let all = due_with s.seats seat None is.0 (omega (arith, is.1, many)) in
-      let room = whole.room in
-      omega (arith, all, room)
 
   -- it has a place in the list
   pub seat_there : (seat : ℕ) → IsSeat s.locks seat → seat ≤ length s.seats
@@ -373,24 +364,3 @@ makes_step of seat did slot left old new now view whole seated at turns seats ke
     does : Does seat did (call_at old.seats seat) left old.pool new.pool old.locks new.locks old.journal new.journal
     does = turn_does (of old.keys) seat old.stopped did (call_at old.seats seat) left old.pool new.pool old.locks
         new.locks old.journal new.journal here
-
--- ---- the seat after a step
-
--- the row of a seat is that of the call in its place
-pub row_there : {K : Type 0} (seat : ℕ) (slot : Option ActiveView) (old : KernelState K) → IsWhole old →
-    IsSeat old.locks seat → slot ≡ slice_index_or old.seats (seat - 1) slot → row_of old.locks seat ≡ locks_of slot
-row_there seat slot old whole is at =
-    its_row old whole seat
-    ∙ sym (ap locks_of (slot_here old.seats seat slot is.0 (seat_there old whole seat is) at))
-
--- it stays one
-pub seat_behind : {K : Type 0} (hash : RecordKey → ℕ) (seat : ℕ) (did : Step) (slot left : Option ActiveView)
-    (old : KernelState K) (pool : PoolState) (locks : Table) (journal : List Entry) → IsWhole old →
-    IsSeat old.locks seat → slot ≡ slice_index_or old.seats (seat - 1) slot →
-    Turns hash seat old.stopped did slot left old.pool pool old.locks locks old.journal journal → IsSeat locks seat
-seat_behind hash seat did slot left old pool locks journal whole is at turns =
-    subst (λ (t : Table). IsSeat t seat) (sym (does.row (row_there seat slot old whole is at)))
-    (IsSeat-with_row old.locks seat seat (locks_of left) is)
-  where
-    does : Does seat did slot left old.pool pool old.locks locks old.journal journal
-    does = turn_does hash seat old.stopped did slot left old.pool pool old.locks locks old.journal journal turns

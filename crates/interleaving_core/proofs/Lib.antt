@@ -13,5 +13,6 @@ pub mod SkipLemmas
 pub mod SparedLemmas
 pub mod BeginLemmas
 pub mod RunLemmas
+pub mod LentLemmas
 pub mod DriveLemmas
 pub mod RenewLemmas

@@ -1,24 +1,26 @@
 -- A question of a seat's call that is asked in one go, and a write that goes to its page so, are so many steps of a
 -- kernel.
 use Rattle.std.proofs.Common.{◌≡◌, refl, sym, ap, ◌∙◌, subst, ℕ, suc, ◌-◌, Bool, true, false, List, [], ◌∷◌, Option, Some, None, length, slice_set, slice_index_or}
+use Rattle.std.specs.Option.{is_some}
 use Rattle.step_rules.specs.Runs.{MovesAlong, Stop, end_of, stop}
 use Rattle.step_rules.specs.declared.kind.Kind.{Kind}
 use Rattle.step_rules.specs.declared.kind.Kind.TheVariants as kinds
 use Rattle.step_rules.specs.declared.progress.Progress.TheVariants as progress
 use Rattle.xsi_calls.specs.CallSteps.{MakesCall}
-use Rattle.xsi_calls.specs.Words.{AskStep, At, at}
+use Rattle.xsi_calls.specs.Machine.{is_undecided}
+use Rattle.xsi_calls.specs.Words.{AskStep, AsksAtOnce, At, ReachesAtOnce, at}
 use Rattle.xsi_calls.specs.declared.conclusion.Conclusion.{Conclusion}
 use Rattle.interleaving_core.specs.Words.{CallView, IsSeat, PoolState, RecordKey, Table, conclusion_of}
 use Rattle.interleaving_core.specs.Active.{ActiveView, IsDrafted, decided_by}
-use Rattle.interleaving_core.specs.AtOnce.{SeatAsks, SeatReaches}
 use Rattle.interleaving_core.specs.Counting.{AreSoundCounts, CountsState, IsCountedSeat, Notes}
 use Rattle.interleaving_core.specs.Driving.{Moves}
 use Rattle.interleaving_core.specs.Kernel.{IsWhole, KernelState, call_at, with_call}
 use Rattle.interleaving_core.specs.Searches.{Counts, begins_search, goes_on, is_shared}
 use Rattle.interleaving_core.specs.declared.step.Step.TheVariants as steps
-use Rattle.interleaving_core.proofs.AtOnceLemmas.{AreQuiet, IsAsFar, IsQuiet, LeadsOn, far_on, grant, leads_on, quiet_on, quiet_to, to_answer, to_look}
+use Rattle.interleaving_core.proofs.AtOnceLemmas.{AreQuiet, IsAsFar, IsQuiet, LeadsOn, far_on, grant, leads_on, none_is, quiet_on, quiet_to, reached_far, to_answer, to_look, undecided_at}
 use Rattle.interleaving_core.proofs.CountLemmas.{none_noted}
-use Rattle.interleaving_core.proofs.KernelLemmas.{is_counted, seat_there, slot_here}
+use Rattle.interleaving_core.proofs.KernelLemmas.{is_counted, seat_there}
+use Rattle.interleaving_core.proofs.LentLemmas.{is_its, slot_is}
 use Rattle.interleaving_core.proofs.PlaceLemmas.{Seats, at_same, with_place, with_twice}
 
 -- what so many steps of a seat leave
@@ -156,91 +158,83 @@ module _ {K : Type 0} (of : K → RecordKey → ℕ) (seat : ℕ) (old : KernelS
 
 -- ---- the kernel as it is left
 
-module _ {K : Type 0} (of : K → RecordKey → ℕ) (seat : ℕ) (slot left : Option ActiveView) (old now : KernelState K)
-    (pool : PoolState) (noted : CountsState) (view : old ≡ now) (whole : IsWhole old) (seated : IsSeat now.locks seat)
-    (at_slot : slot ≡ slice_index_or old.seats (seat - 1) slot) (sound : old.failed ≡ false) (many : ℕ)
-    (as_many : many ≡ length old.journal) (same : pool ≡ old.pool) (had : AreSoundCounts old.searches)
-    (has : AreSoundCounts noted) (notes : Notes seat kinds.ReadDepth true false old.searches noted) where
-  is_its : IsSeat old.locks seat
-  is_its = subst (λ (k : KernelState K). IsSeat k.locks seat) (sym view) seated
+-- a call goes on by such moves, of which its seat was not told that it waits
+module _ {K : Type 0} (of : K → RecordKey → ℕ) (seat : ℕ) (slot : Option ActiveView) (old now : KernelState K)
+    (view : old ≡ now) (whole : IsWhole old) (seated : IsSeat now.locks seat)
+    (at_slot : slot ≡ slice_index_or old.seats (seat - 1) slot) (sound : old.failed ≡ false) (a : ActiveView)
+    (there : slot ≡ Some a) (awake : is_some a.wait ≡ false) (kept : IsDrafted a.machine a.draft)
+    (m : CallView) (decided many : ℕ) (as_many : many ≡ length old.journal) (pool : PoolState)
+    (same : pool ≡ old.pool) (noted : CountsState) (had : AreSoundCounts old.searches) (has : AreSoundCounts noted)
+    (notes : Notes seat kinds.ReadDepth true false old.searches noted) where
+  abbrev left : Table → KernelState K
+  left locks = record old {
+    pool = pool;
+    locks = locks;
+    seats = slice_set old.seats (seat - 1) (Some (record a { machine = m; decided = decided }));
+    searches = noted;
+  }
 
-  -- a call goes on by such moves
-  left_by : (before after : ActiveView) → slot ≡ Some before → left ≡ Some after → before.wait ≡ None →
-      IsDrafted before.machine before.draft →
-      after ≡ record before {
-        machine = after.machine;
-        decided = decided_by (conclusion_of before.machine) many before.decided;
-      } → (l d : At CallView) (stops : List (Stop (At CallView))) → AreQuiet seat stops →
-      MovesAlong (AskStep (MakesCall (of old.keys) seat old.stopped) seat) (at before.machine old.pool old.locks)
-      (stop kinds.Grant l ∷ stop kinds.ReadDepth d ∷ stops) → (locks : Table) →
-      end_of d stops ≡ at after.machine old.pool locks →
-      MadeAtOnce of seat (and_stops 2 stops) now
-      (record old { pool = pool; locks = locks; seats = slice_set old.seats (seat - 1) left; searches = noted })
-  left_by before after slot_is left_is awake kept others l d stops quiet moves locks ends =
-      subst (λ (k : KernelState K). MadeAtOnce of seat (and_stops 2 stops) k
-      (record old { pool = pool; locks = locks; seats = slice_set old.seats (seat - 1) left; searches = noted })) view
-      (subst (λ (p : PoolState). MadeAtOnce of seat (and_stops 2 stops) old
-      (record old { pool = p; locks = locks; seats = slice_set old.seats (seat - 1) left; searches = noted }))
-      (sym same) (subst (λ (xs : Seats). MadeAtOnce of seat (and_stops 2 stops) old
-      (record old { locks = locks; seats = xs; searches = noted })) (sym seats_are) made))
+  left_by : decided ≡ decided_by (conclusion_of a.machine) many a.decided → (l d : At CallView)
+      (stops : List (Stop (At CallView))) → AreQuiet seat stops →
+      MovesAlong (AskStep (MakesCall (of old.keys) seat old.stopped) seat) (at a.machine old.pool old.locks)
+      (stop kinds.Grant l ∷ stop kinds.ReadDepth d ∷ stops) → (locks : Table) → end_of d stops ≡ at m old.pool locks →
+      MadeAtOnce of seat (and_stops 2 stops) now (left locks)
+  left_by marked l d stops quiet moves locks ends =
+      subst (λ (k : KernelState K). MadeAtOnce of seat (and_stops 2 stops) k (left locks)) view
+      (subst (λ (p : PoolState). MadeAtOnce of seat (and_stops 2 stops) old (record old {
+        pool = p;
+        locks = locks;
+        seats = slice_set old.seats (seat - 1) (Some (record a { machine = m; decided = decided }));
+        searches = noted;
+      })) (sym same) (subst (λ (xs : Seats). MadeAtOnce of seat (and_stops 2 stops) old
+      (record old { locks = locks; seats = xs; searches = noted })) (sym seats_are)
+      (many_steps of seat old whole is sound a here (none_is a.wait awake) kept noted had has notes l d stops quiet
+      moves m old.pool locks ends)))
     where
-      there : call_at old.seats seat ≡ Some before
-      there = sym (slot_here old.seats seat slot is_its.0 (seat_there old whole seat is_its) at_slot) ∙ slot_is
+      is : IsSeat old.locks seat
+      is = is_its seat slot old now view whole seated at_slot
+
+      here : call_at old.seats seat ≡ Some a
+      here = sym (slot_is seat slot old now view whole seated at_slot) ∙ there
 
       come : ActiveView
       come = record {
-        machine = after.machine;
-        draft = before.draft;
-        begun = before.begun;
-        decided = decided_by (conclusion_of before.machine) (length old.journal) before.decided;
+        machine = m;
+        draft = a.draft;
+        begun = a.begun;
+        decided = decided_by (conclusion_of a.machine) (length old.journal) a.decided;
         wait = None;
       }
 
-      made : MadeAtOnce of seat (and_stops 2 stops) old
-          (record old { locks = locks; seats = with_call old.seats seat (Some come); searches = noted })
-      made = many_steps of seat old whole is_its sound before there awake kept noted had has notes l d stops quiet moves
-          after.machine old.pool locks ends
+      come_is : record a { machine = m; decided = decided } ≡ come
+      come_is = ap (λ (n : ℕ). record a { machine = m; decided = n })
+          (marked ∙ ap (λ (n : ℕ). decided_by (conclusion_of a.machine) n a.decided) as_many)
+          ∙ ap (λ (w : Option ℕ). record come { wait = w }) (none_is a.wait awake)
 
-      after_is : after ≡ come
-      after_is = others
-          ∙ ap (λ (n : ℕ). record before {
-            machine = after.machine;
-            decided = decided_by (conclusion_of before.machine) n before.decided;
-          }) as_many
-          ∙ ap (λ (w : Option ℕ). record before {
-            machine = after.machine;
-            decided = decided_by (conclusion_of before.machine) (length old.journal) before.decided;
-            wait = w;
-          }) awake
-
-      seats_are : slice_set old.seats (seat - 1) left ≡ with_call old.seats seat (Some come)
-      seats_are = with_place old.seats seat left is_its.0
-          ∙ ap (with_call old.seats seat) (left_is ∙ ap (λ (b : ActiveView). Some b) after_is)
+      seats_are : slice_set old.seats (seat - 1) (Some (record a { machine = m; decided = decided }))
+          ≡ with_call old.seats seat (Some come)
+      seats_are = with_place old.seats seat (Some (record a { machine = m; decided = decided })) is.0
+          ∙ ap (λ (b : ActiveView). with_call old.seats seat (Some b)) come_is
 
   -- by a question that was asked so
-  pub asked_at_once : SeatAsks (of old.keys) seat many slot left old.pool old.locks →
-      MadeAtOnce of seat 7 now
-      (record old { pool = pool; seats = slice_set old.seats (seat - 1) left; searches = noted })
-  asked_at_once seat_asks =
-      let before = seat_asks.before in
-      let after = seat_asks.after in
-      let asks = seat_asks.asks in
-      let run = asks.asks old.stopped in
+  pub asked_at_once : decided ≡ many → is_undecided a.machine.stage ≡ true →
+      ((stopped : Bool) → AsksAtOnce (MakesCall (of old.keys) seat stopped) seat a.machine m old.pool old.locks) →
+      MadeAtOnce of seat 7 now (left old.locks)
+  asked_at_once marked undecided asks =
+      let run = asks old.stopped in
       let w = run.way in
-      let end = at after.machine old.pool old.locks in
-      left_by before after seat_asks.had seat_asks.has asks.awake asks.kept
-      (asks.others ∙ ap (λ (c : Option Conclusion). record before {
-        machine = after.machine;
-        decided = decided_by c many before.decided;
-      }) (sym asks.undecided)) w.locked w.deep (to_answer w end) (quiet_on seat w end) run.moves old.locks refl
+      let end = at m old.pool old.locks in
+      left_by (marked ∙ ap (λ (c : Option Conclusion). decided_by c many a.decided)
+      (sym (undecided_at a.machine.stage undecided))) w.locked w.deep (to_answer w end) (quiet_on seat w end) run.moves
+      old.locks refl
 
-  -- by a write that went to its page so
-  pub reached_at_once : (locks : Table) → SeatReaches (of old.keys) seat many slot left old.pool old.locks locks →
-      MadeAtOnce of seat 6 now
-      (record old { pool = pool; locks = locks; seats = slice_set old.seats (seat - 1) left; searches = noted })
-  reached_at_once locks seat_reaches =
-      let reaches = seat_reaches.reaches in
-      let run = reaches.reaches old.stopped in
+  -- by a write that went to its page so, by which its call is marked as by a step
+  pub reached_at_once : (locks : Table) → decided ≡ decided_by (conclusion_of m) many a.decided →
+      ((stopped : Bool) → ReachesAtOnce (MakesCall (of old.keys) seat stopped) seat a.machine m old.pool old.locks
+      locks) → MadeAtOnce of seat 6 now (left locks)
+  reached_at_once locks marked reaches =
+      let run = reaches old.stopped in
       let w = run.way in
-      left_by seat_reaches.before seat_reaches.after seat_reaches.had seat_reaches.has reaches.awake reaches.kept
-      reaches.others w.locked w.deep (to_look w) (quiet_to seat w) run.moves locks run.arrives
+      left_by (marked ∙ ap (λ (c : Option Conclusion). decided_by c many a.decided)
+      (reached_far (of old.keys) seat old.stopped a.machine a.draft m old.pool old.locks locks run kept).come) w.locked
+      w.deep (to_look w) (quiet_to seat w) run.moves locks run.arrives

@@ -1,11 +1,11 @@
 pub mod Counting
 pub mod Words
 pub mod Active
+pub mod Lending
 pub mod Fault
 pub mod Waiting
 pub mod Past
 pub mod Turn
-pub mod AtOnce
 pub mod Kernel
 pub mod Searches
 pub mod Owing

@@ -83,6 +83,32 @@ pub record GoesAnew (hash : RecordKey → ℕ) (seat : ℕ) (stopped : Bool) (to
       MakesTurn hash seat stopped told again (Some left) pool pool' locks locks' journal journal'
       × (told ≢ steps.Waiting)
 
+-- what comes of a step by which a call has come so far, and goes on or is over: nothing changes but its seat
+pub record Tells (did : Progress FileFault) (told : Step) (come : ActiveView) (left : Option ActiveView)
+    (pool pool' : PoolState) (locks locks' : Table) (journal journal' : List Entry) : Type 0 where
+  pub told_is : told ≡ told_of did come.machine
+  pub left_is : IsLeft did come left
+  pub awake : told ≢ steps.Waiting
+  pub same_pool : pool' ≡ pool
+  pub same_locks : locks' ≡ locks
+  pub same_journal : journal' ≡ journal
+
+-- where it waits, and is over: it begins anew
+pub record TellsAnew (hash : RecordKey → ℕ) (seat : ℕ) (stopped : Bool) (did : Progress FileFault) (told : Step)
+    (come : ActiveView) (left : Option ActiveView) (pool pool' : PoolState) (locks locks' : Table)
+    (journal journal' : List Entry) : Type 0 where
+  pub ended : did ≡ progress.Ended
+  pub waits : is_waiting (conclusion_of come.machine) ≡ true
+  pub stays : ActiveView
+  pub left_is : left ≡ Some stays
+  pub anew : GoesAnew hash seat stopped told come stays pool pool' locks locks' journal journal'
+
+abbrev pub Settles : (RecordKey → ℕ) → ℕ → Bool → Progress FileFault → Step → ActiveView → Option ActiveView →
+    PoolState → PoolState → Table → Table → List Entry → List Entry → Type 0
+Settles hash seat stopped did told come left pool pool' locks locks' journal journal' =
+    Tells did told come left pool pool' locks locks' journal journal'
+    ⊎ TellsAnew hash seat stopped did told come left pool pool' locks locks' journal journal'
+
 -- by the last step of its machine a call that waits is over, and begins anew
 pub record TurnsAnew (hash : RecordKey → ℕ) (seat : ℕ) (stopped : Bool) (told : Step) (a : ActiveView)
     (left : Option ActiveView) (pool pool' : PoolState) (locks locks' : Table) (journal journal' : List Entry)

@@ -234,7 +234,7 @@ impl Active {
         self.decided = decided_by(&self.machine, journal.len(), self.decided);
         self.wait = None;
         let did = self.machine.step(pool, locks, keys, stopped, seat);
-        note(&self.machine, &mut self.draft, journal, seat);
+        note_entry(&self.machine, &mut self.draft, journal, seat);
         // A call that has begun has not ended.
         Step::of(did).unwrap()
     }
@@ -275,7 +275,7 @@ pub(crate) fn decided_by(machine: &CallMachine, many: usize, decided: usize) -> 
 
 /// The entry of a call that has come to an answer joins the journal, where it has not yet.
 #[inline(always)]
-pub(crate) fn note(
+pub(crate) fn note_entry(
     machine: &CallMachine,
     draft: &mut Option<Draft>,
     journal: &mut Vec<Entry>,

@@ -16,6 +16,7 @@ ghost use Rattle.interleaving_core.specs.Words.{IsSeat, caller_at};
 mod driving;
 mod renewing;
 
+use crate::active::{decided_by, note_entry};
 use crate::closing::{Closed, NotClosed};
 use crate::count::SearchCount;
 use crate::counts::SearchCounts;
@@ -264,7 +265,8 @@ impl<D: PageDevice + Drop, K: PseudoKey + Drop> Kernel<D, K> {
         Ok(())
     }
 
-    /// One step of the call at a seat. It takes no memory.
+    /// One step of the call at a seat, if it has one: none while that waits, and nothing has woken
+    /// it. Where the call comes to an answer, its entry joins the journal. It takes no memory.
     pub fn step(&mut self, seat: u8) -> Step
         requires { IsSeat self.old.locks seat }
         ensures turn { IsTurn seat result self.old self.new }
@@ -279,7 +281,25 @@ impl<D: PageDevice + Drop, K: PseudoKey + Drop> Kernel<D, K> {
             return told_of_failure(&self.seats[place]);
         }
         let before = last_page(&self.locks, seat);
-        let step = self.seats[place].step(
+        let at = &mut self.seats[place];
+        let Some(active) = at.under_way() else {
+            return Step::Idle;
+        };
+        if active.stays_waiting(self.journal.as_slice()) {
+            return Step::Waiting;
+        }
+        active.decided = decided_by(&active.machine, self.journal.len(), active.decided);
+        active.wait = None;
+        let did = active.machine.step(
+            &mut self.pool,
+            &mut self.locks,
+            &self.keys,
+            self.stopped,
+            seat,
+        );
+        note_entry(&active.machine, &mut active.draft, &mut self.journal, seat);
+        let step = at.settle(
+            did,
             &mut self.pool,
             &mut self.locks,
             &self.keys,

@@ -1,24 +1,27 @@
-//! A seat, and a step of it over the parts of a kernel.
+//! A seat, and what comes of a step of its call.
 
-ghost use Rattle.std.specs.Prelude.{◌≡◌, ◌↔◌, ◌+◌, ◌≤◌, IfErr, IfOk, IsTrue, None, Some, false, length, option_map, true, vec_capacity};
-ghost use Rattle.interleaving_core.specs.Active.{ActiveView, HasBegunAt};
+ghost use Rattle.std.specs.Prelude.{◌≡◌, ◌↔◌, ◌+◌, ◌≤◌, IfErr, IfOk, IfSome, IsTrue, None, length, option_map, vec_capacity};
+ghost use Rattle.std.specs.Borrow.{sem};
+ghost use Rattle.std.specs.Option.{option_copied_mut};
+ghost use Rattle.interleaving_core.specs.Active.{HasBegunAt};
 ghost use Rattle.interleaving_core.specs.Closing.{has_one};
 ghost use Rattle.interleaving_core.specs.Kernel.{due_at, locks_of};
+ghost use Rattle.interleaving_core.specs.Lending.{LendsCall};
 ghost use Rattle.interleaving_core.specs.Renewing.{IsIdleOrWaits, IsNewWhileWaiting, MayGiveBack, outlasting};
-ghost use Rattle.interleaving_core.specs.Turn.{Turns};
-ghost use Rattle.interleaving_core.specs.Words.{IsReady, IsSeat, row_of};
+ghost use Rattle.interleaving_core.specs.Turn.{Settles, told_on};
+ghost use Rattle.interleaving_core.specs.Words.{IsOver, IsReady, IsSeat, row_of};
 
-mod skipping;
-
-use crate::active::{Active, decided_by, note};
+use crate::active::Active;
 use crate::step::Step;
 use bucket_page::PseudoKey;
 use buffer_pool::Pool;
+use file_pages::FileFault;
 use page_device::PageDevice;
 use page_locks::LockTable;
 use queue_model::{Call, Caller, Entry};
 use std::alloc::Global;
 use std::marker::Model;
+use step_rules::Progress;
 
 /// A seat, with its call if it has one under way. A call that is over stays where it was, so that the
 /// next one begins in its place: a call is large, and is not moved.
@@ -167,13 +170,26 @@ impl Seat {
         Some(active.into_call())
     }
 
-    /// A step of its call, if it has one: none while that waits, and nothing has woken it. Where it
-    /// comes to an answer, its entry joins the journal. A call that is over leaves the seat, but one
+    /// Its call, which is lent for a step.
+    pub(crate) fn under_way(&mut self) -> Option<&mut Active>
+        ensures* writes_back { sem 𝓛 (LendsCall self.entry result) }
+        ensures value { option_copied_mut result ≡ self.old }
+    {
+        if self.is_busy {
+            self.last.as_mut()
+        } else {
+            None
+        }
+    }
+
+    /// What it is told of a step that the machine of its call has made, once the entry of one that
+    /// has come to an answer has joined the journal. A call that is over leaves the seat, but one
     /// that will wait: that begins anew. It stands in whoever steps the seat, since what it tells
     /// would else be moved through memory at each step.
     #[inline(always)]
-    pub(crate) fn step<D: PageDevice, K: PseudoKey>(
+    pub(crate) fn settle<D: PageDevice, K: PseudoKey>(
         &mut self,
+        did: Progress<FileFault>,
         pool: &mut Pool<D>,
         locks: &mut LockTable,
         keys: &K,
@@ -183,33 +199,25 @@ impl Seat {
     ) -> Step
         requires seat { IsSeat locks.old seat }
         requires ready { IsReady pool.old }
+        requires over { IfSome self.old (λ a. told_on did ≡ None → IsOver a.machine) }
         requires row { row_of locks.old seat ≡ locks_of self.old }
         requires room { due_at self.old + length journal.old.items ≤ vec_capacity journal.old }
-        ensures turns { Turns (K.of_key keys.now) seat stopped result self.old self.new
-            pool.old pool.new locks.old locks.new journal.old.items journal.new.items }
+        ensures settles { IfSome self.old (λ come. Settles (K.of_key keys.now) seat stopped did
+            result come self.new pool.old pool.new locks.old locks.new
+            journal.old.items journal.new.items) }
         ensures capacity { vec_capacity journal.old ≤ vec_capacity journal.new }
-        ensures spare { self.old ≡ None → vec_capacity journal.new ≡ vec_capacity journal.old }
     {
-        if !self.is_busy {
-            return Step::Idle;
-        }
-        let Some(active) = &mut self.last else {
-            return Step::Idle;
-        };
-        if active.stays_waiting(journal.as_slice()) {
-            return Step::Waiting;
-        }
-        active.decided = decided_by(&active.machine, journal.len(), active.decided);
-        active.wait = None;
-        let did = active.machine.step(pool, locks, keys, stopped, seat);
-        note(&active.machine, &mut active.draft, journal, seat);
         if let Some(step) = Step::of(did) {
             return step;
         }
+        let Some(active) = self.under_way() else {
+            return Step::Idle;
+        };
         if active.waits() {
             return active.turn_anew(pool, locks, keys, journal, stopped, seat);
         }
+        let step = active.end();
         self.is_busy = false;
-        active.end()
+        step
     }
 }

@@ -6,6 +6,8 @@ ghost use Rattle.page_locks.specs.Table.{IsSeat, row_of, with_row};
 ghost use Rattle.file_pages.specs.Files.{IsReady};
 ghost use Rattle.queue_records.specs.Range.{IsInRange};
 ghost use Rattle.stale_search.specs.Rows.{EndsRow, HasNoFileLock};
+ghost use Rattle.record_file.specs.OperationSteps.{MakesOperation};
+ghost use Rattle.record_file.specs.Operations.{MayBeLent, operation_locks};
 ghost use Rattle.xsi_inquiry.specs.Writing.{HasRange};
 ghost use Rattle.machine_trials.specs.Seats.{IsBegun, MayLend, MOST_LOCKS, work_locks};
 
@@ -15,7 +17,7 @@ use file_pages::FileFault;
 use page_device::PageDevice;
 use page_locks::{LockKind, LockTable};
 use queue_records::Record;
-use record_file::{Access, RecordOperation, Tried};
+use record_file::{Access, Deed, RecordOperation, Tried};
 use stale_search::{Search, SearchPlace};
 use step_rules::Progress;
 use xsi_inquiry::Write;
@@ -79,7 +81,7 @@ impl Work {
             locks.new ≡ with_row locks.old seat (work_locks self.new before) }
     {
         match self {
-            Work::Operation(operation) => operation.step(pool, locks, keys, seat, value),
+            Work::Operation(operation) => step_operation(operation, pool, locks, keys, seat, value),
             Work::Access(access) => access.step(pool, locks, keys, seat),
             Work::Search(search) => search.step(pool, locks, seat),
         }
@@ -158,5 +160,30 @@ impl Work {
             Work::Search(search) => Some(search.hops()),
             _ => None,
         }
+    }
+}
+
+/// One step of an operation, by the machine of its kind. Of the value a find or a delete reads
+/// nothing.
+fn step_operation<D: PageDevice, K: PseudoKey>(
+    operation: &mut RecordOperation,
+    pool: &mut Pool<D>,
+    locks: &mut LockTable,
+    keys: &K,
+    seat: u8,
+    value: &[u8],
+) -> Progress<FileFault>
+    requires seat { IsSeat locks.old seat }
+    requires ready { IsReady pool.old }
+    requires row { EndsRow (operation_locks operation.old) MOST_LOCKS (row_of locks.old seat) }
+    requires lent { MayBeLent (length value.now) operation.old }
+    ensures { MakesOperation (K.of_key keys.now) seat value.now result operation.old operation.new
+        pool.old pool.new locks.old locks.new }
+{
+    match operation {
+        RecordOperation::Find(find) => find.step(Deed::Find, pool, locks, seat, value),
+        RecordOperation::Insert(insert) => insert.step(pool, locks, keys, seat, value),
+        RecordOperation::Replace(replace) => replace.step(Deed::Replace, pool, locks, seat, value),
+        RecordOperation::Delete(delete) => delete.step(pool, locks, seat),
     }
 }

@@ -40,21 +40,13 @@ module _ (seat : ℕ) where
       find_makes hash seat bytes (Moved kind) old.pool new.pool old.locks new.locks old.machine new.machine
       (moves bytes)
 
-  finds_straight : (pool : PoolState) (locks : Table) (f : BucketView) (page : ℕ) (found : Option ℕ) →
+  pub finds_straight : (pool : PoolState) (locks : Table) (f : BucketView) (page : ℕ) (found : Option ℕ) →
       MovesAlong (BucketStep deeds.Find seat) (at f pool locks) (bucket_stops seat page found (at f pool locks)) →
       MovesAlong (OperationStep seat) (at (Find f) pool locks)
       (operation_stops seat page found (at (Find f) pool locks))
   finds_straight pool locks f page found =
       lifted (BucketStep deeds.Find seat) (OperationStep seat) find_of move_of_find (at f pool locks)
       (bucket_stops seat page found (at f pool locks))
-
-  pub finds_if : (pool : PoolState) (locks : Table) (f : BucketView) (there : Option (ℕ × Option ℕ)) →
-      IfSome there (λ (t : ℕ × Option ℕ). MovesAlong (BucketStep deeds.Find seat) (at f pool locks)
-      (bucket_stops seat t.0 t.1 (at f pool locks))) →
-      IfSome there (λ (t : ℕ × Option ℕ). MovesAlong (OperationStep seat) (at (Find f) pool locks)
-      (operation_stops seat t.0 t.1 (at (Find f) pool locks)))
-  finds_if pool locks f None moves = tt
-  finds_if pool locks f (Some t) moves = finds_straight pool locks f t.0 t.1 moves
 
   -- ---- a replace
 

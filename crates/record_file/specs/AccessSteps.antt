@@ -1,10 +1,11 @@
 -- What a step of an access does. docs/STEPS.md, "Calls".
 use Rattle.std.specs.Prelude.{ℕ, ◌≡◌, ◌≤◌, ◌↔◌, ◌⊎◌, Bool, true, false, not, List, length, Option, Some, None, IsSome, if◌then◌else◌, ⊤}
+use Rattle.std.specs.Option.{is_some}
 use Rattle.record_file.specs.declared.operation.RecordOperation.TheVariants as operations
 use Rattle.record_file.specs.step_rules.declared.kind.Kind.{Kind}
 use Rattle.file_pages.specs.declared.fault.FileFault.{FileFault}
 use Rattle.record_file.specs.AccessWords.{RecordKey, pair, PoolState, Table, Lock, Change, row_of, store_of, Progress, Moved, Blocked, Ended, Look, OnlyWrites, FollowsRow, World, is_fault, HasNoFileLock, Sees, Step, StepHasCause, world, NearsOrSpares, RecordOperation, HasEnded, IsKeyed, OwnsWritten, operation_found, HasNoRoom, Links, Record, linked_bytes}
-use Rattle.record_file.specs.OperationSteps.{TurnsAwayOf}
+use Rattle.record_file.specs.OperationSteps.{MakesOperation, TurnsAwayOf}
 use Rattle.record_file.specs.Purposes.{Purpose, StandsAt, is_write, left_by}
 use Rattle.record_file.specs.Accesses.{AccessView, Allows, HasFound, Serves, access_answer, access_facts, access_key, access_left, access_locks, access_pseudokey, access_turn, has_no_room, has_set_out}
 
@@ -104,3 +105,13 @@ pub record MakesAccess (hash : RecordKey → ℕ) (seat : ℕ) (did : Progress F
   pub answer : (p : Purpose) (found : Option Record) (change : Change) →
       Faces hash seat p found old pool locks change → is_fault did ≡ false →
       TellsOf hash seat did p found old new (world pool.images locks change) (world pool'.images locks' change)
+
+-- where its operation has made this step from what it was, before which a page had answered or not, that step is one of
+-- the access, and so is the rest that is done
+abbrev pub Settles : (answered : Bool) (did done : Progress FileFault) (old new : AccessView) (pool pool' : PoolState) →
+    Type 0
+Settles answered did done old new pool pool' =
+    (hash : RecordKey → ℕ) (seat : ℕ) (a : AccessView) (before : PoolState) (locks locks' : Table) →
+    answered ≡ is_some (operation_found a.operation) → old ≡ record a { operation = old.operation } →
+    MakesOperation hash seat a.bytes did a.operation old.operation before pool locks locks' →
+    MakesAccess hash seat done a new before pool' locks locks'

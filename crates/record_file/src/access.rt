@@ -7,11 +7,12 @@ ghost use Rattle.xsi_inquiry.specs.Writing.{HasRange};
 ghost use Rattle.record_file.specs.AccessWords.{HasEnded, IsReady, IsSeat, EndsRow, Look, MayBeLent, Moved, Record, RecordKey, Write, operation_found, operation_key, row_of};
 ghost use Rattle.record_file.specs.Purposes.{ToFind, ToInsert, ToWrite, is_write};
 ghost use Rattle.record_file.specs.Accesses.{Allows, HasFound, Serves, access_answer, access_locks, begun, has_no_room};
-ghost use Rattle.record_file.specs.AccessSteps.{MakesAccess};
+ghost use Rattle.record_file.specs.AccessSteps.{MakesAccess, Settles};
 ghost use Rattle.record_file.specs.Readings.{IsReplace, Takes};
 
 mod ahead;
 
+use crate::bucket_access::Deed;
 use crate::fitting::links_fit;
 use crate::operation::RecordOperation;
 use crate::reading::{read_front, read_value};
@@ -229,8 +230,9 @@ impl Access {
         self.operation.has_ended()
     }
 
-    /// One step of its operation; where a page answers by it, that page is read. It stands in
-    /// whoever steps the access, which would else wait for what it tells to pass through memory.
+    /// One step of its operation, by the machine of its kind; where a page answers by it, that page
+    /// is read. It stands in whoever steps the access, which would else wait for what it tells to
+    /// pass through memory.
     #[inline(always)]
     pub fn step<D: PageDevice, K: PseudoKey>(
         &mut self,
@@ -246,9 +248,38 @@ impl Access {
             pool.old pool.new locks.old locks.new }
     {
         let answered = self.operation.found().is_some();
-        let did = self
-            .operation
-            .step(pool, locks, keys, seat, &self.bytes[..self.len]);
+        match &mut self.operation {
+            RecordOperation::Find(find) => {
+                let did = find.step(Deed::Find, pool, locks, seat, &self.bytes[..self.len]);
+                self.settle(answered, did, pool)
+            }
+            RecordOperation::Insert(insert) => {
+                let did = insert.step(pool, locks, keys, seat, &self.bytes[..self.len]);
+                self.settle(answered, did, pool)
+            }
+            RecordOperation::Replace(replace) => {
+                let did = replace.step(Deed::Replace, pool, locks, seat, &self.bytes[..self.len]);
+                self.settle(answered, did, pool)
+            }
+            RecordOperation::Delete(delete) => {
+                let did = delete.step(pool, locks, seat);
+                self.settle(answered, did, pool)
+            }
+        }
+    }
+
+    /// The rest of a step, whichever machine made it: a WriteRecord is counted, and a page that
+    /// answered by it is read. Whether a page had answered before is told.
+    #[inline(always)]
+    fn settle<D: PageDevice>(
+        &mut self,
+        answered: bool,
+        did: Progress<FileFault>,
+        pool: &mut Pool<D>,
+    ) -> Progress<FileFault>
+        requires ready { IsReady pool.old }
+        ensures { Settles answered did result self.old self.new pool.old pool.new }
+    {
         if is_write(did) {
             self.written = true;
             return did;

@@ -1,22 +1,17 @@
 //! The operation.
 
-ghost use Rattle.std.specs.Prelude.{◌≡◌, ◌↔◌, ℕ, true, length, IfSome, IsSome};
-ghost use Rattle.record_file.specs.stale_search.SearchRuns.{HasNoLock, at};
+ghost use Rattle.std.specs.Prelude.{◌≡◌, ◌↔◌, ℕ, true, IfSome};
 ghost use Rattle.record_file.specs.stale_search.declared.place.SearchPlace.{SearchPlace};
-ghost use Rattle.record_file.specs.step_rules.Runs.{MovesAlong};
 ghost use Rattle.record_file.specs.OperationWords.{IsReady, IsSeat, row_of, EndsRow};
 ghost use Rattle.record_file.specs.Operations.{FoundAtEnd, HasEnded, MayBeLent, TriedAtEnd, begun_delete, begun_find, begun_insert, begun_replace, operation_found, operation_locks, operation_tried};
-ghost use Rattle.record_file.specs.OperationRuns.{GoesToPage, IsFind, LacksKey, OperationStep, operation_at, operation_done, operation_stops};
-ghost use Rattle.record_file.specs.OperationSteps.{MakesOperation};
+ghost use Rattle.record_file.specs.OperationRuns.{GoesToPage, LacksKey, operation_at, operation_done};
 
 use crate::bucket_access::{BucketAccess, Deed};
 use crate::buffer_pool::Pool;
 use crate::delete::Delete;
-use crate::file_pages::FileFault;
 use crate::insert::Insert;
-use crate::step_rules::Progress;
 use crate::tried::Tried;
-use bucket_page::{PseudoKey, RecordKey};
+use bucket_page::RecordKey;
 use page_device::PageDevice;
 use page_locks::LockTable;
 use std::mem::size_of;
@@ -101,57 +96,6 @@ impl RecordOperation {
             RecordOperation::Insert(insert) => insert.has_ended(),
             RecordOperation::Replace(replace) => replace.has_ended(),
             RecordOperation::Delete(delete) => delete.has_ended(),
-        }
-    }
-
-    /// One step, by the operation. The value that an insert puts is lent to it, or the bytes that a
-    /// replace writes; of a find or a delete nothing is read of them.
-    pub fn step<D: PageDevice, K: PseudoKey>(
-        &mut self,
-        pool: &mut Pool<D>,
-        locks: &mut LockTable,
-        keys: &K,
-        seat: u8,
-        bytes: &[u8],
-    ) -> Progress<FileFault>
-        requires seat { IsSeat locks.old seat }
-        requires ready { IsReady pool.old }
-        requires row { EndsRow (operation_locks self.old) 3 (row_of locks.old seat) }
-        requires lent { MayBeLent (length bytes.now) self.old }
-        ensures { MakesOperation (K.of_key keys.now) seat bytes.now result self.old self.new
-            pool.old pool.new locks.old locks.new }
-    {
-        match self {
-            RecordOperation::Find(find) => find.step(Deed::Find, pool, locks, seat, bytes),
-            RecordOperation::Insert(insert) => insert.step(pool, locks, keys, seat, bytes),
-            RecordOperation::Replace(replace) => {
-                replace.step(Deed::Replace, pool, locks, seat, bytes)
-            }
-            RecordOperation::Delete(delete) => delete.step(pool, locks, seat),
-        }
-    }
-
-    /// Where a find arrives that has not begun and goes straight to the page that the directory
-    /// names, to give it back at once. Nothing is done. Others tell none.
-    pub fn ahead<D: PageDevice>(
-        &self,
-        pool: &mut Pool<D>,
-        locks: &LockTable,
-        seat: u8,
-    ) -> Option<(u32, Option<usize>)>
-        requires seat { IsSeat locks.now seat }
-        requires ready { IsReady pool.old }
-        requires row { EndsRow (operation_locks self.now) 3 (row_of locks.now seat) }
-        ensures pool { pool.new ≡ pool.old }
-        ensures find { IsSome result → IsFind self.now }
-        ensures bare { IsSome result → HasNoLock (operation_locks self.now) }
-        ensures moves { IfSome result (λ there. MovesAlong (OperationStep seat)
-            (at self.now pool.old locks.now)
-            (operation_stops seat there.0 there.1 (at self.now pool.old locks.now))) }
-    {
-        match self {
-            RecordOperation::Find(find) => find.ahead(pool, locks, seat),
-            _ => None,
         }
     }
 

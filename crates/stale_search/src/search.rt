@@ -1,7 +1,7 @@
 //! The machine.
 //!
-//! What is done at a page promises what `step` does, at the place of that page: so `step` is a
-//! match on the places, and each of them is proved by itself.
+//! `step` is a match on the places. A hop alone does two things, a look and a grant: it is a
+//! function of its own, which promises what `step` does, at its place, and is proved by itself.
 
 ghost use Rattle.std.specs.Prelude.{◌≡◌, IfSome, IsSome};
 ghost use Rattle.page_locks.specs.Table.{IsSeat, row_of};
@@ -148,7 +148,17 @@ impl Search {
                 self.place = SearchPlace::Look(page);
                 Progress::Moved(Kind::Release)
             }
-            SearchPlace::Look(page) => self.look_at(pool, locks, seat, page),
+            SearchPlace::Look(page) => match look(pool, page, self.pseudokey, &self.key) {
+                Ok(Sight::Covering(found)) => {
+                    self.place = SearchPlace::Found(page, found);
+                    Progress::Moved(Kind::Look)
+                }
+                Ok(Sight::Naming(_)) => {
+                    self.place = SearchPlace::Hop(page);
+                    Progress::Moved(Kind::Look)
+                }
+                Err(fault) => Progress::Fault(fault),
+            },
             SearchPlace::Hop(page) => self.hop_from(pool, locks, seat, page),
             SearchPlace::Found(_, _) => Progress::Ended,
         }
@@ -194,44 +204,6 @@ impl Search {
         ensures { self.new ≡ search_at (SearchPlace.Found page found) self.old }
     {
         self.place = SearchPlace::Found(page, found);
-    }
-
-    /// The page is read: it answers, or it is to be left.
-    fn look_at<D: PageDevice>(
-        &mut self,
-        pool: &mut Pool<D>,
-        locks: &LockTable,
-        seat: u8,
-        page: u32,
-    ) -> Progress<FileFault>
-        requires place { self.old.place ≡ SearchPlace.Look page }
-        requires seat { IsSeat locks.now seat }
-        requires ready { IsReady pool.old }
-        requires row { HasRow self.old (row_of locks.now seat) }
-        // whatever the device gives
-        ensures reads { ReadsPages result pool.old pool.new }
-        ensures aim { KeepsAim result pool.old self.old self.new }
-        ensures row { FollowsRow seat (search_locks self.old) (search_locks self.new)
-            locks.now locks.now }
-        // on an honest device, in a sound world
-        ensures progress { Advances seat (search_facts self.old) result (left_in self.old pool.old)
-            (left_in self.new pool.new) pool.old pool.new locks.now }
-        ensures step { MakesStep seat (search_locks self.old) (search_facts self.old)
-            (search_facts self.new) (search_turn self.old) result pool.old pool.new
-            locks.now locks.now }
-        ensures answer { GivesAnswer seat result self.old self.new pool.old locks.now }
-    {
-        match look(pool, page, self.pseudokey, &self.key) {
-            Ok(Sight::Covering(found)) => {
-                self.place = SearchPlace::Found(page, found);
-                Progress::Moved(Kind::Look)
-            }
-            Ok(Sight::Naming(_)) => {
-                self.place = SearchPlace::Hop(page);
-                Progress::Moved(Kind::Look)
-            }
-            Err(fault) => Progress::Fault(fault),
-        }
     }
 
     /// The page is read again. It answers by now, or the next one is locked in its place.

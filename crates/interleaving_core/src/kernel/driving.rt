@@ -5,6 +5,7 @@ ghost use Rattle.interleaving_core.specs.Driving.{IsDriven, Moves};
 ghost use Rattle.interleaving_core.specs.Owing.{IsMove, IsRun, answer_told};
 ghost use Rattle.interleaving_core.specs.Words.{IsSeat};
 
+use crate::active::decided_by;
 use crate::fault::{Failure, StepFault};
 use crate::kernel::{Kernel, MOST_STEPS};
 use crate::step::Step;
@@ -62,9 +63,10 @@ impl<D: PageDevice + Drop, K: PseudoKey + Drop> Kernel<D, K> {
         Step::Fault(StepFault::File(FileFault::Failed))
     }
 
-    /// All steps of the next question of the seat's call, in one go, where so many steps may be made
-    /// and it can be asked so (`Seat::skip`). Else nothing is done, and it is left to `step`. Of these
-    /// steps the second alone, by which the depth is read, changes what is counted.
+    /// All steps of the next question of the seat's call, in one go, where so many steps may be made,
+    /// the seat was not told that it waits, and it can be asked so (`CallMachine::skip`). Else
+    /// nothing is done, and it is left to `step`. Of these steps the second alone, by which the depth
+    /// is read, changes what is counted.
     fn skip(&mut self, seat: u8, most: u32) -> bool
         requires { IsSeat self.old.locks seat }
         ensures made { result ≡ true →
@@ -79,19 +81,29 @@ impl<D: PageDevice + Drop, K: PseudoKey + Drop> Kernel<D, K> {
             return false;
         }
         let place = seat as usize - 1;
-        let many = self.journal.len();
-        if !self.seats[place].skip(&mut self.pool, &self.locks, &self.keys, many, seat) {
+        let Some(active) = self.seats[place].under_way() else {
+            return false;
+        };
+        if active.wait.is_some() {
             return false;
         }
+        if !active
+            .machine
+            .skip(&mut self.pool, &self.locks, &self.keys, seat)
+        {
+            return false;
+        }
+        active.decided = self.journal.len();
         self.searches.are_sound();
         self.searches.note(seat, Kind::ReadDepth, true, false);
         self.searches.are_sound();
         true
     }
 
-    /// All steps by which the next write of the seat's call goes to its page, in one go, where so many
-    /// steps may be made and it can go so (`Seat::reach`). Else nothing is done, and it is left to
-    /// `step`. They are counted as those of `skip`.
+    /// All steps by which the next write of the seat's call goes to its page, in one go, where so
+    /// many steps may be made, the seat was not told that it waits, and it can go so
+    /// (`CallMachine::reach`). Else nothing is done, and it is left to `step`. They are counted as
+    /// those of `skip`.
     fn reach(&mut self, seat: u8, most: u32) -> bool
         requires { IsSeat self.old.locks seat }
         ensures made { result ≡ true →
@@ -106,10 +118,19 @@ impl<D: PageDevice + Drop, K: PseudoKey + Drop> Kernel<D, K> {
             return false;
         }
         let place = seat as usize - 1;
-        let many = self.journal.len();
-        if !self.seats[place].reach(&mut self.pool, &mut self.locks, &self.keys, many, seat) {
+        let Some(active) = self.seats[place].under_way() else {
+            return false;
+        };
+        if active.wait.is_some() {
             return false;
         }
+        if !active
+            .machine
+            .reach(&mut self.pool, &mut self.locks, &self.keys, seat)
+        {
+            return false;
+        }
+        active.decided = decided_by(&active.machine, self.journal.len(), active.decided);
         self.searches.are_sound();
         self.searches.note(seat, Kind::ReadDepth, true, false);
         self.searches.are_sound();

@@ -27,7 +27,10 @@ impl Access {
         ensures made { result ≡ true → FindsAtOnce seat self.old self.new pool.old locks.now }
         ensures spares { result ≡ false → self.new ≡ self.old }
     {
-        let Some((page, found)) = self.operation.ahead(pool, locks, seat) else {
+        let RecordOperation::Find(find) = &self.operation else {
+            return false;
+        };
+        let Some((page, found)) = find.ahead(pool, locks, seat) else {
             return false;
         };
         if !self.read_ahead(pool, page, found) {

@@ -15,7 +15,8 @@ use page_locks::LockTable;
 
 impl Payment {
     /// All steps up to the Look of the next write, in one go, where no sweep is under way and it
-    /// can go to its page so (`CallWrites::reach`). Else nothing is done, and it is left to `step`.
+    /// can go to its page so (`CallWrites::reach`). Else nothing is done, and it is left to the
+    /// call's step.
     pub fn reach<D: PageDevice, K: PseudoKey>(
         &mut self,
         plan: &PlanOf<'_>,

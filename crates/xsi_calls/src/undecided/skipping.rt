@@ -19,7 +19,7 @@ use xsi_inquiry::Inquiry;
 impl UndecidedCall {
     /// All steps up to the Look of the next record that it inserts on trial, in one go, where all
     /// is asked and it can go to its page so (`CallWrites::reach`). Else nothing is done, and it is
-    /// left to `step`.
+    /// left to `try_on`.
     pub fn reach<D: PageDevice, K: PseudoKey>(
         &mut self,
         pool: &mut Pool<D>,

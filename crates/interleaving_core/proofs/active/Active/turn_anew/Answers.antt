@@ -16,7 +16,7 @@ returns-clause-anew g c =
     } in
     let come : ActiveView = record {
       machine = c.step-did.new.self;
-      draft = c.note.new.draft;
+      draft = c.note_entry.new.draft;
       begun = c.self.inside.begun;
       decided = c.decided_by-self-inside.result;
       wait = None;
@@ -31,10 +31,10 @@ returns-clause-anew g c =
       begins = subst (BeginsAgain c.args.self.now) (sym same) c.begin_again.ensures;
       waits = λ stays. absurd (true≢false (sym stays ∙ awake));
       goes = λ woken. goes_on_by (g.K.PseudoKey.of_key c.args.keys.now) c.args.seat c.args.stopped c.step-did.result
-          c.unwrap.result again come c.args.pool.now c.step-did.new.pool c.args.locks.now c.step-did.new.locks
-          c.args.journal.now.items c.note.new.journal.items c.step-did.ensures c.self.invariant.drafted
-          c.note.ensures.draft c.note.ensures.journal
-          (is_marked again c.step-did.new.self c.note.new.draft c.decided_by-self-inside.result c.len.result
-          (length c.args.journal.now.items) c.decided_by-self-inside.ensures (c.len.ensures ∙ many))
+          again come c.args.pool.now c.step-did.new.pool c.args.locks.now c.step-did.new.locks
+          c.args.journal.now.items c.note_entry.new.journal.items c.step-did.ensures c.self.invariant.drafted
+          c.note_entry.ensures.draft c.note_entry.ensures.journal
+          (is_marked again c.step-did.new.self c.note_entry.new.draft c.decided_by-self-inside.result c.len.result
+          (length c.args.journal.now.items) c.decided_by-self-inside.ensures (c.len.ensures ∙ many)) c.unwrap.result
           (sym c.of.ensures ∙ c.unwrap.ensures);
     }

@@ -1,145 +1,152 @@
--- A step of the seat's call, or none after a failure.
-use Rattle.std.proofs.Common.{◌∙◌, refl, sym, ap, subst, vec_capacity}
+-- A step of the seat's call, or none after a failure, or where it has none or waits.
+use Rattle.std.proofs.Common.{rules, ◌≡◌, ◌∙◌, ◌-◌, ◌≤◌, refl, sym, Option, Some, None, length, slice_set, vec_capacity, arith}
 use Rattle.std.specs.Option.{is_some}
-use Rattle.interleaving_core.specs.Kernel.{KernelState}
-use Rattle.interleaving_core.specs.Owing.{IsTurn, told_of_failure}
-use Rattle.interleaving_core.specs.Words.{IsSeat}
-use Rattle.interleaving_core.proofs.KernelLemmas.{counts_by, is_counted, makes_step, row_there, seat_behind, seat_there, slot_here, told_anew}
-use Rattle.interleaving_core.proofs.RunLemmas.{fails_put}
+use Rattle.std.specs.Vec.{vec_len}
+use Rattle.interleaving_core.specs.Active.{ActiveView}
+use Rattle.interleaving_core.specs.Counting.{CountsState}
+use Rattle.interleaving_core.specs.Owing.{failure_by}
+use Rattle.interleaving_core.specs.Searches.{CountsFrom}
+use Rattle.interleaving_core.specs.Turn.{Turns}
+use Rattle.interleaving_core.specs.declared.fault.Failure.{Failure}
+use Rattle.interleaving_core.proofs.KernelLemmas.{MakesStep, counts_by, makes_step, told_anew}
+use Rattle.interleaving_core.proofs.LentLemmas.{fails, rests_idle, rests_waiting, row_there, seat_behind}
+use Rattle.interleaving_core.proofs.SeatLemmas.{awake_by, is_marked, lent_some, lent_there, none_lent, settled}
+use Rattle.interleaving_core.proofs.kernel.Kernel.step.Given as given
+use Rattle.interleaving_core.proofs.kernel.Kernel.step.Goals.{After-settle-step}
 use Rattle.interleaving_core.proofs.kernel.Kernel.step.Goals as goal
+
+-- its machine has made a step, and this came of it
+turns : (g : given.Over) (c : After-settle-step g) →
+    Turns (g.K.PseudoKey.of_key c.self.inside.keys) c.args.seat c.self.inside.stopped c.settle-step.result
+    c.index_mut-at.result.now c.settle-step.new.self c.self.inside.pool c.settle-step.new.pool c.self.inside.locks
+    c.settle-step.new.locks c.self.inside.journal.items c.settle-step.new.journal.items
+turns g c =
+    let went : ActiveView = record {
+      machine = c.active.inside.machine;
+      draft = c.active.inside.draft;
+      begun = c.active.inside.begun;
+      decided = c.active.inside.decided;
+      wait = c.active.inside.wait;
+    } in
+    let come : ActiveView = record {
+      machine = c.step-did.new.self;
+      draft = c.note_entry.new.draft;
+      begun = c.active.inside.begun;
+      decided = c.decided_by-active-inside.result;
+      wait = None;
+    } in
+    let many : vec_len c.self.inside.journal ≡ length c.self.inside.journal.items = search rules in
+    let same : went ≡ c.in-Some.active.now = c.active.view_is ∙ c.stays_waiting.ensures.goes c.if-stays_waiting.false in
+    let there : c.index_mut-at.result.now ≡ Some went =
+    lent_there c.index_mut-at.result.now c.under_way.result c.in-Some.active went c.under_way.ensures.value c.in-Some.is
+    same in
+    settled (g.K.PseudoKey.of_key c.self.inside.keys) c.args.seat c.self.inside.stopped c.step-did.result went come
+    c.self.inside.pool c.step-did.new.pool c.self.inside.locks c.step-did.new.locks c.self.inside.journal.items
+    c.note_entry.new.journal.items c.step-did.ensures c.active.invariant.drafted c.note_entry.ensures.draft
+    c.note_entry.ensures.journal
+    (is_marked went c.step-did.new.self c.note_entry.new.draft c.decided_by-active-inside.result c.len.result
+    (length c.self.inside.journal.items) c.decided_by-active-inside.ensures (c.len.ensures ∙ many))
+    (row_there c.args.seat c.index_mut-at.result.now _ c.args.self.now c.self.view_is c.self.invariant c.requires
+    c.index_mut-at.ensures.value went there) c.settle-step.result c.settle-step.new.self c.settle-step.new.pool
+    c.settle-step.new.locks c.settle-step.new.journal.items c.index_mut-at.result.now there
+    (awake_by c.in-Some.active.now went c.as_slice.result.now c.self.inside.journal.items c.stays_waiting.result same
+    c.as_slice.ensures.value c.stays_waiting.ensures.is c.if-stays_waiting.false) c.settle-step.ensures.settles
+
+-- and so a step of the kernel, once it is marked and counted
+made : (g : given.Over) (c : After-settle-step g) (failure : Option Failure) (searches : CountsState) →
+    failure ≡ failure_by c.args.seat c.settle-step.result None →
+    CountsFrom c.args.seat c.settle-step.result c.last_page-before.result c.settle-step.new.locks
+    c.self.inside.searches searches →
+    MakesStep g.K.PseudoKey.of_key c.args.seat c.settle-step.result c.args.self.now (record {
+      keys = c.self.inside.keys;
+      pool = c.settle-step.new.pool;
+      locks = c.settle-step.new.locks;
+      callers = c.self.inside.callers.items;
+      seats = slice_set c.self.inside.seats.items (c.args.seat - 1) c.settle-step.new.self;
+      journal = c.settle-step.new.journal.items;
+      room = vec_capacity c.settle-step.new.journal;
+      stopped = c.self.inside.stopped;
+      failed = is_some failure;
+      failure = failure;
+      searches = searches;
+    })
+made g c failure searches is counts =
+    let first = c.note_entry.ensures.capacity in
+    let last = c.settle-step.ensures.capacity in
+    let more : vec_capacity c.self.inside.journal ≤ vec_capacity c.settle-step.new.journal =
+    omega (arith, first, last) in
+    makes_step g.K.PseudoKey.of_key c.args.seat c.settle-step.result c.index_mut-at.result.now c.settle-step.new.self
+    _ _ c.args.self.now c.self.view_is c.self.invariant c.requires c.index_mut-at.ensures.value (turns g c) refl refl
+    refl refl more (λ none. absurd (lent_some _ _ _ c.under_way.ensures.value c.in-Some.is none))
+    (sym c.is_some.ensures ∙ c.if-is_some.false) refl is
+    (counts_by c.args.seat c.settle-step.result _ _ c.last_page-before.result c.last_page-before.ensures counts)
 
 pub returns-then-is_some-clause-turn : goal.returns-then-is_some-clause-turn
 returns-then-is_some-clause-turn g c =
-    let old : KernelState g.row.K.Denot = record {
-      keys = c.self.inside.keys;
-      pool = c.self.inside.pool;
-      locks = c.self.inside.locks;
-      callers = c.self.inside.callers.items;
-      seats = c.self.inside.seats.items;
-      journal = c.self.inside.journal.items;
-      room = vec_capacity c.self.inside.journal;
-      stopped = c.self.inside.stopped;
-      failed = is_some c.self.inside.failure;
-      failure = c.self.inside.failure;
-      searches = c.self.inside.searches;
-    } in
-    let is : IsSeat old.locks c.args.seat =
-    subst (λ (k : KernelState g.row.K.Denot). IsSeat k.locks c.args.seat) (sym c.self.view_is) c.requires in
-    subst (λ (k : KernelState g.row.K.Denot). IsTurn c.args.seat c.told_of_failure.result k k) c.self.view_is
-    (fails_put c.args.seat c.told_of_failure.result old c.self.invariant (sym c.is_some.ensures ∙ c.if-is_some.true)
-    (c.told_of_failure.ensures ∙ ap told_of_failure (slot_here old.seats c.args.seat c.index.result.now is.0
-    (seat_there old c.self.invariant c.args.seat is) c.index.ensures)))
+    fails c.args.seat c.index.result.now _ c.args.self.now c.self.view_is c.self.invariant c.requires c.index.ensures
+    c.told_of_failure.result (sym c.is_some.ensures ∙ c.if-is_some.true) c.told_of_failure.ensures
 
-pub step-step-requires-clause-row : goal.step-step-requires-clause-row
-step-step-requires-clause-row g c =
-    let old : KernelState g.row.K.Denot = record {
-      keys = c.self.inside.keys;
-      pool = c.self.inside.pool;
-      locks = c.self.inside.locks;
-      callers = c.self.inside.callers.items;
-      seats = c.self.inside.seats.items;
-      journal = c.self.inside.journal.items;
-      room = vec_capacity c.self.inside.journal;
-      stopped = c.self.inside.stopped;
-      failed = is_some c.self.inside.failure;
-      failure = c.self.inside.failure;
-      searches = c.self.inside.searches;
-    } in
-    let is : IsSeat old.locks c.args.seat =
-    subst (λ (k : KernelState g.row.K.Denot). IsSeat k.locks c.args.seat) (sym c.self.view_is) c.requires in
-    row_there c.args.seat c.index_mut.result.now old c.self.invariant is c.index_mut.ensures.value
+-- ---- it has no call
+
+pub returns-in_default : goal.returns-in_default
+returns-in_default g c =
+    let rest = rests_idle c.args.seat c.index_mut-at.result.now _ c.args.self.now c.self.view_is c.self.invariant
+    c.requires c.index_mut-at.ensures.value g.K.PseudoKey.of_key (sym c.is_some.ensures ∙ c.if-is_some.false)
+    (none_lent _ _ c.under_way.ensures.value c.in_default.is) in
+    record { turn = rest.turn; makes = rest.makes }
+
+-- ---- its call waits
+
+pub invariant_of-self-then-stays_waiting : goal.invariant_of-self-then-stays_waiting
+invariant_of-self-then-stays_waiting g c =
+    (rests_waiting c.args.seat c.index_mut-at.result.now _ c.args.self.now c.self.view_is c.self.invariant c.requires
+    c.index_mut-at.ensures.value g.K.PseudoKey.of_key (sym c.is_some.ensures ∙ c.if-is_some.false)
+    c.in-Some.active.now c.stays_waiting.new.self c.as_slice.result.now c.stays_waiting.result
+    (lent_there _ _ _ _ c.under_way.ensures.value c.in-Some.is refl) c.as_slice.ensures.value
+    c.stays_waiting.ensures.is c.if-stays_waiting.true
+    (c.stays_waiting.ensures.waits c.if-stays_waiting.true)).whole
+
+pub returns-then-stays_waiting : goal.returns-then-stays_waiting
+returns-then-stays_waiting g c =
+    let rest = rests_waiting c.args.seat c.index_mut-at.result.now _ c.args.self.now c.self.view_is c.self.invariant
+    c.requires c.index_mut-at.ensures.value g.K.PseudoKey.of_key (sym c.is_some.ensures ∙ c.if-is_some.false)
+    c.in-Some.active.now c.stays_waiting.new.self c.as_slice.result.now c.stays_waiting.result
+    (lent_there _ _ _ _ c.under_way.ensures.value c.in-Some.is refl) c.as_slice.ensures.value
+    c.stays_waiting.ensures.is c.if-stays_waiting.true (c.stays_waiting.ensures.waits c.if-stays_waiting.true) in
+    record { turn = rest.turn; makes = rest.makes }
+
+-- ---- its machine makes a step
+
+pub step-did-requires-clause-row : goal.step-did-requires-clause-row
+step-did-requires-clause-row g c =
+    row_there c.args.seat _ _ c.args.self.now c.self.view_is c.self.invariant c.requires c.index_mut-at.ensures.value _
+    (lent_there _ _ _ _ c.under_way.ensures.value c.in-Some.is
+    (c.active.view_is ∙ c.stays_waiting.ensures.goes c.if-stays_waiting.false))
 
 pub note-requires-clause-seat : goal.note-requires-clause-seat
 note-requires-clause-seat g c =
-    let old : KernelState g.row.K.Denot = record {
-      keys = c.self.inside.keys;
-      pool = c.self.inside.pool;
-      locks = c.self.inside.locks;
-      callers = c.self.inside.callers.items;
-      seats = c.self.inside.seats.items;
-      journal = c.self.inside.journal.items;
-      room = vec_capacity c.self.inside.journal;
-      stopped = c.self.inside.stopped;
-      failed = is_some c.self.inside.failure;
-      failure = c.self.inside.failure;
-      searches = c.self.inside.searches;
-    } in
-    let is : IsSeat old.locks c.args.seat =
-    subst (λ (k : KernelState g.row.K.Denot). IsSeat k.locks c.args.seat) (sym c.self.view_is) c.requires in
-    seat_behind (g.K.PseudoKey.of_key old.keys) c.args.seat c.step-step.result c.index_mut.result.now
-    c.step-step.new.self old _ _ _ c.self.invariant is c.index_mut.ensures.value c.step-step.ensures.turns
+    seat_behind c.args.seat c.index_mut-at.result.now _ c.args.self.now c.self.view_is c.self.invariant c.requires
+    c.index_mut-at.ensures.value (g.K.PseudoKey.of_key c.self.inside.keys) c.settle-step.result c.settle-step.new.self
+    c.settle-step.new.pool c.settle-step.new.locks c.settle-step.new.journal.items
+    (turns g (goal.at.note-requires-clause-seat g c).After-settle-step)
 
-pub note-requires-clause-counted : goal.note-requires-clause-counted
-note-requires-clause-counted g c =
-    let old : KernelState g.row.K.Denot = record {
-      keys = c.self.inside.keys;
-      pool = c.self.inside.pool;
-      locks = c.self.inside.locks;
-      callers = c.self.inside.callers.items;
-      seats = c.self.inside.seats.items;
-      journal = c.self.inside.journal.items;
-      room = vec_capacity c.self.inside.journal;
-      stopped = c.self.inside.stopped;
-      failed = is_some c.self.inside.failure;
-      failure = c.self.inside.failure;
-      searches = c.self.inside.searches;
-    } in
-    let is : IsSeat old.locks c.args.seat =
-    subst (λ (k : KernelState g.row.K.Denot). IsSeat k.locks c.args.seat) (sym c.self.view_is) c.requires in
-    is_counted old c.self.invariant c.args.seat is
-
-pub invariant_of-self : goal.invariant_of-self
-invariant_of-self g c =
-    (makes_step g.K.PseudoKey.of_key c.args.seat c.step-step.result c.index_mut.result.now c.step-step.new.self _
-    _ c.args.self.now c.self.view_is c.self.invariant c.requires c.index_mut.ensures.value c.step-step.ensures.turns
-    refl refl refl refl c.step-step.ensures.capacity c.step-step.ensures.spare
-    (sym c.is_some.ensures ∙ c.if-is_some.false) refl c.failure_of-self-inside.ensures
-    (counts_by c.args.seat c.step-step.result _ _ c.last_page-before.result c.last_page-before.ensures
-    c.note.ensures)).whole
+pub invariant_of-self-in-Moved : goal.invariant_of-self-in-Moved
+invariant_of-self-in-Moved g c =
+    (made g (goal.at.invariant_of-self-in-Moved g c).After-settle-step _ _ c.failure_of-self-inside.ensures
+    c.note.ensures).whole
 
 pub invariant_of-self-2 : goal.invariant_of-self-2
 invariant_of-self-2 g c =
-    (makes_step g.K.PseudoKey.of_key c.args.seat c.step-step.result c.index_mut.result.now c.step-step.new.self _
-    _ c.args.self.now c.self.view_is c.self.invariant c.requires c.index_mut.ensures.value c.step-step.ensures.turns
-    refl refl refl refl c.step-step.ensures.capacity c.step-step.ensures.spare
-    (sym c.is_some.ensures ∙ c.if-is_some.false) refl c.failure_of-self-inside.ensures
-    (counts_by c.args.seat c.step-step.result _ _ c.last_page-before.result c.last_page-before.ensures
-    c.note.ensures)).whole
+    (made g (goal.at.invariant_of-self-2 g c).After-settle-step _ _ c.failure_of-self-inside.ensures
+    c.note.ensures).whole
 
-pub returns-clause-turn : goal.returns-clause-turn
-returns-clause-turn g c =
-    (makes_step g.K.PseudoKey.of_key c.args.seat c.step-step.result c.index_mut.result.now c.step-step.new.self _
-    _ c.args.self.now c.self.view_is c.self.invariant c.requires c.index_mut.ensures.value c.step-step.ensures.turns
-    refl refl refl refl c.step-step.ensures.capacity c.step-step.ensures.spare
-    (sym c.is_some.ensures ∙ c.if-is_some.false) refl c.failure_of-self-inside.ensures
-    (counts_by c.args.seat c.step-step.result _ _ c.last_page-before.result c.last_page-before.ensures
-    c.note.ensures)).turn
+pub returns-in-Moved : goal.returns-in-Moved
+returns-in-Moved g c =
+    let step = told_anew g.K.PseudoKey.of_key c.args.seat c.settle-step.result _ c.args.self.now _ c.in-Moved.is
+    (made g (goal.at.returns-in-Moved g c).After-settle-step _ _ c.failure_of-self-inside.ensures c.note.ensures) in
+    record { turn = step.turn; makes = step.makes }
 
-pub returns-clause-makes : goal.returns-clause-makes
-returns-clause-makes g c =
-    (makes_step g.K.PseudoKey.of_key c.args.seat c.step-step.result c.index_mut.result.now c.step-step.new.self _
-    _ c.args.self.now c.self.view_is c.self.invariant c.requires c.index_mut.ensures.value c.step-step.ensures.turns
-    refl refl refl refl c.step-step.ensures.capacity c.step-step.ensures.spare
-    (sym c.is_some.ensures ∙ c.if-is_some.false) refl c.failure_of-self-inside.ensures
-    (counts_by c.args.seat c.step-step.result _ _ c.last_page-before.result c.last_page-before.ensures
-    c.note.ensures)).makes
-
-pub returns-in-Moved-clause-turn : goal.returns-in-Moved-clause-turn
-returns-in-Moved-clause-turn g c =
-    (told_anew g.K.PseudoKey.of_key c.args.seat c.step-step.result _ c.args.self.now _ c.in-Moved.is
-    (makes_step g.K.PseudoKey.of_key c.args.seat c.step-step.result c.index_mut.result.now c.step-step.new.self _
-    _ c.args.self.now c.self.view_is c.self.invariant c.requires c.index_mut.ensures.value c.step-step.ensures.turns
-    refl refl refl refl c.step-step.ensures.capacity c.step-step.ensures.spare
-    (sym c.is_some.ensures ∙ c.if-is_some.false) refl c.failure_of-self-inside.ensures
-    (counts_by c.args.seat c.step-step.result _ _ c.last_page-before.result c.last_page-before.ensures
-    c.note.ensures))).turn
-
-pub returns-in-Moved-clause-makes : goal.returns-in-Moved-clause-makes
-returns-in-Moved-clause-makes g c =
-    (told_anew g.K.PseudoKey.of_key c.args.seat c.step-step.result _ c.args.self.now _ c.in-Moved.is
-    (makes_step g.K.PseudoKey.of_key c.args.seat c.step-step.result c.index_mut.result.now c.step-step.new.self _
-    _ c.args.self.now c.self.view_is c.self.invariant c.requires c.index_mut.ensures.value c.step-step.ensures.turns
-    refl refl refl refl c.step-step.ensures.capacity c.step-step.ensures.spare
-    (sym c.is_some.ensures ∙ c.if-is_some.false) refl c.failure_of-self-inside.ensures
-    (counts_by c.args.seat c.step-step.result _ _ c.last_page-before.result c.last_page-before.ensures
-    c.note.ensures))).makes
+pub returns : goal.returns
+returns g c =
+    let step = made g (goal.at.returns g c).After-settle-step _ _ c.failure_of-self-inside.ensures c.note.ensures in
+    record { turn = step.turn; makes = step.makes }

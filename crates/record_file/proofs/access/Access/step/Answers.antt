@@ -1,81 +1,49 @@
--- A step of the operation is one of the access, and where a page answered by it that page is read.
-use Rattle.std.proofs.Common.{◌≡◌, sym, ap, ◌∙◌, true, false, take, is_ok}
+-- The step of each machine is one of its operation, and with the rest that is done one of the access.
+use Rattle.std.proofs.Common.{ap, ◌∙◌, refl}
 use Rattle.std.specs.Option.{is_some}
-use Rattle.std.proofs.lemmas.Bool.{true≢false}
-use Rattle.record_file.proofs.AccessAimLemmas.{none_of}
-use Rattle.record_file.proofs.AccessStepLemmas.{makes_other, makes_written}
-use Rattle.record_file.proofs.TakeLemmas.{failed, took}
-use Rattle.record_file.specs.Accesses.{AccessView}
-use Rattle.record_file.specs.Purposes.{is_write}
-use Rattle.record_file.specs.AccessWords.{operation_found}
+use Rattle.record_file.proofs.KindLemmas.{delete_makes, find_makes, insert_makes, replace_makes}
+use Rattle.record_file.specs.AccessWords.{RecordOperation, operation_found}
 use Rattle.record_file.proofs.access.Access.step.Goals as goal
 
-pub returns-then-is_write : goal.returns-then-is_write
-returns-then-is_write g c =
-    let written : is_write c.step-did.result ≡ true = sym c.is_write.ensures ∙ c.if-is_write.true in
-    let a : AccessView = record {
-      operation = c.self.inside.operation;
-      links = c.self.inside.links;
-      bytes = take c.self.inside.len c.self.inside.bytes;
-      written = c.self.inside.written;
-    } in
-    rw (← c.self.view_is) (makes_written _ c.args.seat c.step-did.result a c.step-did.new.self c.args.pool.now
-    c.step-did.new.pool c.args.locks.now c.step-did.new.locks c.step-did.ensures written)
+pub returns-in-Find : goal.returns-in-Find
+returns-in-Find g c =
+    let had = c.is_some-answered.ensures ∙ ap is_some c.found.ensures
+    ∙ ap (λ (o : RecordOperation). is_some (operation_found o)) c.in-Find.is in
+    rw (← c.self.view_is, c.in-Find.is) (c.settle.ensures _ c.args.seat _ c.args.pool.now c.args.locks.now
+    c.step-did.new.locks had refl
+    (find_makes _ c.args.seat _ c.step-did.result c.args.pool.now c.step-did.new.pool c.args.locks.now
+    c.step-did.new.locks c.in-Find.find c.step-did.new.self c.step-did.ensures))
 
-pub returns-then-answered : goal.returns-then-answered
-returns-then-answered g c =
-    let unwritten : is_write c.step-did.result ≡ false = sym c.is_write.ensures ∙ c.if-is_write.false in
-    let some : is_some (operation_found c.self.inside.operation) ≡ true =
-    sym (ap is_some c.found.ensures) ∙ sym c.is_some-answered.ensures ∙ c.if-answered.true in
-    let a : AccessView = record {
-      operation = c.self.inside.operation;
-      links = c.self.inside.links;
-      bytes = take c.self.inside.len c.self.inside.bytes;
-      written = c.self.inside.written;
-    } in
-    rw (← c.self.view_is) (makes_other _ c.args.seat c.step-did.result a c.step-did.new.self c.args.pool.now
-    c.step-did.new.pool c.args.locks.now c.step-did.new.locks c.step-did.ensures unwritten
-    (λ looked none. absurd (true≢false (sym some ∙ ap is_some none))))
+pub returns-in-Insert : goal.returns-in-Insert
+returns-in-Insert g c =
+    let had = c.is_some-answered.ensures ∙ ap is_some c.found.ensures
+    ∙ ap (λ (o : RecordOperation). is_some (operation_found o)) c.in-Insert.is in
+    rw (← c.self.view_is, c.in-Insert.is) (c.settle-in-Insert.ensures _ c.args.seat _ c.args.pool.now c.args.locks.now
+    c.step-did-in-Insert.new.locks had refl
+    (insert_makes _ c.args.seat _ c.step-did-in-Insert.result c.args.pool.now c.step-did-in-Insert.new.pool
+    c.args.locks.now c.step-did-in-Insert.new.locks c.in-Insert.insert c.step-did-in-Insert.new.self
+    c.step-did-in-Insert.ensures))
 
-pub returns-then-not-is_look : goal.returns-then-not-is_look
-returns-then-not-is_look g c =
-    let unwritten : is_write c.step-did.result ≡ false = sym c.is_write.ensures ∙ c.if-is_write.false in
-    let a : AccessView = record {
-      operation = c.self.inside.operation;
-      links = c.self.inside.links;
-      bytes = take c.self.inside.len c.self.inside.bytes;
-      written = c.self.inside.written;
-    } in
-    rw (← c.self.view_is) (makes_other _ c.args.seat c.step-did.result a c.step-did.new.self c.args.pool.now
-    c.step-did.new.pool c.args.locks.now c.step-did.new.locks c.step-did.ensures unwritten
-    (λ looked none. absurd (true≢false (sym (c.is_look.ensures.other looked) ∙ c.if-not-is_look.true))))
+pub returns-in-Replace : goal.returns-in-Replace
+returns-in-Replace g c =
+    let had = c.is_some-answered.ensures ∙ ap is_some c.found.ensures
+    ∙ ap (λ (o : RecordOperation). is_some (operation_found o)) c.in-Replace.is in
+    rw (← c.self.view_is, c.in-Replace.is) (c.settle-in-Replace.ensures _ c.args.seat _ c.args.pool.now
+    c.args.locks.now c.step-did-in-Replace.new.locks had refl
+    (replace_makes _ c.args.seat _ c.step-did-in-Replace.result c.args.pool.now c.step-did-in-Replace.new.pool
+    c.args.locks.now c.step-did-in-Replace.new.locks c.in-Replace.replace c.step-did-in-Replace.new.self
+    c.step-did-in-Replace.ensures))
 
-pub returns-in-Ok : goal.returns-in-Ok
-returns-in-Ok g c =
-    let looked = c.is_look.ensures.looked c.if-not-is_look.false in
-    let none = none_of (operation_found c.self.inside.operation)
-    (sym (ap is_some c.found.ensures) ∙ sym c.is_some-answered.ensures ∙ c.if-answered.false) in
-    let a : AccessView = record {
-      operation = c.self.inside.operation;
-      links = c.self.inside.links;
-      bytes = take c.self.inside.len c.self.inside.bytes;
-      written = c.self.inside.written;
-    } in
-    rw (← c.self.view_is) (took _ c.args.seat c.step-did.result a c.step-did.new.self c.args.pool.now
-    c.step-did.new.pool c.take.new.pool c.args.locks.now c.step-did.new.locks c.step-did.ensures looked none
-    c.take.new.self c.take.result c.take.ensures (ap is_ok c.in-Ok.is) (ap is_ok c.in-Ok.is))
-
-pub returns-in-Err : goal.returns-in-Err
-returns-in-Err g c =
-    let looked = c.is_look.ensures.looked c.if-not-is_look.false in
-    let none = none_of (operation_found c.self.inside.operation)
-    (sym (ap is_some c.found.ensures) ∙ sym c.is_some-answered.ensures ∙ c.if-answered.false) in
-    let a : AccessView = record {
-      operation = c.self.inside.operation;
-      links = c.self.inside.links;
-      bytes = take c.self.inside.len c.self.inside.bytes;
-      written = c.self.inside.written;
-    } in
-    rw (← c.self.view_is) (failed _ c.args.seat c.step-did.result a c.step-did.new.self c.args.pool.now
-    c.step-did.new.pool c.take.new.pool c.args.locks.now c.step-did.new.locks c.step-did.ensures looked none
-    c.take.new.self c.take.result c.take.ensures c.in-Err.fault c.in-Err.is)
+pub returns-in-Delete : goal.returns-in-Delete
+returns-in-Delete g c =
+    let had = c.is_some-answered.ensures ∙ ap is_some c.found.ensures
+    ∙ ap (λ (o : RecordOperation). is_some (operation_found o)) c.in-Delete.is in
+    let e = c.step-did-in-Delete.ensures in
+    rw (← c.self.view_is, c.in-Delete.is) (c.settle-in-Delete.ensures _ c.args.seat _ c.args.pool.now c.args.locks.now
+    c.step-did-in-Delete.new.locks had refl
+    (delete_makes _ c.args.seat _ c.step-did-in-Delete.result c.args.pool.now c.step-did-in-Delete.new.pool
+    c.args.locks.now c.step-did-in-Delete.new.locks c.in-Delete.delete c.step-did-in-Delete.new.self
+    e.writes e.aim e.row
+    (λ change sees. e.progress _ change sees)
+    (λ change before bare owns here keyed sees fine. e.step _ change before bare owns here keyed sees fine)
+    (λ change keyed sees fine. e.answer _ change keyed sees fine)))

@@ -8,10 +8,10 @@ use Rattle.step_rules.proofs.BuddyLemmas.{hop_goes_elsewhere}
 use Rattle.stale_search.specs.Steps.{world}
 use Rattle.stale_search.specs.Rows.{on_page}
 use Rattle.stale_search.proofs.RowLemmas.{other_not_on, hopped}
-use Rattle.stale_search.proofs.WayLemmas.{leads_in_file}
 use Rattle.stale_search.proofs.LeftLemmas.{hop_falls}
 use Rattle.step_rules.proofs.BoundLemmas.{hop_is_nearer}
 use Rattle.stale_search.proofs.StepLemmas.{hopped_back, hopped_on, hop_blocked}
+use Rattle.stale_search.proofs.LookLemmas.{read_fails}
 use Rattle.stale_search.proofs.search.Search.hop_from.Goals as goal
 
 pub returns-then-next-page-clause-progress : goal.returns-then-next-page-clause-progress
@@ -106,11 +106,9 @@ returns-in-Blocked-clause-step g c =
 pub returns-in-Err-clause-progress : goal.returns-in-Err-clause-progress
 returns-in-Err-clause-progress g c =
     let here = rw (← c.self.view_is) at c.requires.place in
-    λ hash change sees.
-    let sees' = rw (← c.self.view_is, here) at sees in
-    let in_file = leads_in_file hash c.args.pool.now.images c.args.page change c.self.inside.pseudokey
-    sees'.sound.file sees'.known.0.1 in
-    c.in-Err.ensures.fault sees'.honest sees'.file in_file.behind in_file.within in_file.on_way
+    rw (← c.self.view_is, here)
+    (read_fails c.args.seat c.args.page c.self.inside.pseudokey c.args.pool.now c.look.new.pool c.args.locks.now
+    c.in-Err.fault c.in-Err.ensures.fault)
 
 pub returns-in-Granted-clause-progress : goal.returns-in-Granted-clause-progress
 returns-in-Granted-clause-progress g c =

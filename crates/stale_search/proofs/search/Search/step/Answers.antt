@@ -15,7 +15,8 @@ use Rattle.stale_search.proofs.LeftLemmas.{twice_below}
 use Rattle.step_rules.specs.Searching.{ByEntry}
 use Rattle.step_rules.specs.Ways.{hops_between}
 use Rattle.step_rules.proofs.BoundLemmas.{depth_is_exact, entry_is_near}
-use Rattle.stale_search.proofs.StepLemmas.{granted, granted_page, kept_from, read, gave_back, stays_there}
+use Rattle.stale_search.proofs.StepLemmas.{granted, granted_page, kept_from, read, gave_back, stays_there, taken}
+use Rattle.stale_search.proofs.LookLemmas.{look_leaves, read_fails}
 use Rattle.stale_search.proofs.search.Search.step.Goals as goal
 
 pub read_entry-requires-clause-within : goal.read_entry-requires-clause-within
@@ -164,3 +165,37 @@ returns-in-Ok-read_entry-clause-progress g c = λ hash change sees.
     let few = rw (← named) at near in
     rw (c.in-Ok-read_entry.ensures.reads.images sees'.honest)
     (twice_below (distance s c.in-Ok-read_entry.page k) (hops_between s c.in-ReadEntry.depth k) few))
+
+-- ---- at a Look
+
+pub returns-in-Ok-Covering-clause-step : goal.returns-in-Ok-Covering-clause-step
+returns-in-Ok-Covering-clause-step g c =
+    rw (← c.self.view_is, c.in-Look.is)
+    (look_leaves c.args.seat c.in-Look.page c.self.inside.pseudokey c.args.pool.now c.look.new.pool c.args.locks.now
+    c.self.inside.kind c.requires.seat c.in-Ok-Covering.ensures.reads)
+
+pub returns-in-Ok-Covering-clause-answer : goal.returns-in-Ok-Covering-clause-answer
+returns-in-Ok-Covering-clause-answer g c = λ hash change keyed sees _.
+    let sees' = rw (← c.self.view_is, c.in-Look.is) at sees in
+    let keyed' = rw (← c.self.view_is) at keyed in
+    let row' = rw (← c.self.view_is, c.in-Look.is) at c.requires.row in
+    let sight = rw c.in-Ok-Covering.field-0-is at (c.in-Ok-Covering.ensures.ok sees'.honest) in
+    rw (← c.self.view_is, c.in-Look.is) (
+      refl,
+      taken hash c.args.seat _ c.args.pool.now c.args.locks.now change sees' None c.look.new.pool
+          c.in-Ok-Covering.ensures.reads c.in-Look.page c.self.inside.pseudokey c.self.inside.kind row'.before row'.bare
+          c.requires.seat row'.is sees'.known.0.1
+          c.self.inside.key c.in-Ok-Covering.found keyed' (sight.0.bucket, sight.0.covers) sight.1,
+    )
+
+pub returns-in-Ok-Naming-clause-step : goal.returns-in-Ok-Naming-clause-step
+returns-in-Ok-Naming-clause-step g c =
+    rw (← c.self.view_is, c.in-Look.is)
+    (look_leaves c.args.seat c.in-Look.page c.self.inside.pseudokey c.args.pool.now c.look.new.pool c.args.locks.now
+    c.self.inside.kind c.requires.seat c.in-Ok-Naming.ensures.reads)
+
+pub returns-in-Err-look-clause-progress : goal.returns-in-Err-look-clause-progress
+returns-in-Err-look-clause-progress g c =
+    rw (← c.self.view_is, c.in-Look.is)
+    (read_fails c.args.seat c.in-Look.page c.self.inside.pseudokey c.args.pool.now c.look.new.pool c.args.locks.now
+    c.in-Err-look.fault c.in-Err-look.ensures.fault)
