@@ -25,7 +25,8 @@ pub moved_front : (bytes : List ℕ) (n : ℕ) → n ≤ length bytes
     → take (length bytes - n) (copy_within bytes n (length bytes) 0) ≡ drop n bytes
 moved_front bytes n fits =
     let whole : take (length bytes - n) (drop n bytes) ≡ drop n bytes = take_rest bytes n in
-    let long : length (take (length bytes - n) (drop n bytes)) ≡ length bytes - n = ap length whole ∙ length-drop n bytes in
+    let long : length (take (length bytes - n) (drop n bytes)) ≡ length bytes - n =
+    ap length whole ∙ length-drop n bytes in
     take_at (take (length bytes - n) (drop n bytes)) _ (length bytes - n) long ∙ whole
 
 -- the parts that `insert` makes are those of its contract

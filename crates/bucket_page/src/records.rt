@@ -96,19 +96,21 @@ impl<'a> Records<'a> {
         self.bytes.len()
     }
 
-    /// The value of a key. Nothing is read behind the first greater key.
+    /// The value of a key. Each record below it is compared with it once, and none is read behind the
+    /// first that is not below.
     pub fn value_of(&self, key: &RecordKey) -> Option<&'a [u8]>
         requires { ascend self.now ≡ true }
         ensures some { IfSome result (λ value. lookup key.now self.now ≡ Some value.now) }
         ensures none { IfNone result (lookup key.now self.now ≡ None) }
     {
         for record in self.again() {
+            if record.key.is_below(key) {
+                continue;
+            }
             if record.key == *key {
                 return Some(record.value);
             }
-            if key.is_below(&record.key) {
-                return None;
-            }
+            return None;
         }
         None
     }

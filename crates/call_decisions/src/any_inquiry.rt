@@ -1,8 +1,13 @@
 //! The inquiry of any call.
 
+ghost use Rattle.std.specs.Prelude.{◌≡◌, MatchOption, [], slice_get};
+ghost use Rattle.std.specs.Option.{is_some};
+ghost use Rattle.xsi_inquiry.specs.Slots.{IsNextWrite, writes_left};
+ghost use Rattle.call_decisions.specs.Anything.{plan_of};
+
 use queue_model::{Call, Caller};
 use xsi_control::queue_records::Record;
-use xsi_control::xsi_inquiry::{Decision, Inquiry, NotASystem, Room, Wanted, Write};
+use xsi_control::xsi_inquiry::{Decision, Inquiry, NotASystem, Room, Wanted, Write, next_write};
 use xsi_control::{GetInquiry, RemoveInquiry, SetInquiry, StatInquiry};
 use xsi_receive::ReceiveInquiry;
 use xsi_send::SendInquiry;
@@ -26,6 +31,49 @@ pub enum AnyInquiry {
 }
 
 const _: () = prove!(size_of::<AnyInquiry>() <= 400);
+
+impl AnyInquiry {
+    /// The next slot from this one on that is not empty, with its write; none where no write is
+    /// left. The kind of the call is told once, and not for each slot.
+    pub fn next_write(&self, call: &Call, from: usize) -> Option<(usize, Write)>
+        ensures { MatchOption result
+            (writes_left (plan_of call.now self.now) from ≡ [])
+            (λ next. IsNextWrite (plan_of call.now self.now) from next.0 next.1) }
+    {
+        match (self, call) {
+            (AnyInquiry::Get(inquiry), Call::Get(arguments)) => {
+                next_write(inquiry, arguments, from)
+            }
+            (AnyInquiry::Send(inquiry), Call::Send(arguments)) => {
+                next_write(inquiry, arguments, from)
+            }
+            (AnyInquiry::Receive(inquiry), Call::Receive(arguments)) => {
+                next_write(inquiry, arguments, from)
+            }
+            (AnyInquiry::Stat(inquiry), Call::Stat { id }) => next_write(inquiry, id, from),
+            (AnyInquiry::Set(inquiry), Call::Set(arguments)) => {
+                next_write(inquiry, arguments, from)
+            }
+            (AnyInquiry::Remove(inquiry), Call::Remove { id }) => next_write(inquiry, id, from),
+            (_, _) => None,
+        }
+    }
+
+    /// Whether a record is inserted on trial.
+    pub fn inserts(&self, call: &Call) -> bool
+        ensures { result ≡ is_some (slice_get (plan_of call.now self.now).trials 0) }
+    {
+        match (self, call) {
+            (AnyInquiry::Get(inquiry), Call::Get(arguments)) => {
+                inquiry.trial(arguments, 0).is_some()
+            }
+            (AnyInquiry::Send(inquiry), Call::Send(arguments)) => {
+                inquiry.trial(arguments, 0).is_some()
+            }
+            (_, _) => false,
+        }
+    }
+}
 
 impl Inquiry for AnyInquiry {
     ghost use Rattle.call_decisions.specs.Anything.{FollowsOf, KnowsOf, asked_of, caller_of, decided_of, left_of, locked_of, plan_of};

@@ -35,8 +35,10 @@ begun_above depth first slot lower old page is = record {
 }
 
 -- and goes on by one
-pub one_copied : (depth first slot : ℕ) (lower old now new : List ℕ) → 2 ^ depth ≤ first + slot → first + slot < 2 * 2 ^ depth
-    → IsDoneTo (doubled depth first lower old) slot old now → slot_at slot new ≡ entry_in lower (first + slot - 2 ^ depth)
+pub one_copied : (depth first slot : ℕ) (lower old now new : List ℕ) → 2 ^ depth ≤ first + slot
+    → first + slot < 2 * 2 ^ depth
+    → IsDoneTo (doubled depth first lower old) slot old now
+    → slot_at slot new ≡ entry_in lower (first + slot - 2 ^ depth)
     → ((other : ℕ) → other ≢ slot → slot_at other new ≡ slot_at other now) → IsDirectoryPage new
     → IsDoneTo (doubled depth first lower old) (slot + 1) old new
 one_copied depth first slot lower old now new from to so put others page = record {

@@ -41,7 +41,8 @@ rests_apart n more m some less same = by (cases_lt (n / m) ((n + more) / m))
 pub stride_fits : (depth : ℕ) → depth ≤ 17 → 2 ^ depth ≤ 131072
 stride_fits depth low = pow-le-pow_right (omega arith) low
 
--- the slots of a page from that of entry `first` on, where a bucket gets the entries of a range that stand before a slot
+-- the slots of a page from that of entry `first` on, where a bucket gets the entries of a range that stand before a
+-- slot
 abbrev pub named : ℕ → Range → ℕ → ℕ → List ℕ → ℕ → ℕ
 named depth range bucket first old slot =
     if is_in_range depth range (first + slot) then bucket else slot_at slot old
@@ -68,17 +69,20 @@ past_stays depth range bucket first slot old past =
 
 -- one of the directory's with that rest names the bucket
 pub chosen : (depth : ℕ) (range : Range) (bucket first slot : ℕ) (old : List ℕ) →
-    first + slot < 2 ^ depth → (first + slot) % 2 ^ range.depth ≡ range.pattern → named depth range bucket first old slot ≡ bucket
+    first + slot < 2 ^ depth → (first + slot) % 2 ^ range.depth ≡ range.pattern →
+    named depth range bucket first old slot ≡ bucket
 chosen depth range bucket first slot old within there =
     ap (λ (b : Bool). if b then bucket else slot_at slot old) (and_from _ _ (lt-ltb _ _ within) (eq-eqb _ _ there))
 
 -- it begins with the first slot whose entry has that rest
 pub begun : (depth : ℕ) (range : Range) (bucket first slot : ℕ) (old : List ℕ) → IsDirectoryPage old →
-    slot < 2 ^ range.depth → (first + slot) % 2 ^ range.depth ≡ range.pattern → IsRetargetedTo depth range bucket first slot old old
+    slot < 2 ^ range.depth → (first + slot) % 2 ^ range.depth ≡ range.pattern →
+    IsRetargetedTo depth range bucket first slot old old
 begun depth range bucket first slot old page low there = record {
   so_far = record {
     done = λ other before. sym (other_stays depth range bucket first other old (λ same.
-        rests_apart (first + other) (slot - other) (2 ^ range.depth) (omega (arith, before)) (omega (arith, before, low))
+        rests_apart (first + other) (slot - other) (2 ^ range.depth) (omega (arith, before))
+        (omega (arith, before, low))
         (ap (λ (k : ℕ). k % 2 ^ range.depth) (omega (arith, before)) ∙ there ∙ sym same)));
     left = λ other from. refl;
     page = page;
@@ -94,7 +98,8 @@ pub one_more : (depth : ℕ) (range : Range) (bucket first slot : ℕ) (old now 
 one_more depth range bucket first slot old now new within so put others page = record {
   so_far = record {
     done = λ other before. by other before (cases_lt other slot);
-    left = λ other from. others other (λ same. omega (arith, from, same, some)) ∙ so.so_far.left other (omega (arith, from));
+    left = λ other from. others other (λ same. omega (arith, from, same, some))
+        ∙ so.so_far.left other (omega (arith, from));
     page = page;
   };
   next = ap (λ (k : ℕ). k % 2 ^ range.depth) (omega arith) ∙ add-mod_right (first + slot) (2 ^ range.depth) ∙ so.next;
@@ -108,7 +113,8 @@ one_more depth range bucket first slot old now new within so put others page = r
     here other before (inl above) from =
         others other (λ same. omega (arith, above, same)) ∙ so.so_far.left other from
         ∙ sym (other_stays depth range bucket first other old (λ same.
-        rests_apart (first + slot) (other - slot) (2 ^ range.depth) (omega (arith, above)) (omega (arith, above, before))
+        rests_apart (first + slot) (other - slot) (2 ^ range.depth) (omega (arith, above))
+        (omega (arith, above, before))
         (ap (λ (k : ℕ). k % 2 ^ range.depth) (omega (arith, above)) ∙ same ∙ sym so.next)))
     here other before (inr below) from =
         let same : slot ≡ other = omega (arith, below, from) in

@@ -1,8 +1,9 @@
 -- A page that is pinned, read and given back: what the pool is then, and why it was not pinned.
 use Rattle.std.proofs.Common.{◌≡◌, refl, ◌∙◌, sym, ap, subst, ℕ, zero, suc, ◌-◌, ◌<◌, ◌≤◌, List, [], Bool, true, IsTrue, Option, None, Some}
-use Rattle.std.proofs.Common.{length, arith, slice_get, slice_set, Result, Ok, Err, IsErr, IsErrAnd, IsErrOf, IfErr, IfOk, IfSome, ◌⊎◌, inl, inr}
+use Rattle.std.proofs.Common.{length, arith, slice_get, slice_set, Result, Ok, Err, IsErr, IsErrAnd, IsErrOf, IfErr, IfOk, IfNone, IfSome, ◌⊎◌, inl, inr}
 use Rattle.file_pages.proofs.Names.{Bucket, DIRECTORY_PAGES, Device, HasRisen, IsBucketPage, IsCrowded, IsWell, KeepsSeals, Malformed, MayNotPin, NoMemory, PageKind, PoolFault, PoolState, ROOT_PAGE, RecordKey, Spells, TooFewFrames, bucket_again, bucket_in, bucket_of, cases_lt, count_none, directory_well, entries_at, get_or_from_slice_get, is_bucket, lookup, page_at, page_in, page_is, pins_at, records_in, rest_again}
 use Rattle.buffer_pool.proofs.SparedLemmas.{spared_is}
+use Rattle.std.specs.Option.{option_map}
 use Rattle.std.specs.Result.{result_ok}
 use Rattle.directory.specs.Entries.{slot_at}
 use Rattle.page_device.specs.declared.fault.DeviceFault.TheVariants as device
@@ -136,15 +137,19 @@ pub same_slot : (r : Result ℕ FileFault) {there slot : ℕ} {page was : List �
 same_slot (Ok bucket) it slot page here = it ∙ (λ j. slot_at (slot j) (page j)) ∙ here
 same_slot (Err fault) it slot page here = tt
 
--- the value that a bucket lends is the page's
+-- the value that a bucket lends, or none, is the page's
 pub lent_of : {B : Type 0} (now : B → List ℕ) (r : Option B) (bytes : List ℕ) (b : Bucket) (p : PageKind)
     (key : RecordKey) → p ≡ page_in bytes → IsBucketPage bytes → b ≡ bucket_in bytes
-    → IfSome r (λ (value : B). lookup key b.records ≡ Some (now value))
-    → IfSome r (λ (value : B). lookup key (bucket_of p).records ≡ Some (now value))
-lent_of now None bytes b p key was it is lent = tt
-lent_of now (Some value) bytes b p key was it is lent =
+    → IfSome r (λ (value : B). lookup key b.records ≡ Some (now value)) → IfNone r (lookup key b.records ≡ None)
+    → lookup key (bucket_of p).records ≡ option_map now r
+lent_of {B = B} now r bytes b p key was it is some none =
     ap (λ (q : PageKind). lookup key (bucket_of q).records) (was ∙ page_is (kinds.Bucket (bucket_in bytes)) bytes it)
-    ∙ ap (λ (c : Bucket). lookup key c.records) (sym is) ∙ lent
+    ∙ ap (λ (c : Bucket). lookup key c.records) (sym is) ∙ either r some none
+  where
+    either : (r : Option B) → IfSome r (λ (value : B). lookup key b.records ≡ Some (now value))
+        → IfNone r (lookup key b.records ≡ None) → lookup key b.records ≡ option_map now r
+    either None some none = none
+    either (Some value) some none = some
 
 -- what is told is told also where no fault is
 pub if_told : {X : Type 0} (r : Result X FileFault) (P : X → Type 0) → IfOk r P → IfSome (result_ok r) P

@@ -25,5 +25,5 @@ pub use header::{
 pub use page_device;
 pub use read::{copy_value, look, read_bucket, read_depth, read_entry};
 pub use records::{put_record, remove_record, replace_front};
-pub use resident::{peek, peek_depth, peek_entry, peek_value};
+pub use resident::{peek_depth, peek_entry, peek_range, peek_value};
 pub use sight::{BucketSight, Sight};

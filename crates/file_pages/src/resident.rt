@@ -1,15 +1,16 @@
 //! Reads of pages that are in frames. Nothing is pinned, and nothing can fail: what is not there, or
 //! is not what it should be, is none.
 
-ghost use Rattle.std.specs.Prelude.{◌≡◌, ◌<◌, ◌≤◌, ◌^◌, IfSome, Some};
+ghost use Rattle.std.specs.Prelude.{◌≡◌, ◌<◌, ◌≤◌, ◌^◌, IfSome, true};
+ghost use Rattle.std.specs.Option.{option_map};
 ghost use Rattle.bucket_page.specs.Records.{lookup};
 ghost use Rattle.directory.specs.declared.layout.TheConstants.{GREATEST_DEPTH};
 ghost use Rattle.hash_file.specs.Store.{entry_at, page_at, records_at};
 ghost use Rattle.file_pages.specs.Files.{store_of};
-ghost use Rattle.file_pages.specs.Reads.{IsSight};
+ghost use Rattle.file_pages.specs.Reads.{CoversIn};
 
 use crate::read::{depth_of, entry_of};
-use crate::sight::{Sight, see};
+use crate::sight::covers;
 use bucket_page::RecordKey;
 use buffer_pool::Pool;
 use directory::{ROOT_PAGE, page_of, slot_of};
@@ -36,35 +37,33 @@ pub fn peek_entry<D: PageDevice>(pool: &mut Pool<D>, index: u32) -> Option<u32>
     entry_of(pool.resident(page)?, slot_of(index)).ok()
 }
 
-/// What `look` sees of a page, where it is in a frame.
-pub fn peek<D: PageDevice>(
-    pool: &mut Pool<D>,
-    page: u32,
-    pseudokey: u32,
-    key: &RecordKey,
-) -> Option<Sight>
+/// Whether a page is in a frame, and is a bucket whose range has the pseudokey.
+pub fn peek_range<D: PageDevice>(pool: &mut Pool<D>, page: u32, pseudokey: u32) -> bool
     ensures same { pool.new ≡ pool.old }
-    ensures ok { IfSome result (λ sight.
-        IsSight sight (page_at (store_of pool.old.images) page) pseudokey key.now) }
+    ensures covers { result ≡ true →
+        CoversIn (page_at (store_of pool.old.images) page) pseudokey }
 {
     if page < ROOT_PAGE {
-        return None;
+        return false;
     }
     pool.touch(page);
-    see(pool.resident(page)?, pseudokey, key).ok()
+    let Some(image) = pool.resident(page) else {
+        return false;
+    };
+    covers(image, pseudokey)
 }
 
-/// The value of a key in the bucket on a page, where that is in a frame.
+/// What the bucket on a page has of a key, where that page is in a frame: the value, or none.
 pub fn peek_value<'a, D: PageDevice>(
     pool: &'a Pool<D>,
     page: u32,
     key: &RecordKey,
-) -> Option<&'a [u8]>
-    ensures ok { IfSome result (λ value.
-        lookup key.now (records_at (store_of pool.now.images) page) ≡ Some value.now) }
+) -> Option<Option<&'a [u8]>>
+    ensures ok { IfSome result (λ found. lookup key.now
+        (records_at (store_of pool.now.images) page) ≡ option_map (λ value. value.now) found) }
 {
     if page < ROOT_PAGE {
         return None;
     }
-    pool.resident(page)?.bucket()?.find(key)
+    Some(pool.resident(page)?.bucket()?.find(key))
 }

@@ -1,10 +1,10 @@
 //! What is seen of a page.
 
-ghost use Rattle.std.specs.Prelude.{◌≡◌, IsErr, IfErr, IfOk};
+ghost use Rattle.std.specs.Prelude.{◌≡◌, IsErr, IfErr, IfOk, true};
 ghost use Rattle.bucket_page.specs.Changes.{IsBucketPage};
 ghost use Rattle.bucket_page.specs.Reading.{bucket_in, page_in};
 ghost use Rattle.bucket_page.specs.Spelling.{Spells};
-ghost use Rattle.file_pages.specs.Reads.{IsOnWay, IsSight, sight_of};
+ghost use Rattle.file_pages.specs.Reads.{CoversIn, IsOnWay, IsSight, sight_of};
 
 use crate::fault::FileFault;
 use bucket_page::RecordKey;
@@ -55,6 +55,20 @@ pub fn see(page: &FilePage, pseudokey: u32, key: &RecordKey) -> Result<Sight, Fi
         Some(link) => Ok(Sight::Naming(link)),
         None => Err(FileFault::Failed),
     }
+}
+
+/// Whether a page is a bucket whose range has the pseudokey.
+pub fn covers(page: &FilePage, pseudokey: u32) -> bool
+    ensures { result ≡ true → CoversIn (page_in page.now) pseudokey }
+{
+    let Some(bucket) = page.bucket() else {
+        return false;
+    };
+    let range = Range {
+        depth: bucket.depth(),
+        pattern: bucket.pattern(),
+    };
+    range.covers(pseudokey)
 }
 
 /// What is seen of a bucket.

@@ -1,5 +1,5 @@
 -- What seats hold once they have begun, stepped or given the lock of their record back.
-use Rattle.std.proofs.Common.{arith, ◌≡◌, ◌∙◌, refl, sym, ap, subst, ℕ, suc, ◌<◌, List, [], ◌∷◌, Option, Some, None, length, replicate, slice_get, slice_index_or, slice_set, ◌≤◌, Bool, true, false, inl, inr, get_or-set_other}
+use Rattle.std.proofs.Common.{arith, ◌≡◌, ◌∙◌, refl, sym, ap, subst, ℕ, suc, ◌<◌, List, [], Option, Some, None, length, replicate, slice_get, slice_index_or, slice_set, ◌≤◌, Bool, true, false, inl, inr, get_or-set_other}
 use Rattle.std.specs.Option.{is_some}
 use Rattle.std.proofs.lemmas.Bool.{cases_eq, true≢false}
 use Rattle.std.proofs.lemmas.Grind.{get_or-set_at}
@@ -14,7 +14,7 @@ use Rattle.page_locks.specs.Locks.{without}
 use Rattle.page_locks.specs.Table.{Table, row_of, with_row, with_lock, without_lock}
 use Rattle.page_locks.proofs.ChangeLemmas.{length-with_row, with_row-own, with_row-twice}
 use Rattle.page_locks.proofs.TableLemmas.{row_of-empty, row_of-other, row_of-same}
-use Rattle.record_file.specs.AccessRuns.{FindsAtOnce, ReachesAtOnce}
+use Rattle.record_file.specs.AccessRuns.{ReachesAtOnce}
 use Rattle.record_file.specs.Accesses.{AccessView, access_locks}
 use Rattle.machine_trials.specs.declared.task.Task.{Task}
 use Rattle.machine_trials.specs.declared.task.Value.{Value}
@@ -67,16 +67,6 @@ Follows-released t stepped new seat row w v name made given = record {
   holds = tt;
 }
 
--- a find that has made all its steps in one go has no lock, as before; one that has made none is what it was
-pub row_skipped : (made : Bool) (seat : ℕ) (old new : AccessView) (pool : PoolState) (t : Table) →
-    (made ≡ true → FindsAtOnce seat old new pool t) → (made ≡ false → new ≡ old) →
-    (before : List Lock) → access_locks new before ≡ access_locks old before
-row_skipped true seat old new pool t finds spares before =
-    let did = finds refl in
-    did.given before ∙ sym (did.bare before)
-row_skipped false seat old new pool t finds spares before =
-    ap (λ (a : AccessView). access_locks a before) (spares refl)
-
 -- a write that has gone to its page in one go has the lock of that page; one that has made no step is what it was
 pub row_reached : (made : Bool) (seat : ℕ) (old new : AccessView) (pool : PoolState) (t t' : Table) →
     (made ≡ true → ReachesAtOnce seat old new pool t t') → (made ≡ false → (new ≡ old) × (t' ≡ t)) →
@@ -88,20 +78,6 @@ row_reached false seat old new pool t t' reaches spares before row =
     let same = spares refl in
     same.1 ∙ sym (with_row-own t seat)
     ∙ ap (with_row t seat) (row ∙ ap (λ (a : AccessView). access_locks a before) (sym same.0))
-
--- a seat holds what its work says also where that makes its steps in one go
-pub holds_skipped : (w w' : Work) (v : Value) (guard : Option LockName) (row : List Lock) →
-    ((before : List Lock) → work_locks w' before ≡ work_locks w before) →
-    ((bytes : ℕ) → MayLend bytes w → MayLend bytes w') →
-    Holds (Some (record { work = w; value = v; guard = guard })) row →
-    Holds (Some (record { work = w'; value = v; guard = guard })) row
-holds_skipped w w' v None row same may holds = tt
-holds_skipped w w' v (Some name) row same may holds = record {
-  guard = holds.guard;
-  locks = holds.locks ∙ sym (same (guarded name));
-  few = holds.few;
-  lent = may v.bytes holds.lent;
-}
 
 -- a table in which nothing changed
 pub Follows-same : (t : Table) (seat : ℕ) (s : Option Task) → Holds s (row_of t seat) → Follows seat t s t
@@ -133,7 +109,8 @@ IsTrial-idle pool t seats many ready free idle = record {
   ready = ready;
   as_many = ap length idle ∙ length-replicate many None ∙ sym (length-replicate many []) ∙ sym (ap length free);
   holds = λ place s is.
-      let here : s ≡ None = idle_at many place s (ap (λ (xs : List (Option Task)). slice_get xs place) (sym idle) ∙ is) in
+      let here : s ≡ None =
+      idle_at many place s (ap (λ (xs : List (Option Task)). slice_get xs place) (sym idle) ∙ is) in
       subst (λ (x : Option Task). Holds x (row_of t (suc place))) (sym here)
       (ap (λ (u : Table). row_of u (suc place)) free ∙ row_of-empty many (suc place));
 }

@@ -1,4 +1,5 @@
-//! Finds that make all their steps in one go, and writes that go to their page so, or make no step.
+//! Finds that go straight to a page, and what is read ahead there; writes that go to their page in one
+//! go, or make no step.
 
 use crate::files::{COUNTER, LONG, MOST_STEPS, count, key, new_file};
 use crate::merges::two_halves;
@@ -36,29 +37,36 @@ const QUEUE: RecordKey = RecordKey {
     number: 0,
 };
 
-/// Whether a find makes its steps in one go exactly where that is wanted, else one by one, and then
-/// tells this Counter, or that there is none.
+/// Whether a find goes straight to a page exactly where that is wanted, and tells there, and by its
+/// steps, this Counter, or that there is none.
 fn finds(
     trial: &mut Trial<MemDevice, NumberKey>,
     key: RecordKey,
     at_once: bool,
     counter: Option<Counter>,
 ) -> bool {
+    let page = trial.heads_for(key);
+    if page.is_some() != at_once {
+        return false;
+    }
+    if let Some(page) = page {
+        if !is_told(trial.ahead(page, &key), counter) {
+            return false;
+        }
+    }
     let Some(seat) = trial.ask(key) else {
         return false;
     };
-    if trial.skip(seat) != Some(at_once) || trial.told(seat).is_some() != at_once {
-        return false;
-    }
-    if !at_once && !makes(trial, seat, &STEPS) {
-        return false;
-    }
-    if trial.step(seat) != Some(Progress::Ended) {
-        return false;
-    }
+    makes(trial, seat, &STEPS)
+        && trial.step(seat) == Some(Progress::Ended)
+        && is_told(trial.told(seat), counter)
+}
+
+/// Whether this Counter is told, or that there is none.
+fn is_told(told: Option<Option<Record<'_>>>, counter: Option<Counter>) -> bool {
     match counter {
-        Some(counter) => trial.told(seat) == Some(Some(Record::Counter(counter))),
-        None => trial.told(seat) == Some(None),
+        Some(counter) => told == Some(Some(Record::Counter(counter))),
+        None => told == Some(None),
     }
 }
 
@@ -80,16 +88,15 @@ fn a_find_tells_in_one_go_what_it_tells_by_steps(rt: HostRuntime) -> Result<(), 
 #[test]
 fn a_find_waits_for_each_of_its_pages_to_be_in_a_frame(rt: HostRuntime) -> Result<(), Fail> {
     let mut trial = new_file(rt.alloc(), NumberKey)?;
-    let Some(seat) = trial.ask(COUNTER) else {
-        panic!(rt; "no seat");
-    };
-    assert_eq!(rt; trial.skip(seat), Some(false));
+    assert_eq!(rt; trial.heads_for(COUNTER), None);
     for (page, at_once) in [(0, false), (1, false), (257, true)] {
         trial.payload(page)?;
-        assert!(rt; trial.skip(seat) == Some(at_once), "page {page}");
-        assert!(rt; trial.told(seat).is_some() == at_once, "page {page}");
+        assert!(rt;
+            trial.heads_for(COUNTER) == at_once.then_some(257),
+            "page {page}"
+        );
     }
-    assert_eq!(rt; trial.step(seat), Some(Progress::Ended));
+    assert!(rt; trial.ahead(257, &COUNTER) == Some(Some(Record::Counter(NEW))));
     Ok(())
 }
 
@@ -108,10 +115,14 @@ fn a_find_goes_step_by_step_where_a_lock_opposes(rt: HostRuntime) -> Result<(), 
     let Some(seat) = trial.ask(key(9)) else {
         panic!(rt; "no seat");
     };
-    assert_eq!(rt; trial.skip(seat), Some(false));
+    assert_eq!(rt; trial.heads_for(key(9)), None);
     assert_eq!(rt; trial.step(seat), Some(Progress::Blocked(merging)));
     assert_eq!(rt; count(&mut trial, merging, Kind::LinkFree), Some(1));
-    assert_eq!(rt; trial.skip(seat), Some(true));
+    let Some(page) = trial.heads_for(key(9)) else {
+        panic!(rt; "no page");
+    };
+    assert!(rt; trial.ahead(page, &key(9)) == Some(None));
+    assert!(rt; makes(&mut trial, seat, &STEPS));
     assert!(rt; trial.told(seat) == Some(None));
     Ok(())
 }
@@ -124,10 +135,13 @@ fn a_value_that_is_no_record_is_left_to_steps(rt: HostRuntime) -> Result<(), Fai
         panic!(rt; "no seat");
     };
     assert_eq!(rt; count(&mut trial, writing, Kind::WriteRecord), Some(1));
+    let Some(page) = trial.heads_for(QUEUE) else {
+        panic!(rt; "no page");
+    };
+    assert!(rt; trial.ahead(page, &QUEUE).is_none());
     let Some(seat) = trial.ask(QUEUE) else {
         panic!(rt; "no seat");
     };
-    assert_eq!(rt; trial.skip(seat), Some(false));
     assert!(rt;
         makes(
             &mut trial,

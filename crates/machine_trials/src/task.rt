@@ -98,20 +98,6 @@ impl Task {
         did
     }
 
-    /// All steps of its work in one go, where that can make them so.
-    pub fn skip<D: PageDevice>(&mut self, pool: &mut Pool<D>, locks: &LockTable, seat: u8) -> bool
-        requires seat { IsSeat locks.now seat }
-        requires ready { IsReady pool.old }
-        requires holds { Holds (Some self.old) (row_of locks.now seat) }
-        ensures pool { pool.new ≡ pool.old }
-        ensures holds { Holds (Some self.new) (row_of locks.now seat) }
-    {
-        let Some(_) = self.guard else {
-            return false;
-        };
-        self.work.skip(pool, locks, seat)
-    }
-
     /// All steps of its work up to where it writes, in one go, where that can make them so.
     pub fn reach<D: PageDevice>(
         &mut self,

@@ -14,7 +14,7 @@ use file_pages::FileFault;
 use page_device::{PageDevice, Payload};
 use page_locks::{LockTable, MAX_SEATS};
 use queue_records::Record;
-use record_file::{RecordOperation, Tried};
+use record_file::{BucketAccess, Deed, RecordOperation, Tried, record_ahead};
 use std::alloc::Global;
 use std::marker::Model;
 use step_rules::Progress;
@@ -176,13 +176,20 @@ impl<D: PageDevice + Drop, K: PseudoKey + Drop> Trial<D, K> {
         Some(task.step(&mut self.pool, &mut self.locks, &self.keys, seat))
     }
 
-    /// Whether the access of a seat has made all its steps in one go; else it has made none.
-    pub fn skip(&mut self, seat: u8) -> Option<bool> {
-        if seat == 0 || seat > self.locks.seats() {
+    /// The page to which a find of a record by the next idle seat goes straight; none where it does
+    /// not, or no seat is idle. Nothing is done.
+    pub fn heads_for(&mut self, key: RecordKey) -> Option<u32> {
+        let place = self.begun;
+        if place >= self.locks.seats() || self.seats[place as usize].is_some() {
             return None;
         }
-        let task = self.seats[seat as usize - 1].as_mut()?;
-        Some(task.skip(&mut self.pool, &self.locks, seat))
+        let find = BucketAccess::new(Deed::Find, key, self.keys.of(&key));
+        find.heads_for(&mut self.pool, &self.locks, place + 1)
+    }
+
+    /// The record that a page which is in a frame has at a key, or that it has none.
+    pub fn ahead(&self, page: u32, key: &RecordKey) -> Option<Option<Record<'_>>> {
+        record_ahead(&self.pool, page, key)
     }
 
     /// Whether the access of a seat has made all its steps up to where it writes in one go; else it

@@ -87,22 +87,6 @@ impl Work {
         }
     }
 
-    /// All steps of an access, in one go, where it can make them so. Others make none so.
-    pub fn skip<D: PageDevice>(&mut self, pool: &mut Pool<D>, locks: &LockTable, seat: u8) -> bool
-        requires seat { IsSeat locks.now seat }
-        requires ready { IsReady pool.old }
-        requires row { EndsRow (work_locks self.old) MOST_LOCKS (row_of locks.now seat) }
-        ensures pool { pool.new ≡ pool.old }
-        ensures lent { (bytes : ℕ) → MayLend bytes self.old → MayLend bytes self.new }
-        ensures row { (before : List Lock) →
-            work_locks self.new before ≡ work_locks self.old before }
-    {
-        match self {
-            Work::Access(access) => access.skip(pool, locks, seat),
-            _ => false,
-        }
-    }
-
     /// All steps of an access that writes, up to the Look of its page, in one go, where it can make
     /// them so. Others make none so.
     pub fn reach<D: PageDevice>(

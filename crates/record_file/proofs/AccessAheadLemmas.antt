@@ -26,7 +26,7 @@ use Rattle.record_file.specs.AccessRuns.{AccessStep, AreRead, FindsAtOnce, MayAc
 use Rattle.record_file.specs.AccessSteps.{MakesAccess, SuitsFound}
 use Rattle.record_file.specs.Accesses.{AccessView, IsOfKind, IsRecordOf, IsToldIn, access_key, access_locks}
 use Rattle.record_file.specs.Purposes.{Purpose, ToFind, ToInsert, ToWrite, is_write}
-use Rattle.record_file.specs.Readings.{IsTold, SuitsRecord, Takes}
+use Rattle.record_file.specs.Readings.{IsTold, SuitsRecord, Takes, value_on}
 use Rattle.record_file.specs.AccessWords.{Delete, EndsRow, HasNoFileLock, IsReady, IsSeat, Links, Lock, Look, Moved, PoolState, Progress, Record, RecordKey, RecordOperation, Relink, Replace, Table, found_of, operation_found, operation_key, operation_locks, row_of, store_of, value_of}
 
 -- who only looks at pages in frames leaves the pool
@@ -82,10 +82,11 @@ module _ (f : BucketView) (links : Option Links) (bytes : List ℕ) (written : B
 
 -- what is read ahead is taken
 read_takes : (f : BucketView) (links : Option Links) (bytes bytes' : List ℕ) (written : Bool) (page : ℕ)
-    (pool : PoolState) → IsReady pool → (found : Option ℕ) → AreRead found page f.search.key pool bytes bytes' →
+    (pool : PoolState) → IsReady pool → (found : Option ℕ) →
+    AreRead found (value_on pool page f.search.key) bytes bytes' →
     Takes {X = ℕ} (Ok 0) pool pool (a (bucket_at (places.Found page found) f) links bytes written)
     (a (bucket_at (places.Found page found) f) links bytes' written)
-read_takes f links bytes bytes' written page pool ready None is =
+read_takes f links bytes bytes' written page pool ready None (absent, is) =
     subst (λ (read : List ℕ). Takes {X = ℕ} (Ok 0) pool pool
     (a (bucket_at (places.Found page None) f) links bytes written)
     (a (bucket_at (places.Found page None) f) links read written)) (sym is)
@@ -230,7 +231,7 @@ module _ (seat : ℕ) (pool : PoolState) (ready : IsReady pool) (locks : Table) 
   of o = record { operation = o; links = old.links; bytes = old.bytes; written = old.written }
 
   pub finds_at_once : (page : ℕ) (found : Option ℕ) → new ≡ access_done page found new.bytes old →
-      AreRead found page (access_key old) pool old.bytes new.bytes →
+      AreRead found (value_on pool page (access_key old)) old.bytes new.bytes →
       MovesAlong (OperationStep seat) (at old.operation pool locks)
       (operation_stops seat page found (at old.operation pool locks)) → FindsAtOnce seat old new pool locks
   finds_at_once page found is ahead moves = record {
@@ -249,7 +250,7 @@ module _ (seat : ℕ) (pool : PoolState) (ready : IsReady pool) (locks : Table) 
       free (operations.Delete d) find = absurd find
 
       by : (hash : RecordKey → ℕ) (o : RecordOperation) → IsFind o → HasNoLock (operation_locks o) →
-          AreRead found page (operation_key o) pool old.bytes new.bytes →
+          AreRead found (value_on pool page (operation_key o)) old.bytes new.bytes →
           MovesAlong (OperationStep seat) (at o pool locks) (operation_stops seat page found (at o pool locks)) →
           MovesAlong (AccessStep hash seat) (at (of o) pool locks)
           (find_stops seat page found new.bytes (at (of o) pool locks))

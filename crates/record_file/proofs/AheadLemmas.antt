@@ -3,7 +3,7 @@
 use Rattle.std.proofs.Common.{◌≡◌, refl, sym, ap, ◌∙◌, subst, ℕ, false, List, [], ◌∷◌, Option, Some, None, IfSome, IsSome}
 use Rattle.split_merge.proofs.MoveLemmas.{nothing_read}
 use Rattle.split_merge.specs.buffer_pool.Pool.{PoolState}
-use Rattle.split_merge.specs.stale_search.SearchRuns.{At, HasNoLock, SearchStep, at, search_at, search_stops, way_to}
+use Rattle.split_merge.specs.stale_search.SearchRuns.{At, GoesStraight, HasNoLock, SearchStep, at, search_at, search_stops, way_to}
 use Rattle.split_merge.specs.stale_search.declared.place.SearchPlace.{SearchPlace}
 use Rattle.split_merge.specs.stale_search.declared.place.SearchPlace.TheVariants.{Found, GrantPage, Look, ReadDepth, ReadEntry, ReleaseDirectory}
 use Rattle.page_locks.proofs.ChangeLemmas.{IsSeat-with_row, with_row-own, with_row-twice}
@@ -14,7 +14,7 @@ use Rattle.step_rules.specs.declared.kind.Kind.{Kind}
 use Rattle.step_rules.specs.declared.kind.Kind.TheVariants as kinds
 use Rattle.record_file.specs.Words.{Table, IsSeat, Lock, LockKind, Page, Selective, IsReady, Moved, Progress, Release, SearchView, EndsRow, HasNoFileLock, found_at, on_page, row_of, search_locks, with_row, without_lock}
 use Rattle.record_file.specs.BucketAccesses.{BucketView, SuitsKind, bucket_locks, locks_in}
-use Rattle.record_file.specs.BucketRuns.{BucketStep, bucket_at, bucket_found, bucket_stops, bucket_way}
+use Rattle.record_file.specs.BucketRuns.{BucketStep, FindsStraight, bucket_at, bucket_found, bucket_stops, bucket_way}
 use Rattle.record_file.specs.declared.bucket_access.BucketStage.{BucketStage}
 use Rattle.record_file.specs.declared.bucket_access.BucketStage.TheVariants.{Searching}
 use Rattle.record_file.specs.declared.bucket_access.Deed.{Deed}
@@ -146,12 +146,10 @@ module _ (seat : ℕ) where
   row_bare v locks none row = subst HasNoFileLock (sym (row.is ∙ none row.before)) row.bare
 
   pub finds_if : (pool : PoolState) → IsReady pool → (locks : Table) → IsSeat locks seat → (v : SearchView) →
-      EndsRow (bucket_locks (searching v)) 2 (row_of locks seat) → (there : Option (ℕ × Option ℕ)) →
+      EndsRow (bucket_locks (searching v)) 2 (row_of locks seat) → (there : Option ℕ) →
       (IsSome there → HasNoLock (search_locks v)) →
-      IfSome there (λ (t : ℕ × Option ℕ). MovesAlong (SearchStep seat) (at v pool locks)
-      (search_stops seat t.0 t.1 (at v pool locks))) →
-      IfSome there (λ (t : ℕ × Option ℕ). MovesAlong (BucketStep deeds.Find seat) (at (searching v) pool locks)
-      (bucket_stops seat t.0 t.1 (at (searching v) pool locks)))
+      IfSome there (λ (page : ℕ). GoesStraight seat page v pool locks) →
+      IfSome there (λ (page : ℕ). FindsStraight seat page (searching v) pool locks)
   finds_if pool ready locks seated v row None none moves = tt
-  finds_if pool ready locks seated v row (Some t) none moves =
-      finds_straight pool ready locks seated (row_bare v locks (none refl) row) v t.0 t.1 moves
+  finds_if pool ready locks seated v row (Some page) none moves = λ found has.
+      finds_straight pool ready locks seated (row_bare v locks (none refl) row) v page found (moves found has)

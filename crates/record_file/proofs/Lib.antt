@@ -50,6 +50,7 @@ pub mod TakeLemmas
 pub mod TakingLemmas
 pub mod OperationLemmas
 pub mod AccessAheadLemmas
+pub mod FindAheadLemmas
 pub mod ReachLemmas
 pub use Rattle.step_rules.proofs as of_step_rules
 pub use Rattle.split_merge.proofs as of_split_merge

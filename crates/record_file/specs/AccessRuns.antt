@@ -9,9 +9,9 @@ use Rattle.record_file.specs.step_rules.Runs.{MovesAlong, Stop, stop, stops_in}
 use Rattle.record_file.specs.step_rules.declared.kind.Kind.TheVariants as kinds
 use Rattle.record_file.specs.AccessWords.{RecordKey, PoolState, Table, HasEnded, IsSeat, IsReady, EndsRow, Progress, row_of, store_of}
 use Rattle.record_file.specs.OperationWords.{with_row}
-use Rattle.record_file.specs.Accesses.{AccessView, access_key, access_locks}
+use Rattle.record_file.specs.Accesses.{AccessView, access_locks}
 use Rattle.record_file.specs.AccessSteps.{MakesAccess}
-use Rattle.record_file.specs.Readings.{Takes, value_on}
+use Rattle.record_file.specs.Readings.{Takes}
 
 -- where an access may be stepped
 pub record MayAccess (seat : ℕ) (s : At AccessView) : Type 0 where
@@ -58,15 +58,10 @@ pub record FindsAtOnce (seat : ℕ) (old new : AccessView) (pool : PoolState) (l
   pub moves : (hash : RecordKey → ℕ) →
       MovesAlong (AccessStep hash seat) (at old pool locks) (find_stops seat page found new.bytes (at old pool locks))
 
--- the bytes are the value of this length that a page has of a key, or what they were where it has none
-abbrev pub AreRead : Option ℕ → ℕ → RecordKey → PoolState → (old new : List ℕ) → Type 0
-AreRead None page key pool old new = new ≡ old
-AreRead (Some len) page key pool old new = (length new ≡ len) × (value_on pool page key ≡ Some new)
-
--- a find has read them, and is else what it was
-pub record ReadsAhead (page : ℕ) (found : Option ℕ) (pool : PoolState) (old new : AccessView) : Type 0 where
-  pub is : new ≡ record old { bytes = new.bytes }
-  pub read : AreRead found page (access_key old) pool old.bytes new.bytes
+-- the bytes are the value, of this length, or what they were where there is none
+abbrev pub AreRead : Option ℕ → (value : Option (List ℕ)) → (old new : List ℕ) → Type 0
+AreRead None value old new = (value ≡ None) × (new ≡ old)
+AreRead (Some len) value old new = (length new ≡ len) × (value ≡ Some new)
 
 -- ---- a write
 

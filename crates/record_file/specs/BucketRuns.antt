@@ -2,15 +2,16 @@
 -- docs/STEPS.md, "Search".
 use Rattle.std.specs.Prelude.{ℕ, false, List, [], ◌∷◌, ◌++◌, Option}
 use Rattle.split_merge.specs.file_pages.declared.fault.FileFault.{FileFault}
-use Rattle.split_merge.specs.stale_search.SearchRuns.{At, at, standing, search_at, way_to}
+use Rattle.split_merge.specs.stale_search.SearchRuns.{At, HasAt, at, standing, search_at, way_to}
 use Rattle.split_merge.specs.stale_search.declared.place.SearchPlace.{SearchPlace}
 use Rattle.split_merge.specs.stale_search.declared.place.SearchPlace.TheVariants.{Found}
-use Rattle.step_rules.specs.Runs.{Stop, stop, stops_in}
-use Rattle.record_file.specs.Words.{Progress, Release, store_of}
+use Rattle.step_rules.specs.Runs.{MovesAlong, Stop, stop, stops_in}
+use Rattle.record_file.specs.Words.{PoolState, Progress, Release, Table, store_of}
 use Rattle.record_file.specs.BucketAccesses.{BucketView, bucket_locks}
 use Rattle.record_file.specs.BucketSteps.{MakesBucket}
 use Rattle.record_file.specs.declared.bucket_access.BucketStage.TheVariants.{Ended as HasEnded}
 use Rattle.record_file.specs.declared.bucket_access.Deed.{Deed}
+use Rattle.record_file.specs.declared.bucket_access.Deed.TheVariants as deeds
 
 -- a step of a deed, whatever bytes are lent to it
 abbrev pub BucketStep : Deed → ℕ → Progress FileFault → (old new : At BucketView) → Type 0
@@ -34,3 +35,8 @@ bucket_way seat page found old =
 abbrev pub bucket_stops : ℕ → (page : ℕ) → Option ℕ → At BucketView → List (Stop (At BucketView))
 bucket_stops seat page found old = bucket_way seat page found old
     ++ stop Release (at (bucket_found page found old.machine) old.pool old.locks) ∷ []
+
+-- a find moves to where the page answers what it has, and gives it back
+abbrev pub FindsStraight : ℕ → (page : ℕ) → BucketView → PoolState → Table → Type 0
+FindsStraight seat page b pool locks = (found : Option ℕ) → HasAt page found b.search pool →
+    MovesAlong (BucketStep deeds.Find seat) (at b pool locks) (bucket_stops seat page found (at b pool locks))

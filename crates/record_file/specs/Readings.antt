@@ -18,6 +18,17 @@ use Rattle.record_file.specs.AccessSteps.{SuitsFound}
 abbrev pub value_on : PoolState → ℕ → RecordKey → Option (List ℕ)
 value_on pool page key = lookup key (records_at (store_of pool.images) page)
 
+-- the value spells this record of the key; or there is neither
+abbrev pub IsSpelledBy : Option Record → RecordKey → (value : Option (List ℕ)) → Type 0
+IsSpelledBy None key None = ⊤
+IsSpelledBy (Some r) key (Some bytes) = SpellsRecord r key bytes
+IsSpelledBy found key value = ⊥
+
+-- a record that a value spells, and the only one; or there is neither
+pub record IsReadAhead (found : Option Record) (key : RecordKey) (value : Option (List ℕ)) : Type 0 where
+  pub spelled : IsSpelledBy found key value
+  pub only : (other : Option Record) → IsSpelledBy other key value → found ≡ other
+
 -- the device is honest and has a file, of which the page is a bucket
 pub record SeesBucket (page : ℕ) (pool : PoolState) : Type 0 where
   pub honest : IsTrue pool.honest

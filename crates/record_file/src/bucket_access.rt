@@ -11,7 +11,7 @@ ghost use Rattle.split_merge.specs.stale_search.declared.place.SearchPlace.{Sear
 ghost use Rattle.step_rules.specs.Runs.{MovesAlong};
 ghost use Rattle.record_file.specs.Words.{IsSeat, row_of, IsReady, EndsRow, Moved, Release, Selective, without_lock};
 ghost use Rattle.record_file.specs.BucketAccesses.{SuitsKind, begun_access, bucket_locks, ended_in, found_of, has_ended, has_room, is_due, kind_for};
-ghost use Rattle.record_file.specs.BucketRuns.{BucketStep, bucket_at, bucket_found, bucket_stops, bucket_way};
+ghost use Rattle.record_file.specs.BucketRuns.{BucketStep, FindsStraight, bucket_at, bucket_way};
 ghost use Rattle.record_file.specs.BucketSteps.{MakesBucket};
 
 use bucket_page::{RECORD_HEAD_BYTES, ROOM_BYTES, RecordKey};
@@ -139,25 +139,24 @@ impl BucketAccess {
         }
     }
 
-    /// Where a find arrives that has not begun and goes straight to the page that the directory
-    /// names, to give it back at once. Nothing is done.
-    pub fn ahead<D: PageDevice>(
+    /// The page to which a find goes straight that has not begun, to give it back at once. Nothing is
+    /// done.
+    pub fn heads_for<D: PageDevice>(
         &self,
         pool: &mut Pool<D>,
         locks: &LockTable,
         seat: u8,
-    ) -> Option<(u32, Option<usize>)>
+    ) -> Option<u32>
         requires seat { IsSeat locks.now seat }
         requires ready { IsReady pool.old }
         requires row { EndsRow (bucket_locks self.now) 2 (row_of locks.now seat) }
         ensures pool { pool.new ≡ pool.old }
         ensures bare { IsSome result → HasNoLock (bucket_locks self.now) }
-        ensures moves { IfSome result (λ there. MovesAlong (BucketStep Deed.Find seat)
-            (at self.now pool.old locks.now)
-            (bucket_stops seat there.0 there.1 (at self.now pool.old locks.now))) }
+        ensures moves { IfSome result (λ page.
+            FindsStraight seat page self.now pool.old locks.now) }
     {
         match self.stage {
-            BucketStage::Searching => self.search.ahead(pool, locks, seat),
+            BucketStage::Searching => self.search.heads_for(pool, locks, seat),
             _ => None,
         }
     }
@@ -193,14 +192,6 @@ impl BucketAccess {
         ensures { self.new ≡ bucket_at (SearchPlace.Found page found) self.old }
     {
         self.search.arrive(page, found);
-    }
-
-    /// A page has answered a find, and was given back.
-    pub fn arrive(&mut self, page: u32, found: Option<usize>)
-        ensures { self.new ≡ bucket_found page found self.old }
-    {
-        self.search.arrive(page, found);
-        self.stage = BucketStage::Ended(false);
     }
 
     /// The record is written on the page that answered, or that page is given back.

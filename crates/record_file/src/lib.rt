@@ -28,6 +28,7 @@ pub use laws::an_operation_keeps_what_its_caller_knows;
 pub use new_file::format;
 pub use operation::RecordOperation;
 pub use place::AccessPlace;
+pub use reading::record_ahead;
 pub use second_place::SecondPlace;
 pub use second_try::SecondTry;
 pub use split_merge::buffer_pool;

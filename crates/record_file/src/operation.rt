@@ -4,7 +4,7 @@ ghost use Rattle.std.specs.Prelude.{◌≡◌, ◌↔◌, ℕ, true, IfSome};
 ghost use Rattle.record_file.specs.stale_search.declared.place.SearchPlace.{SearchPlace};
 ghost use Rattle.record_file.specs.OperationWords.{IsReady, IsSeat, row_of, EndsRow};
 ghost use Rattle.record_file.specs.Operations.{FoundAtEnd, HasEnded, MayBeLent, TriedAtEnd, begun_delete, begun_find, begun_insert, begun_replace, operation_found, operation_locks, operation_tried};
-ghost use Rattle.record_file.specs.OperationRuns.{GoesToPage, LacksKey, operation_at, operation_done};
+ghost use Rattle.record_file.specs.OperationRuns.{GoesToPage, LacksKey, operation_at};
 
 use crate::bucket_access::{BucketAccess, Deed};
 use crate::buffer_pool::Pool;
@@ -134,15 +134,6 @@ impl RecordOperation {
             RecordOperation::Insert(insert) => insert.stand_at(page),
             RecordOperation::Replace(replace) => replace.stand_at(page, found),
             RecordOperation::Delete(delete) => delete.stand_at(page, found),
-        }
-    }
-
-    /// A page has answered a find, and was given back.
-    pub fn arrive(&mut self, page: u32, found: Option<usize>)
-        ensures { self.new ≡ operation_done page found self.old }
-    {
-        if let RecordOperation::Find(find) = self {
-            find.arrive(page, found);
         }
     }
 }

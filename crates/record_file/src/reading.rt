@@ -1,16 +1,16 @@
 //! What is read of the page that answered.
 
-ghost use Rattle.std.specs.Prelude.{◌≡◌, ◌≤◌, Some, IsTrue, IfErr, IfOk, OnOk, is_ok, length, take};
+ghost use Rattle.std.specs.Prelude.{◌≡◌, ◌≤◌, Some, IsTrue, IfErr, IfOk, IfSome, OnOk, is_ok, length, take};
 ghost use Rattle.file_pages.specs.Fault.{FileHasCause, IsDevicesFault};
 ghost use Rattle.file_pages.specs.Reads.{OnlyReads};
 ghost use Rattle.queue_records.specs.declared.layout.TheConstants.{MAX_VALUE_BYTES};
 ghost use Rattle.record_file.specs.AccessWords.{IsReady, Record, SpellsRecord, HasSuch, linked_bytes, value_of};
 ghost use Rattle.record_file.specs.Accesses.{IsFrontOf};
-ghost use Rattle.record_file.specs.Readings.{SeesBucket, value_on};
+ghost use Rattle.record_file.specs.Readings.{IsReadAhead, SeesBucket, value_on};
 
 use bucket_page::RecordKey;
 use file_pages::buffer_pool::Pool;
-use file_pages::{FileFault, copy_value};
+use file_pages::{FileFault, copy_value, peek_value};
 use page_device::PageDevice;
 use queue_records::{Links, MAX_VALUE_BYTES, MESSAGE_BYTES, Record, relink};
 
@@ -74,4 +74,30 @@ pub(crate) fn read_front<D: PageDevice>(
     let len = links.front_bytes();
     relink(&mut front[..len], links);
     Ok(len)
+}
+
+/// The record that the bucket on a page has at a key, or that it has none, lent from the frame of
+/// that page. Nothing is told where the page is in no frame, or the value there spells no record of
+/// that key.
+pub fn record_ahead<'a, D: PageDevice>(
+    pool: &'a Pool<D>,
+    page: u32,
+    key: &RecordKey,
+) -> Option<Option<Record<'a>>>
+    ensures { IfSome result (λ found.
+        IsReadAhead found key.now (value_on pool.now page key.now)) }
+{
+    let Some(found) = peek_value(pool, page, key) else {
+        return None;
+    };
+    let Some(value) = found else {
+        return Some(None);
+    };
+    if value.len() > MAX_VALUE_BYTES {
+        return None;
+    }
+    match Record::decode(key, value) {
+        Ok(entry) => Some(Some(entry)),
+        Err(_) => None,
+    }
 }

@@ -1,7 +1,10 @@
 -- A search that goes straight to the page that answers: its states on the way. docs/STEPS.md, "Search".
-use Rattle.std.specs.Prelude.{ℕ, ◌≡◌, List, [], ◌∷◌, ◌++◌, Option}
+use Rattle.std.specs.Prelude.{ℕ, ◌≡◌, List, [], ◌∷◌, ◌++◌, length, Option}
+use Rattle.std.specs.Option.{option_map}
+use Rattle.file_pages.specs.bucket_page.Records.{lookup}
 use Rattle.file_pages.specs.declared.fault.FileFault.{FileFault}
-use Rattle.step_rules.specs.Runs.{Stop, stop, stops_in}
+use Rattle.file_pages.specs.hash_file.Store.{records_at}
+use Rattle.step_rules.specs.Runs.{MovesAlong, Stop, stop, stops_in}
 use Rattle.step_rules.specs.Words.{Lock}
 use Rattle.step_rules.specs.declared.kind.Kind.TheVariants as kinds
 use Rattle.stale_search.specs.Words.{PoolState, Table, row_of, with_row, store_of, Progress, SearchPlace, ReadDepth, ReadEntry, GrantPage, ReleaseDirectory, Look, Found}
@@ -62,3 +65,12 @@ abbrev pub search_stops : ℕ → (page : ℕ) → Option ℕ → At SearchView 
 search_stops seat page found old =
     stops_in (λ (place : SearchPlace). standing search_locks seat old.pool old.locks (search_at place old.machine))
     (way_to (store_of old.pool.images).header.depth page found)
+
+-- the page has of the key a value of this length, or none
+abbrev pub HasAt : (page : ℕ) → Option ℕ → SearchView → PoolState → Type 0
+HasAt page found v pool = found ≡ option_map length (lookup v.key (records_at (store_of pool.images) page))
+
+-- it moves to where that page answers what it has
+abbrev pub GoesStraight : ℕ → (page : ℕ) → SearchView → PoolState → Table → Type 0
+GoesStraight seat page v pool locks = (found : Option ℕ) → HasAt page found v pool →
+    MovesAlong (SearchStep seat) (at v pool locks) (search_stops seat page found (at v pool locks))

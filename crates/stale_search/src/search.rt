@@ -9,7 +9,7 @@ ghost use Rattle.file_pages.specs.Files.{IsReady};
 ghost use Rattle.step_rules.specs.Runs.{MovesAlong};
 ghost use Rattle.stale_search.specs.Steps.{Advances, FollowsRow, MakesStep, ReadsPages};
 ghost use Rattle.stale_search.specs.Searches.{GivesAnswer, HasRow, IsShared, KeepsAim};
-ghost use Rattle.stale_search.specs.SearchRuns.{HasNoLock, SearchStep, at, search_at, search_stops};
+ghost use Rattle.stale_search.specs.SearchRuns.{GoesStraight, HasNoLock, SearchStep, at, search_at, search_stops};
 ghost use Rattle.stale_search.specs.Searches.{search_facts, search_locks, search_turn, left_in};
 
 use crate::place::SearchPlace;
@@ -17,7 +17,9 @@ use directory::index;
 use file_pages::bucket_page::RecordKey;
 use file_pages::buffer_pool::Pool;
 use file_pages::page_device::PageDevice;
-use file_pages::{FileFault, Sight, look, peek, peek_depth, peek_entry, read_depth, read_entry};
+use file_pages::{
+    FileFault, Sight, look, peek_depth, peek_entry, peek_range, peek_value, read_depth, read_entry,
+};
 use page_locks::{Grant, LockKind, LockName, LockTable};
 use std::marker::Model;
 use std::mem::size_of;
@@ -164,9 +166,40 @@ impl Search {
         }
     }
 
-    /// Where a search arrives that has not begun and goes straight to the page that the directory
-    /// names: the pages are in frames, that one has the pseudokey, and nobody stands in its way. It
-    /// tells that page and, of the key, the length of the value there. Nothing is done.
+    /// The page to which a search goes straight that has not begun: that which the directory names,
+    /// where it has the pseudokey, it and those on the way are in frames, and nobody stands in the
+    /// way. Nothing is done.
+    pub fn heads_for<D: PageDevice>(
+        &self,
+        pool: &mut Pool<D>,
+        locks: &LockTable,
+        seat: u8,
+    ) -> Option<u32>
+        requires seat { IsSeat locks.now seat }
+        requires ready { IsReady pool.old }
+        requires row { HasRow self.now (row_of locks.now seat) }
+        ensures pool { pool.new ≡ pool.old }
+        ensures bare { IsSome result → HasNoLock (search_locks self.now) }
+        ensures moves { IfSome result (λ page. GoesStraight seat page self.now pool.old locks.now) }
+    {
+        let SearchPlace::GrantDirectory = self.place else {
+            return None;
+        };
+        if locks.is_opposed(seat, LockName::Directory, LockKind::Read) {
+            return None;
+        }
+        let depth = peek_depth(pool)?;
+        let page = peek_entry(pool, index(self.pseudokey, depth))?;
+        if locks.is_opposed(seat, LockName::Page(page), self.kind) {
+            return None;
+        }
+        if !peek_range(pool, page, self.pseudokey) {
+            return None;
+        }
+        Some(page)
+    }
+
+    /// That page and, of the key, the length of the value there. Nothing is done.
     pub fn ahead<D: PageDevice>(
         &self,
         pool: &mut Pool<D>,
@@ -182,20 +215,10 @@ impl Search {
             (at self.now pool.old locks.now)
             (search_stops seat there.0 there.1 (at self.now pool.old locks.now))) }
     {
-        let SearchPlace::GrantDirectory = self.place else {
-            return None;
-        };
-        if locks.is_opposed(seat, LockName::Directory, LockKind::Read) {
-            return None;
-        }
-        let depth = peek_depth(pool)?;
-        let page = peek_entry(pool, index(self.pseudokey, depth))?;
-        if locks.is_opposed(seat, LockName::Page(page), self.kind) {
-            return None;
-        }
-        match peek(pool, page, self.pseudokey, &self.key)? {
-            Sight::Covering(found) => Some((page, found)),
-            Sight::Naming(_) => None,
+        let page = self.heads_for(pool, locks, seat)?;
+        match peek_value(pool, page, &self.key)? {
+            Some(value) => Some((page, Some(value.len()))),
+            None => Some((page, None)),
         }
     }
 

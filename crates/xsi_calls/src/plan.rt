@@ -1,6 +1,6 @@
 //! The plan of a call, lent.
 
-ghost use Rattle.std.specs.Prelude.{◌≡◌};
+ghost use Rattle.std.specs.Prelude.{◌≡◌, None, true};
 ghost use Rattle.call_decisions.specs.Anything.{plan_of};
 ghost use Rattle.xsi_calls.specs.Dues.{IsBehind, next_deed};
 
@@ -9,7 +9,7 @@ use crate::due::Due;
 use call_decisions::AnyInquiry;
 use queue_model::Call;
 use std::marker::Model;
-use xsi_inquiry::{Inquiry, MAX_TRIALS, Write, next_write};
+use xsi_inquiry::{Inquiry, MAX_TRIALS, MAX_WRITES, Write};
 
 /// The plan of a call, lent.
 #[derive(Drop)]
@@ -71,13 +71,29 @@ impl<'a> PlanOf<'a> {
     fn write(&self, from: usize) -> Option<Deed<'a>>
         ensures { result ≡ next_deed self.now (Due.Writing from) }
     {
-        match next_write(self.inquiry, self.call, from) {
+        match self.inquiry.next_write(self.call, from) {
             None => None,
             Some((_, write)) => Some(Deed::Write(write)),
         }
     }
 
-    /// What is due once that deed has written.
+    /// Whether it is seen of what is due that no deed is left, without a look at the plan: behind the
+    /// last write that is so, and behind as many trials as there may be.
+    #[inline(always)]
+    pub(crate) fn is_done(&self, due: Due) -> bool
+        ensures { result ≡ true → next_deed self.now due ≡ None }
+    {
+        // The plan is that of an inquiry, so it is small.
+        let _ = &self.inquiry;
+        match due {
+            Due::Trying(place) => place >= MAX_TRIALS,
+            Due::Full(_) => true,
+            Due::Undoing(standing) => standing == 0,
+            Due::Writing(from) => from >= MAX_WRITES,
+        }
+    }
+
+    /// What is due once that deed has written: of writes, from the slot on that has the next one.
     pub(crate) fn behind(&self, due: Due) -> Due
         ensures { IsBehind self.now due result }
     {
@@ -86,9 +102,12 @@ impl<'a> PlanOf<'a> {
             Due::Trying(place) => Due::Trying(place),
             Due::Full(standing) => Due::Full(standing),
             Due::Undoing(standing) => Due::Undoing(standing.saturating_sub(1)),
-            Due::Writing(from) => match next_write(self.inquiry, self.call, from) {
+            Due::Writing(from) => match self.inquiry.next_write(self.call, from) {
                 None => Due::Writing(from),
-                Some((slot, _)) => Due::Writing(slot + 1),
+                Some((slot, _)) => match self.inquiry.next_write(self.call, slot + 1) {
+                    None => Due::Writing(MAX_WRITES),
+                    Some((next, _)) => Due::Writing(next),
+                },
             },
         }
     }

@@ -28,7 +28,7 @@ use queue_records::counter_key;
 use record_file::Access;
 use std::marker::Model;
 use step_rules::Progress;
-use xsi_inquiry::{Inquiry, Room, Wanted, next_write};
+use xsi_inquiry::{Inquiry, Room, Wanted};
 
 /// A call's reading half: what it asks of the file, under the names that it takes for that. The
 /// next question begins where the last one was.
@@ -188,10 +188,10 @@ impl Questions {
     fn changes(&self, call: &Call) -> bool
         ensures { result ≡ changes call.now self.now.inquiry }
     {
-        if self.inquiry.trial(call, 0).is_some() {
+        if self.inquiry.inserts(call) {
             return true;
         }
-        match next_write(&self.inquiry, call, 0) {
+        match self.inquiry.next_write(call, 0) {
             None => false,
             Some(_) => true,
         }

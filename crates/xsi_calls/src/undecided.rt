@@ -20,12 +20,12 @@ use crate::step_rules::Progress;
 use crate::trials::TrialsPlace;
 use bucket_page::PseudoKey;
 use buffer_pool::Pool;
-use call_decisions::{AnyInquiry, Settled, decide};
+use call_decisions::{Settled, decide};
 use file_pages::FileFault;
 use page_device::PageDevice;
 use page_locks::LockTable;
 use queue_model::{Call, Caller};
-use xsi_inquiry::{Inquiry, NotASystem, Room};
+use xsi_inquiry::{NotASystem, Room};
 
 /// A call up to its Decide: it asks the file its questions, and then inserts on trial what its
 /// decision would have it insert.
@@ -151,7 +151,7 @@ impl UndecidedCall {
         if self.trials.have_begun() {
             return self.try_next(pool, locks, keys, seat, call);
         }
-        if self.questions.inquiry().trial(call, 0).is_none() {
+        if !self.questions.inquiry().inserts(call) {
             return Progress::Ended;
         }
         self.questions.keep_order();

@@ -128,6 +128,9 @@ impl CallWrites {
         if self.access.is_under_way() {
             return Ok(true);
         }
+        if plan.is_done(self.due) {
+            return Ok(false);
+        }
         self.begin_next(plan, keys)
     }
 

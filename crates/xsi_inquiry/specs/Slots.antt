@@ -13,4 +13,6 @@ writes_left p slot = somes (drop slot p.slots)
 pub record IsNextWrite (p : Plan) (from slot : ℕ) (write : Write) : Type 0 where
   pub behind : from ≤ slot
   pub within : slot < MAX_WRITES
+  -- those between are empty
+  pub same : writes_left p from ≡ writes_left p slot
   pub first : writes_left p from ≡ write ∷ writes_left p (slot + 1)

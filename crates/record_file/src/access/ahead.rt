@@ -1,10 +1,9 @@
-//! All steps of a find, in one go, and those of a write up to where its page answers.
+//! All steps of a write up to where its page answers, in one go.
 
 ghost use Rattle.std.specs.Prelude.{◌≡◌, Some, true, false};
-ghost use Rattle.record_file.specs.OperationRuns.{IsFind};
 ghost use Rattle.record_file.specs.AccessWords.{EndsRow, IsReady, IsSeat, row_of};
 ghost use Rattle.record_file.specs.Accesses.{access_locks};
-ghost use Rattle.record_file.specs.AccessRuns.{FindsAtOnce, ReachesAtOnce, ReadsAhead, TakesAhead};
+ghost use Rattle.record_file.specs.AccessRuns.{ReachesAtOnce, TakesAhead};
 ghost use Rattle.record_file.specs.Readings.{IsReplace};
 
 use crate::access::Access;
@@ -13,33 +12,9 @@ use file_pages::buffer_pool::Pool;
 use file_pages::peek_value;
 use page_device::PageDevice;
 use page_locks::{Grant, LockKind, LockName, LockTable};
-use queue_records::{Links, MAX_VALUE_BYTES, Record, relink};
+use queue_records::{Links, relink};
 
 impl Access {
-    /// All steps of a find, in one go: where it has not begun, its pages are in frames, the page
-    /// that the directory names has the pseudokey, and nobody stands in its way. Else nothing is
-    /// done, and it is left to `step`. What it would be granted on the way it would give back.
-    pub fn skip<D: PageDevice>(&mut self, pool: &mut Pool<D>, locks: &LockTable, seat: u8) -> bool
-        requires seat { IsSeat locks.now seat }
-        requires ready { IsReady pool.old }
-        requires row { EndsRow (access_locks self.old) 3 (row_of locks.now seat) }
-        ensures pool { pool.new ≡ pool.old }
-        ensures made { result ≡ true → FindsAtOnce seat self.old self.new pool.old locks.now }
-        ensures spares { result ≡ false → self.new ≡ self.old }
-    {
-        let RecordOperation::Find(find) = &self.operation else {
-            return false;
-        };
-        let Some((page, found)) = find.ahead(pool, locks, seat) else {
-            return false;
-        };
-        if !self.read_ahead(pool, page, found) {
-            return false;
-        }
-        self.operation.arrive(page, found);
-        true
-    }
-
     /// All steps of a write up to the Look by which its page answers, in one go: where it has not
     /// begun, its pages are in frames, the page that the directory names has the pseudokey and what
     /// it writes can stand there, and nobody stands in its way. The page is locked then. Else
@@ -106,7 +81,7 @@ impl Access {
         ensures made { result ≡ true → TakesAhead page (Some len) pool.now self.old self.new }
         ensures spares { result ≡ false → self.new ≡ self.old }
     {
-        let Some(value) = peek_value(pool, page, &self.key) else {
+        let Some(Some(value)) = peek_value(pool, page, &self.key) else {
             return false;
         };
         let bytes = links.front_bytes();
@@ -116,30 +91,6 @@ impl Access {
         self.bytes[..bytes].copy_from_slice(&value[..bytes]);
         relink(&mut self.bytes[..bytes], links);
         self.len = bytes;
-        true
-    }
-
-    /// Takes the value of its key from a page that is in a frame, where one of this length stands
-    /// there and spells a record of that key. Where none stands there is none to take.
-    fn read_ahead<D: PageDevice>(&mut self, pool: &Pool<D>, page: u32, found: Option<usize>) -> bool
-        requires find { IsFind self.old.operation }
-        ensures made { result ≡ true → ReadsAhead page found pool.now self.old self.new }
-        ensures spares { result ≡ false → self.new ≡ self.old }
-    {
-        let Some(len) = found else {
-            return true;
-        };
-        let Some(value) = peek_value(pool, page, &self.key) else {
-            return false;
-        };
-        if value.len() != len || len > MAX_VALUE_BYTES {
-            return false;
-        }
-        if Record::decode(&self.key, value).is_err() {
-            return false;
-        }
-        self.bytes[..len].copy_from_slice(value);
-        self.len = len;
         true
     }
 }

@@ -14,12 +14,14 @@ use buffer_pool::Pool;
 use page_device::PageDevice;
 use page_locks::LockTable;
 use queue_model::Call;
+use record_file::{BucketAccess, Deed, record_ahead};
 use xsi_inquiry::Inquiry;
 
 impl Questions {
     /// All steps of the next question, in one go: where none is under way, the names that it needs
-    /// are held, and its access can find so (`Access::skip`). Else nothing is done, and it is left
-    /// to `turn`.
+    /// are held, its find goes straight to a page, which is in a frame as all pages on its way are,
+    /// and what stands there is a record of its key, or none does. The record is heard from that
+    /// frame: no access begins for it. Else nothing is done, and it is left to `turn`.
     pub fn skip<D: PageDevice, K: PseudoKey>(
         &mut self,
         pool: &mut Pool<D>,
@@ -48,11 +50,11 @@ impl Questions {
         }
         self.names.keep_order();
         let key = key_asked(wanted);
-        self.question.access.begin_find(key, keys.of(&key));
-        if !self.question.access.skip(pool, locks, seat) {
+        let find = BucketAccess::new(Deed::Find, key, keys.of(&key));
+        let Some(page) = find.heads_for(pool, locks, seat) else {
             return false;
-        }
-        let Some(found) = self.question.access.found() else {
+        };
+        let Some(found) = record_ahead(pool, page, &key) else {
             return false;
         };
         let Ok(()) = hear(&mut self.inquiry, &mut self.room, call, found) else {

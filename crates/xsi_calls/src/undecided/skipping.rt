@@ -14,7 +14,6 @@ use call_decisions::decide;
 use page_device::PageDevice;
 use page_locks::LockTable;
 use queue_model::Call;
-use xsi_inquiry::Inquiry;
 
 impl UndecidedCall {
     /// All steps up to the Look of the next record that it inserts on trial, in one go, where all
@@ -39,6 +38,10 @@ impl UndecidedCall {
     {
         if self.trials.have_begun() {
             return self.reach_next(pool, locks, keys, seat, call);
+        }
+        // A call that inserts nothing on trial is left to its Decide.
+        if !self.questions.inquiry().inserts(call) {
+            return false;
         }
         if !self.questions.is_done(call) {
             return false;
@@ -100,7 +103,7 @@ impl UndecidedCall {
             pool.old locks.old locks.new }
         ensures spares { result ≡ false → (self.new ≡ self.old) × (locks.new ≡ locks.old) }
     {
-        if self.questions.inquiry().trial(call, 0).is_none() {
+        if !self.questions.inquiry().inserts(call) {
             return false;
         }
         self.questions.keep_order();

@@ -32,7 +32,7 @@ impl CallWrites {
             self.old self.new pool.old locks.old locks.new }
         ensures spares { result ≡ false → (self.new ≡ self.old) × (locks.new ≡ locks.old) }
     {
-        if self.access.is_under_way() {
+        if self.access.is_under_way() || plan.is_done(self.due) {
             return false;
         }
         self.reach_next(plan, pool, locks, keys, seat)

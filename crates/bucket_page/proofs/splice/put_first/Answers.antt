@@ -7,5 +7,6 @@ pub returns : goal.returns
 returns c =
     let old = c.args.region.now in
     let count = RECORD_HEAD_BYTES + length c.args.value.now in
-    let back = c.split_at_mut-place.ensures.back ∙ ap (drop count) c.copy_within.ensures.after ∙ moved_back old count c.requires.room in
+    let back = c.split_at_mut-place.ensures.back ∙ ap (drop count) c.copy_within.ensures.after
+    ∙ moved_back old count c.requires.room in
     ap₂ (λ a b. a ++ b) c.write_record.ensures back

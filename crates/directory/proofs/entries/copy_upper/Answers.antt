@@ -11,7 +11,8 @@ overflow_mul-half c =
 
 pub loop-slot-init : goal.loop-slot-init
 loop-slot-init c =
-    begun_above c.args.depth c.first_entry-first.result _ c.args.lower.now c.args.payload.now c.requires.directory (omega (arith, c.half_of-half.ensures, c.saturating_sub-begin.ensures))
+    begun_above c.args.depth c.first_entry-first.result _ c.args.lower.now c.args.payload.now c.requires.directory
+    (omega (arith, c.half_of-half.ensures, c.saturating_sub-begin.ensures))
 
 pub loop-slot-preserved : goal.loop-slot-preserved
 loop-slot-preserved c =
@@ -20,12 +21,15 @@ loop-slot-preserved c =
     let to : c.first_entry-first.result + c.loop-slot.slot < 2 * 2 ^ c.args.depth =
     omega (arith, c.half_of-half.ensures, c.saturating_sub.ensures, c.min-end.ensures, c.loop-slot-test.true) in
     let put : _ ≡ entry_in c.args.lower.now (c.first_entry-first.result + c.loop-slot.slot - 2 ^ c.args.depth) =
-    c.put_entry.ensures.ok ∙ c.entry-bucket.ensures ∙ ap (λ (k : ℕ). slice_index c.directory_of.result k) c.slot_of.ensures.value
-    ∙ ap (λ (l : List ℕ). slice_index l (slot_of (c.first_entry-first.result + c.loop-slot.slot - c.half_of-half.result)))
-    c.directory_of.ensures
-    ∙ ap (λ (k : ℕ). entry_in c.args.lower.now (c.first_entry-first.result + c.loop-slot.slot - k)) c.half_of-half.ensures in
-    one_copied c.args.depth c.first_entry-first.result c.loop-slot.slot c.args.lower.now c.args.payload.now c.loop-slot.payload
-    c.put_entry.new.payload from to c.loop-slot.invariant put c.put_entry.ensures.others c.put_entry.ensures.directory
+    c.put_entry.ensures.ok
+    ∙ c.entry-bucket.ensures
+    ∙ ap (λ (k : ℕ). slice_index c.directory_of.result k) c.slot_of.ensures.value
+    ∙ ap (λ (l : List ℕ). slice_index l
+    (slot_of (c.first_entry-first.result + c.loop-slot.slot - c.half_of-half.result))) c.directory_of.ensures
+    ∙ ap (λ (k : ℕ). entry_in c.args.lower.now (c.first_entry-first.result + c.loop-slot.slot - k))
+    c.half_of-half.ensures in
+    one_copied c.args.depth c.first_entry-first.result c.loop-slot.slot c.args.lower.now c.args.payload.now
+    c.loop-slot.payload c.put_entry.new.payload from to c.loop-slot.invariant put c.put_entry.ensures.others c.put_entry.ensures.directory
 
 pub returns-clause-ok : goal.returns-clause-ok
 returns-clause-ok c i on =

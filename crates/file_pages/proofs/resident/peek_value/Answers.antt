@@ -19,5 +19,6 @@ returns g c =
     ∙ ap page_in (get_or_from_slice_get images c.args.page payload [] here) in
     record {
       ok = lent_of (λ (b : Bor (List ℕ)). b.now) c.find.result payload c.in_ok-bucket.field-0
-          (page_at (store_of images) c.args.page) c.args.key.now was bucket.0 bucket.1 c.find.ensures.some;
+          (page_at (store_of images) c.args.page) c.args.key.now was bucket.0 bucket.1 c.find.ensures.some
+          c.find.ensures.none;
     }

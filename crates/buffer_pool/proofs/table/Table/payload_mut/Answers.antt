@@ -25,6 +25,7 @@ returns c =
         value = rw (← c.self.view_is)
             (c.index_mut-2.ensures.value
             ∙ sym (get_or_default c.self.inside.payloads.items c.args.frame [] c.index_mut-2.result.now within)
-            ∙ sym (filled_up-at (length c.self.inside.pages.items) c.self.inside.payloads.items c.args.frame [] within));
+            ∙ sym (filled_up-at (length c.self.inside.pages.items) c.self.inside.payloads.items c.args.frame []
+            within));
       },
     )

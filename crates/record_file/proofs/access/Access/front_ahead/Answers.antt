@@ -11,7 +11,7 @@ pub returns-clause-made : goal.returns-clause-made
 returns-clause-made g c = λ done.
     let inside = c.self.inside in
     let n = c.front_bytes-bytes.result in
-    let value = c.in-Some.value.now in
+    let value = c.in-Some-Some.value.now in
     let front = c.relink.new.front in
     let copied = c.copy_from_slice.new.self in
     let size = c.if-value-len.false in
@@ -20,7 +20,8 @@ returns-clause-made g c = λ done.
     ap length c.copy_from_slice.ensures.after ∙ length-take-le n value (omega (arith, size, within)) in
     let start = take_at copied _ n long in
     let whole : length front ≡ n = c.relink.ensures.len ∙ ap length start ∙ long in
-    let holds = ap (value_on c.args.pool.now c.args.page) c.self.invariant.key_is ∙ c.in-Some.ensures.ok in
+    let holds = ap (value_on c.args.pool.now c.args.page) c.self.invariant.key_is
+    ∙ rw c.in-Some-Some.field-0-is at c.in-Some-Some.ensures.ok in
     let links = rw (← c.self.view_is) at c.requires.links in
     rw (← c.self.view_is, links, take_at front _ n whole) (front_taken c.args.pool.now c.requires.ready inside.operation
     (rw (← c.self.view_is) at c.requires.replaces) c.args.links.now (take inside.len inside.bytes) front inside.written

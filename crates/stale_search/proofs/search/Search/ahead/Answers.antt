@@ -1,33 +1,14 @@
--- What was looked at allows each of the moves.
-use Rattle.std.proofs.Common.{◌≡◌, ◌∙◌, ap, ℕ, ◌%◌, ◌^◌}
-use Rattle.file_pages.specs.hash_file.Store.{entry_at}
-use Rattle.step_rules.specs.Words.{Store}
-use Rattle.stale_search.specs.Words.{PoolState, store_of}
-use Rattle.step_rules.proofs.OwnLemmas.{low_bits_below}
-use Rattle.stale_search.proofs.AheadLemmas.{goes_straight}
+-- It moves to where that page answers what it has.
+use Rattle.std.proofs.Common.{sym, ap, length}
+use Rattle.std.specs.Option.{option_map}
 use Rattle.stale_search.proofs.search.Search.ahead.Goals as goal
 
-pub peek_entry-requires : goal.peek_entry-requires
-peek_entry-requires g c = record {
-  within = rw (c.index.ensures) (low_bits_below c.self.inside.pseudokey c.in_ok-depth.depth 17
-      c.in_ok-depth.ensures.small);
-}
+pub returns-in-Some-clause-moves : goal.returns-in-Some-clause-moves
+returns-in-Some-clause-moves g c =
+    let told = rw (c.in-Some.is, c.in_ok-page.ensures.pool) at c.in_ok-value.ensures.ok in
+    c.in_ok-page.ensures.moves _ (rw (← c.self.view_is) (sym (ap (option_map length) told)))
 
-pub returns-in-Covering-clause-moves : goal.returns-in-Covering-clause-moves
-returns-in-Covering-clause-moves g c =
-    let k : ℕ = c.self.inside.pseudokey in
-    let s : Store = store_of c.args.pool.now.images in
-    let row = rw (← c.self.view_is, c.in-GrantDirectory.is) at c.requires.row in
-    let begun = rw c.in-GrantDirectory.is at c.self.invariant.begun in
-    let named : c.in_ok-page.page ≡ entry_at s (k % 2 ^ s.header.depth) =
-    c.in_ok-page.ensures.ok
-    ∙ ap (λ (p : PoolState). entry_at (store_of p.images) c.index.result) c.peek_depth.ensures.same
-    ∙ ap (entry_at s) (c.index.ensures ∙ ap (λ (d : ℕ). k % 2 ^ d) c.in_ok-depth.ensures.ok) in
-    let sight = rw (c.in-Covering.is, c.peek_entry.ensures.same, c.peek_depth.ensures.same) at
-    c.in_ok-found.ensures.ok in
-    rw (← c.self.view_is, c.in-GrantDirectory.is)
-    (goes_straight c.args.seat k c.self.inside.hops c.self.inside.key c.self.inside.kind c.args.pool.now
-    c.requires.ready row.before row.bare row.room c.self.invariant.shared c.args.locks.now c.in_ok-page.page
-    c.in-Covering.found c.requires.seat begun row.is
-    (λ opposed. absurd (let no = c.if-is_opposed.ensures.1 opposed in cc)) named
-    (λ opposed. absurd (let no = c.if-is_opposed-2.ensures.1 opposed in cc)) sight.0 sight.1)
+pub returns-in-None-clause-moves : goal.returns-in-None-clause-moves
+returns-in-None-clause-moves g c =
+    let told = rw (c.in-None.is, c.in_ok-page.ensures.pool) at c.in_ok-value.ensures.ok in
+    c.in_ok-page.ensures.moves _ (rw (← c.self.view_is) (sym (ap (option_map length) told)))

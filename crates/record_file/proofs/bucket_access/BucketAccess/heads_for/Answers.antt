@@ -1,9 +1,9 @@
 -- Each move of its search is one of the find.
 use Rattle.record_file.proofs.AheadLemmas.{finds_if}
-use Rattle.record_file.proofs.bucket_access.BucketAccess.ahead.Goals as goal
+use Rattle.record_file.proofs.bucket_access.BucketAccess.heads_for.Goals as goal
 
 pub returns-in-Searching-clause-moves : goal.returns-in-Searching-clause-moves
 returns-in-Searching-clause-moves g c =
     rw (← c.self.view_is, c.in-Searching.is) (finds_if c.args.seat c.args.pool.now c.requires.ready c.args.locks.now
-    c.requires.seat c.self.inside.search (rw (← c.self.view_is, c.in-Searching.is) at c.requires.row) c.ahead.result
-    c.ahead.ensures.bare c.ahead.ensures.moves)
+    c.requires.seat c.self.inside.search (rw (← c.self.view_is, c.in-Searching.is) at c.requires.row) c.heads_for.result
+    c.heads_for.ensures.bare c.heads_for.ensures.moves)
