@@ -6,10 +6,7 @@ use Rattle.queue_model.specs.declared.call.Call.TheVariants as calls
 use Rattle.page_locks.proofs.NameLemmas.{is_same-itself}
 use Rattle.call_decisions.specs.Names.{by_phase, exclusively, queue_for}
 use Rattle.call_decisions.specs.NameLaws.{WriteUnderNames}
-use Rattle.call_decisions.proofs.Words.{Exclusive, GetInquiry, Lock, LockKind, LockName, Read, ReceiveInquiry, RemoveInquiry, SendInquiry, SetInquiry, StatInquiry, get_locked, if_of, is_same, kind_of, locked_at, of_get, of_receive, of_remove, of_send, of_set, of_stat}
-
-IsExclusive : Option LockKind → Type 0
-IsExclusive found = found ≡ Some Exclusive
+use Rattle.call_decisions.proofs.Words.{Exclusive, GetInquiry, Lock, LockName, Read, ReceiveInquiry, RemoveInquiry, SendInquiry, SetInquiry, StatInquiry, get_locked, if_of, is_same, kind_of, locked_at, of_get, of_receive, of_remove, of_send, of_set, of_stat}
 
 -- of names that are all held Exclusive
 held_among : (ns : List LockName) (name : LockName) → Contains ns name →

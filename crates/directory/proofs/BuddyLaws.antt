@@ -54,12 +54,6 @@ buddy_valid r h deep = at_half (is_lower r) refl
     at_half true low = record { within = h.within; below = rw low (omega (arith, ltb-true _ _ low, twice_half r deep)) }
     at_half false high = record { within = h.within; below = rw high (omega (arith, h.below)) }
 
--- where two ranges agree in all bits but the last one, they are halves
-pub are_halves : (l p : ℕ) (x y : Range) → x.depth ≡ suc l → y.depth ≡ suc l → x.pattern ≡ p → y.pattern ≡ p + 2 ^ l →
-    AreHalvesOf (record { depth = l; pattern = p }) x y
-are_halves l p x y deep_x deep_y low high =
-    record { lower = rw (← deep_x, ← low) refl; upper = rw (← deep_y, ← high) refl }
-
 -- a pseudokey and the one with a bit turned at or above a depth lie in the same ranges of that depth
 pub buddy_agrees : (r x : Range) → IsRange r → 1 ≤ r.depth → x.depth < r.depth → Covers x (buddy_of r).pattern →
     Covers x r.pattern

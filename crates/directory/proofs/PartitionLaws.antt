@@ -171,10 +171,3 @@ module _ {X : Type 0} (range : X → Range) where
   -- the two are the same
   pub partition_is_tiling : (xs : List X) → IsPartition range xs ↔ Tiles range 0 xs POSITIONS
   partition_is_tiling xs = (partition_tiles xs, tiles_partition xs)
-
-  -- no item of a tiling stands on it twice
-  pub tiles_distinct : (xs : List X) (a b : ℕ) → Tiles range a xs b → AllPairs (λ (x y : X). x ≢ y) xs
-  tiles_distinct xs a b t i j d before within same =
-      let up = tiles_ascend xs a b t i j d before within in
-      let up' = rw same at up in
-      omega (arith, up')

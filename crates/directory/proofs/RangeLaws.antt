@@ -125,10 +125,3 @@ covers_truncated r d k h =
     let e : d ≡ (d - r.depth) + r.depth = omega arith in
     let same : k % 2 ^ d % 2 ^ r.depth ≡ k % 2 ^ r.depth = rw e (mod-mod-pow k (d - r.depth) r.depth) in
     (λ c. sym same ∙ c, λ c. same ∙ c)
-
--- a range covers what a deeper one covers, if it covers that one's pattern
-pub covers_nested : (outer inner : Range) (k : ℕ) → outer.depth ≤ inner.depth → Covers outer inner.pattern →
-    Covers inner k → Covers outer k
-covers_nested outer inner k h c d =
-    let c' = rw (← d) at c in
-    (covers_truncated outer inner.depth k h).0 c'

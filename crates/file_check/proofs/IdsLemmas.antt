@@ -1,14 +1,12 @@
 -- Which ids stand among records, and that a file has the Queues of exactly these.
-use Rattle.std.proofs.Common.{ℕ, suc, ◌≡◌, ◌+◌, ◌<◌, ◌≤◌, Bool, true, false, List, [], ◌∷◌, ◌++◌, length, take, Some, None, Option, ◌⊎◌, if◌then◌else◌, inl, inr, refl, sym, ap, subst, ◌∙◌, arith}
+use Rattle.std.proofs.Common.{ℕ, ◌≡◌, ◌+◌, ◌<◌, ◌≤◌, Bool, true, false, List, [], ◌∷◌, ◌++◌, length, take, Some, None, Option, ◌⊎◌, if◌then◌else◌, inl, inr, refl, sym, ap, subst, ◌∙◌, arith}
 use Rattle.std.specs.Ordering.{nat_cmp}
-use Rattle.std.specs.Prelude.{◌≢◌, nat_eq, slice_index}
+use Rattle.std.specs.Prelude.{◌≢◌, nat_eq}
 use Rattle.std.specs.List.{Contains, dedup}
 use Rattle.std.specs.List.Sorted.{IsPermutation, IsSorted, IsStrictlySortedBy}
-use Rattle.std.proofs.Math.Seq.{take-suc}
 use Rattle.std.proofs.lemmas.Cmp.{nat_cmp_total}
 use Rattle.std.proofs.lemmas.Bool.Decides.{nat_tests}
-use Rattle.std.proofs.lemmas.Grind.{flat_map-append}
-use Rattle.std.proofs.lemmas.List.{append_assoc, append-nil, take_all}
+use Rattle.std.proofs.lemmas.List.{append-nil, take_all}
 use Rattle.std.proofs.lemmas.List.Elements.{Contains-append_left, Contains-append_right, Contains-append_cases}
 use Rattle.std.proofs.lemmas.List.Kept.{AllPairs-from_increasing, Contains-dedup_nat, Contains-from_dedup, IsStrictlySortedBy-dedup}
 use Rattle.std.proofs.lemmas.Map.Keys.{IsStrictlyIncreasing-from_sorted}
@@ -19,25 +17,10 @@ use Rattle.queue_records.specs.Keys.{key_of_queue}
 use Rattle.record_walk.specs.Systems.{AreQueueIds}
 use Rattle.type_chains.proofs.Members.{contains_head}
 use Rattle.file_check.specs.Ids.{is_queue, id_in, ids_in}
-use Rattle.file_check.specs.Words.{Layout, Pair, Store, chain, held_in, pairs_on, records_at}
+use Rattle.file_check.specs.Words.{Layout, Pair, Store, chain, held_in, pairs_on}
 use Rattle.record_walk.proofs.VersionLemmas.{held_none, none_held}
 
 -- ---- record by record
-
-module _ (old ids : List ℕ) (p : Pair) (left rest ps : List Pair) (step : left ≡ p ∷ rest)
-    (so : ids ++ ids_in left ≡ old ++ ids_in ps) where
-  pub put_id : is_queue p.key ≡ true → (ids ++ p.key.queue ∷ []) ++ ids_in rest ≡ old ++ ids_in ps
-  put_id is =
-      let here : id_in p ≡ p.key.queue ∷ [] = ap (λ b. if b then p.key.queue ∷ [] else []) is in
-      append_assoc ids (p.key.queue ∷ []) (ids_in rest)
-      ∙ ap (λ xs. ids ++ (xs ++ ids_in rest)) (sym here)
-      ∙ ap (λ qs. ids ++ ids_in qs) (sym step) ∙ so
-
-  pub put_none : is_queue p.key ≡ false → ids ++ ids_in rest ≡ old ++ ids_in ps
-  put_none is =
-      let here : id_in p ≡ [] = ap (λ b. if b then p.key.queue ∷ [] else []) is in
-      ap (λ xs. ids ++ (xs ++ ids_in rest)) (sym here)
-      ∙ ap (λ qs. ids ++ ids_in qs) (sym step) ∙ so
 
 pub put_all : (ids : List ℕ) (left : List Pair) (all : List ℕ) → left ≡ [] → ids ++ ids_in left ≡ all → ids ≡ all
 put_all ids left all ended so = sym (append-nil ids) ∙ ap (λ qs. ids ++ ids_in qs) (sym ended) ∙ so
@@ -45,19 +28,6 @@ put_all ids left all ended so = sym (append-nil ids) ∙ ap (λ qs. ids ++ ids_i
 -- ---- page by page
 
 module _ (s : Store) (ns : List ℕ) where
-  pub ids_next : (i : ℕ) (ids new : List ℕ) → i < length ns → ids ≡ ids_in (pairs_on s (take i ns)) →
-      new ≡ ids ++ ids_in (records_at s (slice_index ns i)) → new ≡ ids_in (pairs_on s (take (i + 1) ns))
-  ids_next i ids new within so here =
-      let n : ℕ = slice_index ns i in
-      let one : i + 1 ≡ suc i = omega arith in
-      let grown : take (i + 1) ns ≡ take i ns ++ n ∷ [] = ap (λ k. take k ns) one ∙ take-suc ns i 0 within in
-      let behind : pairs_on s (take i ns ++ n ∷ []) ≡ pairs_on s (take i ns) ++ records_at s n =
-      flat_map-append (records_at s) (take i ns) (n ∷ [])
-      ∙ ap (λ xs. pairs_on s (take i ns) ++ xs) (append-nil (records_at s n)) in
-      here ∙ ap (λ xs. xs ++ ids_in (records_at s n)) so
-      ∙ sym (flat_map-append id_in (pairs_on s (take i ns)) (records_at s n))
-      ∙ ap ids_in (sym behind) ∙ ap (λ ms. ids_in (pairs_on s ms)) (sym grown)
-
   pub ids_end : (i : ℕ) (ids : List ℕ) → length ns ≤ i → ids ≡ ids_in (pairs_on s (take i ns)) →
       ids ≡ ids_in (pairs_on s ns)
   ids_end i ids ended so = so ∙ ap (λ ms. ids_in (pairs_on s ms)) (take_all i ns ended)

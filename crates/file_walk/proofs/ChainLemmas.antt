@@ -1,5 +1,5 @@
 -- A chain is walked: what each page adds, where it breaks, and that a broken one is no chain.
-use Rattle.std.proofs.Common.{ℕ, ◌≡◌, ◌≢◌, ◌<◌, List, [], ◌∷◌, ◌++◌, true, false, refl, sym, ap, subst, ◌∙◌, inl, inr, arith}
+use Rattle.std.proofs.Common.{ℕ, ◌≡◌, ◌≢◌, ◌<◌, List, [], ◌∷◌, ◌++◌, true, refl, sym, ap, subst, ◌∙◌, inl, inr, arith}
 use Rattle.std.specs.List.{Contains}
 use Rattle.std.proofs.lemmas.List.Elements.{Contains-append_cases}
 use Rattle.directory.specs.declared.pseudokey.TheConstants.{POSITIONS}
@@ -55,28 +55,6 @@ module _ (s : Store) where
     linked = subst (Links (next_at s) s.layout.root ns) last h.linked;
     partition = tiles_partition (range_at s) ns (subst (Tiles (range_at s) 0 ns) all h.tiled);
     buckets = h.buckets;
-  }
-
-  -- the chain breaks at a page that is no bucket, or whose range does not begin there
-  pub breaks_no_bucket : (ns : List ℕ) (reached n : ℕ) → IsChainSoFar s ns reached n → reached < POSITIONS →
-      has_bucket s n ≡ false → BreaksAt s n
-  breaks_no_bucket ns reached n h more other = record {
-    so_far = ns;
-    reached = reached;
-    right = h;
-    goes_on = λ c. let live = c.live in absurd cc;
-    ends = λ e. let all = e.all in omega arith;
-  }
-
-  pub breaks_no_tile : (ns : List ℕ) (reached n : ℕ) (shape : Shape) → IsChainSoFar s ns reached n
-      → reached < POSITIONS →
-      IsBucketAt s n shape → (IsTileAt shape.range reached → ⊥) → BreaksAt s n
-  breaks_no_tile ns reached n shape h more b other = record {
-    so_far = ns;
-    reached = reached;
-    right = h;
-    goes_on = λ c. other (subst (λ (x : Shape). IsTileAt x.range reached) (sym b.shaped) c.tile);
-    ends = λ e. let all = e.all in omega arith;
   }
 
   -- and where it goes on behind the last position

@@ -22,7 +22,7 @@ use Rattle.file_walk.specs.Walks.{IsRightChain, AreRightSpares, IsNotFree, IsLos
 use Rattle.file_walk.proofs.PageLemmas.{right_formed}
 use Rattle.file_walk.proofs.ChainLemmas.{broken_is_no_chain, no_tile_behind}
 use Rattle.directory.specs.declared.layout.Layout.{Layout}
-use Rattle.directory.specs.Layouts.{IsLayout, least_pages}
+use Rattle.directory.specs.Layouts.{IsLayout}
 
 -- what stands between two lists stands on both together
 contains_inside : (front : List ℕ) (x : ℕ) (back : List ℕ) → Contains (front ++ x ∷ back) x

@@ -5,14 +5,13 @@ use Rattle.std.proofs.lemmas.Bool.Decides.{nat_tests}
 use Rattle.std.proofs.lemmas.List.{take_more}
 use Rattle.std.proofs.lemmas.List.Elements.{Contains-append_cases}
 use Rattle.directory.specs.Ranges.{Covers}
-use Rattle.directory.proofs.MemberLaws.{contains_cases, contains_none}
 use Rattle.hash_file.specs.declared.page.Shape.{Shape}
 use Rattle.hash_file.specs.Store.{Store, is_bucket, has_bucket, bucket_at}
 use Rattle.hash_file.specs.Chain.{IsBucketOn, times, number_on}
 use Rattle.hash_file.specs.Sound.{is_numbered}
 use Rattle.hash_file.proofs.Lists.{times_stands, how_many_append}
 use Rattle.file_walk.specs.Outlines.{IsBucketAt, IsOutlined}
-use Rattle.file_walk.specs.Walks.{HasRightSpares, AreShallow}
+use Rattle.file_walk.specs.Walks.{HasRightSpares}
 
 module _ (s : Store) (ns : List ℕ) where
   -- each bucket is on the chain
@@ -47,19 +46,6 @@ module _ (s : Store) (ns : List ℕ) where
 
   pub bucket_has : (n i : ℕ) (shape : Shape) → IsBucketAt s n shape → IsBucketOn s ns i n → Covers shape.range i
   bucket_has n i shape b on = subst (λ (x : Shape). Covers x.range i) (sym b.shaped) on.1
-
-  -- one bucket more is not too deep
-  pub shallow_more : (k : ℕ) → k < length ns → AreShallow s (take k ns) →
-      (bucket_at s (slice_index_or ns k 0)).depth ≤ s.header.depth → AreShallow s (take (k + 1) ns)
-  shallow_more k within before here n on =
-      elim (Contains-append_cases (take k ns) (slice_index_or ns k 0 ∷ []) n
-      (subst (λ xs. Contains xs n) (take_more ns k 0 within) on)) [
-        | inl was ↦ before n was
-        | inr now ↦ elim (contains_cases (slice_index_or ns k 0) n [] now) [
-          | inl same ↦ subst (λ m. (bucket_at s m).depth ≤ s.header.depth) same here
-          | inr none ↦ absurd (contains_none n none)
-        ]
-      ]
 
   -- one bucket more is counted, or not
   pub number_more : (k depth : ℕ) (b : Bool) → k < length ns →

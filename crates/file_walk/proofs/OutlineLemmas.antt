@@ -1,7 +1,6 @@
 -- What an outline tells of a page.
-use Rattle.std.proofs.Common.{ℕ, ◌≡◌, ◌<◌, false, List, length, slice_index_or, get_or-take, lit<, refl, sym, ap, subst, ◌∙◌, arith}
+use Rattle.std.proofs.Common.{ℕ, ◌≡◌, ◌<◌, false, List, length, slice_index_or, get_or-take, lit<, sym, ap, ◌∙◌, arith}
 use Rattle.std.proofs.lemmas.List.{get_or-map, length-map, get_or-replicate}
-use Rattle.directory.specs.declared.layout.TheConstants.{LEAST_PAGES, ROOT_PAGE}
 use Rattle.directory.specs.declared.header.Header.{Header}
 use Rattle.bucket_page.specs.declared.page.PageKind.{PageKind}
 use Rattle.bucket_page.specs.declared.page.PageKind.TheVariants as kinds
@@ -11,7 +10,7 @@ use Rattle.file_walk.specs.declared.form.Form.{Form}
 use Rattle.file_walk.specs.declared.form.Form.TheVariants as forms
 use Rattle.file_walk.specs.Outlines.{shown_in, shown, shape_of_bucket, IsKeptAt, IsBucketAt, IsFreeAt, IsOutlineIn, IsOutlined}
 use Rattle.directory.specs.declared.layout.Layout.{Layout}
-use Rattle.directory.specs.Layouts.{IsLayout, least_pages}
+use Rattle.directory.specs.Layouts.{IsLayout}
 
 module _ (s : Store) (n : ℕ) where
   pub bucket_kept : (shape : Shape) → IsKeptAt s n (forms.Bucket shape) → IsBucketAt s n shape
@@ -34,14 +33,6 @@ module _ (s : Store) (n : ℕ) where
   not_free_kept form k other = λ free. other (next_at s n) (sym k.kept ∙ free.0)
 
 module _ (l : Layout) (laid : IsLayout l) where
-  -- what is kept of a page is what stands there
-  pub form_kept : (h : Header) (es : List ℕ) (fs : List Form) (n : ℕ) (form : Form) → n < length fs →
-      form ≡ slice_index_or fs n form → IsKeptAt (shown_in l h es fs) n form
-  form_kept h es fs n form within is = record {
-    within = subst (λ m. n < m) (sym (length-map fs shown)) within;
-    kept = get_or-map shown fs n form (kinds.Free 0) within ∙ ap shown (sym is);
-  }
-
   -- what each outline shows
   pub outline_shows : (h : Header) (es : List ℕ) (fs : List Form) → IsOutlineIn l h es fs
       → IsOutlined (shown_in l h es fs)

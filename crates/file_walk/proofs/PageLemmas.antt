@@ -20,7 +20,7 @@ use Rattle.file_walk.specs.Order.{IsCutIn, IsTooLongIn, is_directory, IsUnread, 
 use Rattle.file_walk.specs.Readings.{IsPayloadOf, IsFormOf, TakesEntries}
 use Rattle.file_walk.proofs.KeptLemmas.{taken_length}
 use Rattle.directory.specs.declared.layout.Layout.{Layout}
-use Rattle.directory.specs.Layouts.{IsLayout, least_pages}
+use Rattle.directory.specs.Layouts.{IsLayout}
 
 -- what an answer says of the fault and of the value
 accepted : {X : Type 0} (fault : Option Malformed) (x y : X) → Ok x ≡ answer fault y → (fault ≡ None) × (x ≡ y)

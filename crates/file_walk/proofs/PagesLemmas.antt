@@ -16,7 +16,7 @@ use Rattle.file_walk.specs.Outlines.{shown, bare}
 use Rattle.file_walk.proofs.KeptLemmas.{taken_again}
 use Rattle.file_walk.specs.Order.{AreRightIn, IsRightPageIn, IsFaultIn, IsFirstWrongIn, IsOfMachine}
 use Rattle.directory.specs.declared.layout.Layout.{Layout}
-use Rattle.directory.specs.Layouts.{IsLayout, least_pages}
+use Rattle.directory.specs.Layouts.{IsLayout}
 
 -- the pages from here up to `to` are right, where the device is honest; it has the same pages still
 pub record IsReadTo (l : Layout) {D : Type 0} (content : D → List (List ℕ)) (honest : D → Bool) (faults : D → ℕ)

@@ -8,11 +8,11 @@ use Rattle.file_walk.specs.declared.fault.StructureFault.{StructureFault}
 use Rattle.file_walk.specs.declared.form.Form.{Form}
 use Rattle.file_walk.specs.Files.{layout_in, entries_in, pages_in}
 use Rattle.file_walk.specs.Outlines.{IsOutlineIn, shown_in, bare}
-use Rattle.file_walk.specs.Order.{HasHeaderIn, AreRightIn, IsOfMachine, IsHeaderFaultIn, IsFirstWrongIn, IsReadingFaultIn}
+use Rattle.file_walk.specs.Order.{HasHeaderIn, AreRightIn, IsOfMachine, IsFirstWrongIn, IsReadingFaultIn}
 use Rattle.file_walk.specs.Readings.{IsHeaderOf, AreEntriesOf, AreFormsOf, IsOutlineOf}
 use Rattle.file_walk.proofs.PagesLemmas.{right_join}
 use Rattle.directory.specs.declared.layout.Layout.{Layout}
-use Rattle.directory.specs.Layouts.{IsLayout, least_pages}
+use Rattle.directory.specs.Layouts.{IsLayout}
 
 module _ (l : Layout) (laid : IsLayout l) where
   -- what is said of a device stands while its pages and its honesty stay
@@ -65,13 +65,3 @@ module _ (l : Layout) (laid : IsLayout l) where
       wrong = w.wrong;
     },
   ))
-
-  pub directory_wrong : (content : List (List ℕ)) (fault : StructureFault) → HasHeaderIn l content →
-      IsOfMachine fault ⊎ IsFirstWrongIn l content FIRST_DIRECTORY_PAGE fault → IsReadingFaultIn l content fault
-  directory_wrong content fault header (inl machine) = inl machine
-  directory_wrong content fault header (inr w) = inr (inr (header, w))
-
-  pub header_wrong : (content : List (List ℕ)) (fault : StructureFault) →
-      IsOfMachine fault ⊎ IsHeaderFaultIn l content fault → IsReadingFaultIn l content fault
-  header_wrong content fault (inl machine) = inl machine
-  header_wrong content fault (inr w) = inr (inl w)

@@ -1,6 +1,6 @@
 -- A right structure makes up a sound file.
 use Rattle.std.proofs.Common.{ℕ, zero, suc, ◌≡◌, ◌+◌, ◌*◌, ◌<◌, ◌≤◌, ◌^◌, ◌==◌, nat_lt, Bool, true, false, if◌then◌else◌, List, [], ◌∷◌, ◌++◌, length, take, drop, replicate, slice_index_or, Option, Some, None, refl, sym, ap, subst, ◌∙◌, inl, lit≤, lit<, add-zero, zero-add, map, arith}
-use Rattle.file_walk.proofs.Names.{BUCKET, Bucket, Contains, DIRECTORY, DIRECTORY_PAGES, FIRST_DIRECTORY_PAGE, GREATEST_DEPTH, HasLayout, IsChain, IsPlaced, IsSoundFile, IsSoundOn, LEAST_PAGES, Malformed, PAGE_ENTRIES, PageKind, Quiet, ROOT_PAGE, RecordKey, TOMBSTONE, append-nil, bucket_at, chain_is, entries_area, entries_at, entries_of, flat_map, flat_map-cons, four_at, get_or-drop, get_or-replicate, get_or-take, get_or_append_left, has_bucket, is_bucket, length-append, length-drop, length-replicate, length-take-le, nat_tests, numbers_of, partition_tiles, payload_of, quiet_exact, range_at, sound_by, times, zero-mul}
+use Rattle.file_walk.proofs.Names.{BUCKET, Bucket, Contains, DIRECTORY, FIRST_DIRECTORY_PAGE, HasLayout, IsChain, IsPlaced, IsSoundFile, IsSoundOn, Malformed, PAGE_ENTRIES, PageKind, Quiet, RecordKey, TOMBSTONE, append-nil, bucket_at, chain_is, entries_area, entries_at, entries_of, flat_map, flat_map-cons, four_at, get_or-drop, get_or-replicate, get_or-take, get_or_append_left, has_bucket, is_bucket, length-append, length-drop, length-replicate, length-take-le, nat_tests, numbers_of, partition_tiles, payload_of, quiet_exact, range_at, sound_by, times, zero-mul}
 use Rattle.bucket_page.specs.declared.page.PageKind.TheVariants as kinds
 use Rattle.bucket_page.specs.Reading as reading
 use Rattle.file_walk.specs.Files.{page_on, said_by, said_on, entries_in, pages_in, file_in}

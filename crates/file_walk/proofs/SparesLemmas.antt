@@ -22,7 +22,7 @@ use Rattle.hash_file.specs.Chain.{times}
 use Rattle.hash_file.specs.Sound.{is_numbered}
 use Rattle.hash_file.proofs.Lists.{times_one, times_other, times_append, times_member, times_stands}
 use Rattle.file_walk.specs.Outlines.{IsFreeAt, IsOutlined}
-use Rattle.file_walk.specs.Walks.{IsRightChain, AreMarked, HasRoomFor, AreSparesSoFar, HasRightSpares, IsNotFree, IsLost}
+use Rattle.file_walk.specs.Walks.{IsRightChain, AreMarked, HasRoomFor, AreSparesSoFar, HasRightSpares, IsNotFree}
 
 -- ---- marks
 
@@ -220,15 +220,6 @@ module _ (s : Store) (ns : List ℕ) (marks : List Bool) where
     right = w.right;
     goes_on = begun;
     wrong = inr (let one = marked_is (length s.pages) (ns ++ w.spares) marks w.marked page met in omega arith);
-  }
-
-  pub walk_lost : (page n : ℕ) → AreWalked s ns marks page → page ≡ 0 → s.layout.root ≤ n → n < length s.pages →
-      slice_index_or marks n false ≡ false → IsLost s ns n
-  walk_lost page n w ended behind within other = record {
-    spares = w.spares;
-    right = subst (AreSparesSoFar s ns w.spares) ended w.right;
-    numbered = grind (arith, nat_tests);
-    nowhere = marked_not (length s.pages) (ns ++ w.spares) marks w.marked n other;
   }
 
   -- all pages from the root on have a role

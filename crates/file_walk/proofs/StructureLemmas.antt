@@ -9,7 +9,7 @@ use Rattle.file_walk.specs.Structure.{HasPagesIn, IsFirstFaultIn, IsStructureIn}
 use Rattle.file_walk.specs.Walks.{IsRightChain, HasRightSpares, IsRightDirectory, IsChainFault, IsSparesFault, IsDirectoryFault}
 use Rattle.file_walk.proofs.OutlinedLemmas.{chain_of_file, spares_of_file, directory_of_file, chain_fault, spares_fault, directory_fault, of_machine}
 use Rattle.directory.specs.declared.layout.Layout.{Layout}
-use Rattle.directory.specs.Layouts.{IsLayout, least_pages}
+use Rattle.directory.specs.Layouts.{IsLayout}
 
 module _ (l : Layout) (laid : IsLayout l) where
   pub reading_first : (content : List (List ℕ)) (fault : StructureFault) → IsReadingFaultIn l content fault →

@@ -4,11 +4,9 @@ use Rattle.std.specs.List.{All, filter}
 use Rattle.std.proofs.lemmas.Bool.{cases_eq, eqb-true, eq-eqb, not-true, both_ways}
 use Rattle.std.proofs.lemmas.Nat.{mod-pow-add, mod_below}
 use Rattle.std.proofs.lemmas.List.Elements.{All-filter, filter_passes}
-use Rattle.directory.specs.declared.pseudokey.TheConstants.{PSEUDOKEY_BITS}
 use Rattle.directory.specs.declared.range.Range.{Range}
-use Rattle.directory.specs.Ranges.{IsRange, Covers, lower_half_of, upper_half_of}
+use Rattle.directory.specs.Ranges.{Covers, lower_half_of, upper_half_of}
 use Rattle.directory.proofs.BuddyLaws.{same_range}
-use Rattle.directory.proofs.RangeLaws.{halves_apart, half_in_range}
 use Rattle.bucket_page.specs.declared.record_key.RecordKey.{RecordKey}
 use Rattle.bucket_page.specs.Bucket.{Bucket}
 use Rattle.bucket_page.specs.Records.{Pair, is_above, ascend_from, lookup}
@@ -42,25 +40,6 @@ bit_clear r k c is =
     ] in
     let more = rw none at (next_bit k r.depth) in
     omega (arith, more, c)
-
--- so what the lower half covers has the bit clear, and what the upper half covers has it set
-pub clear_bit : (r : Range) (k : ℕ) → IsRange r → r.depth < PSEUDOKEY_BITS → Covers (lower_half_of r) k →
-    has_bit r.depth k ≡ false
-clear_bit r k valid shallow c = by_test (has_bit r.depth k) refl
-  where
-    by_test : (b : Bool) → has_bit r.depth k ≡ b → b ≡ false
-    by_test true is = absurd (halves_apart r k valid shallow c
-        (bit_set r k (half_in_range r k valid shallow (inl c)) is))
-    by_test false is = refl
-
-pub set_bit : (r : Range) (k : ℕ) → IsRange r → r.depth < PSEUDOKEY_BITS → Covers (upper_half_of r) k →
-    has_bit r.depth k ≡ true
-set_bit r k valid shallow c = by_test (has_bit r.depth k) refl
-  where
-    by_test : (b : Bool) → has_bit r.depth k ≡ b → b ≡ true
-    by_test true is = refl
-    by_test false is = absurd (halves_apart r k valid shallow
-        (bit_clear r k (half_in_range r k valid shallow (inr c)) is) c)
 
 -- ---- the halves of a bucket
 

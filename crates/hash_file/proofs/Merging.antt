@@ -10,7 +10,7 @@ use Rattle.directory.proofs.RangeLaws.{halved_valid, half_in_range}
 use Rattle.directory.proofs.TileLaws.{tiles_not_before, tiles_not_behind}
 use Rattle.directory.proofs.ChangeLaws.{join_tiles, joins_in_place, halves_neighbours}
 use Rattle.directory.proofs.CountLaws.{begun_insert, begun_same, begun_rises}
-use Rattle.directory.proofs.WalkLaws.{links_remove, links_neighbours}
+use Rattle.directory.proofs.WalkLaws.{links_remove}
 use Rattle.bucket_page.specs.declared.page.PageKind.TheVariants as kinds
 use Rattle.hash_file.specs.Phases.{IsAbsorbed}
 use Rattle.hash_file.specs.Sound.{IsSoundOn, IsSoundFile, HasEntry}
@@ -78,9 +78,6 @@ module _ (hash : RecordKey → ℕ) (s : Store) (left right : ℕ) (whole : Rang
 
   right_range : range_at t right ≡ upper_half_of whole
   right_range = ap (λ (p : PageKind). range_of (bucket_of p)) (other right apart) ∙ halves.upper
-
-  next_right : next_at s left ≡ right
-  next_right = links_neighbours (next_at s) ns s.layout.root 0 left right sound.chained.linked (front, back, refl)
 
   before_same : (m : ℕ) → Contains front m → page_at t m ≡ page_at s m
   before_same m on =

@@ -79,10 +79,6 @@ row_reached false seat old new pool t t' reaches spares before row =
     same.1 ∙ sym (with_row-own t seat)
     ∙ ap (with_row t seat) (row ∙ ap (λ (a : AccessView). access_locks a before) (sym same.0))
 
--- a table in which nothing changed
-pub Follows-same : (t : Table) (seat : ℕ) (s : Option Task) → Holds s (row_of t seat) → Follows seat t s t
-Follows-same t seat s holds = record { row = row_of t seat; is = sym (with_row-own t seat); holds = holds }
-
 -- a seat that was read is idle
 pub idle_read : (seats : List (Option Task)) (place : ℕ) (s : Option Task) → place < length seats →
     s ≡ slice_index_or seats place s → is_some s ≡ false → slice_get seats place ≡ Some None

@@ -1,7 +1,7 @@
 -- Texts spelled into a room from its end on.
 use Rattle.std.proofs.Common.{◌≡◌, ℕ, zero, suc, ◌<◌, ◌≤◌, ◌+◌, ◌-◌, ◌==◌, ◌&&◌, nat_lt, Bool, true, if◌then◌else◌, List, [], ◌∷◌, ◌++◌, length, take, drop, get_or, map, slice_index, slice_set, Option, Some, None, refl, sym, ap, ◌∙◌, subst, arith, append_assoc, inl, inr}
 use Rattle.std.proofs.lemmas.Bool.{and_parts, cases_lt, eqb-true}
-use Rattle.std.proofs.lemmas.List.{drop_all, drop_at, drop-drop, drop_more, drop-set, length-take-le}
+use Rattle.std.proofs.lemmas.List.{drop_at, drop-drop, drop_more, drop-set, length-take-le}
 use Rattle.std.specs.Prelude.{IfSome}
 use borrow.Rule.Slice.PartMut.{put_mid}
 use Rattle.hex.specs.Hex.{lower_digits}
@@ -68,14 +68,6 @@ pub record AreSpelled (texts : List (List ℕ)) (room : List ℕ) (start behind 
   pub next : behind ≡ byte_before texts
   pub spelled : drop start room ≡ line_from texts
 
-pub AreSpelled-none : (room : List ℕ) (start : ℕ) → start ≡ length room
-    → AreSpelled [] room start 10
-AreSpelled-none room start is = record {
-  within = omega (arith, is);
-  next = refl;
-  spelled = drop_all start room (omega (arith, is));
-}
-
 -- one more in front of them
 AreSpelled-cons : (texts : List (List ℕ)) (text room new : List ℕ) (start first behind : ℕ)
     → length new ≡ length room → AreSpelled texts room start behind
@@ -105,12 +97,6 @@ AreSpelled-more text words left word room new start first behind some within lon
     (AreSpelled-cons (map text (drop left words)) (text (get_or words (left - 1) word)) room new
     start first behind long are spelled)
 
--- all of them were
-pub AreSpelled-all : (texts : List (List ℕ)) (room : List ℕ) (start behind : ℕ) → 0 < length texts
-    → AreSpelled texts room start behind → drop start room ≡ line_of texts
-AreSpelled-all [] room start behind some are = absurd (omega (arith, some))
-AreSpelled-all (text ∷ texts) room start behind some are = are.spelled
-
 -- the digit of a value
 abbrev digit_of : ℕ → ℕ
 digit_of value = if nat_lt value 10 then 48 + value else 87 + value
@@ -130,6 +116,3 @@ digits_below (suc n) value are below =
           let is : value ≡ n = omega (arith, below, top) in
           rw is (eqb-true (slice_index lower_digits n) (digit_of n) parts.0)
     ]
-
-pub digit_is : (value : ℕ) → value ≤ 15 → slice_index lower_digits value ≡ digit_of value
-digit_is value within = digits_below 16 value refl (omega (arith, within))

@@ -6,8 +6,8 @@ use Rattle.page_locks.specs.declared.slot.Slot.{Slot}
 use Rattle.page_locks.specs.declared.slot.TheConstants.{SLOTS}
 use Rattle.page_locks.specs.Holding.{is_nobody}
 use Rattle.page_locks.specs.Probing.{home, after, gap, way, free_slot, slot_at, is_taken, holders_of}
-use Rattle.page_locks.specs.Probing.{IsProbed, IsOpened, HasFreeBut}
-use Rattle.page_locks.proofs.CircleLemmas.{after-lt, after-none, after-gap, gap-after}
+use Rattle.page_locks.specs.Probing.{IsProbed, IsOpened}
+use Rattle.page_locks.proofs.CircleLemmas.{after-lt, after-gap, gap-after}
 use Rattle.page_locks.proofs.ProbeLemmas.{taken_by, IsMoved, IsMoved-set, IsOpened-moved, holders_of-moved, StayBehind, IsProbed-closed}
 
 -- so far the hole has come `hole` steps from the start, and `steps` were looked at
@@ -22,27 +22,6 @@ pub record Closes (before slots : List Slot) (start hole steps : ℕ) : Type 0 w
   pub is_free : is_taken slots free ≡ false
   pub ahead : steps ≤ gap start free
   pub same : (name : LockName) → holders_of slots name ≡ holders_of before name
-
-pub Closes-first : (slots : List Slot) (start : ℕ) → IsOpened slots start → HasFreeBut start slots →
-    Closes slots slots start 0 1
-Closes-first slots start opened free = record {
-  start_lt = opened.inside;
-  opened = subst (IsOpened slots) (sym (after-none start opened.inside)) opened;
-  below = omega arith;
-  behind = λ u above under. absurd (omega (arith, above, under));
-  free = free.0;
-  free_lt = free.1;
-  is_free = free.2;
-  ahead = elim (cases_eq (gap start free.0) 0) [
-    | inl none ↦
-        let at : free.0 ≡ start =
-        sym (after-gap start free.0 opened.inside free.1) ∙ ap (after start) none ∙ after-none start opened.inside
-        in
-        absurd (free.3 at)
-    | inr some ↦ omega (arith, some)
-  ];
-  same = λ name. refl;
-}
 
 module _ (before slots : List Slot) (start hole steps : ℕ) (closes : Closes before slots start hole steps)
     (steps_lt : steps < SLOTS) where

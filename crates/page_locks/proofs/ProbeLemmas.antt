@@ -119,9 +119,6 @@ IsMoved-set slots hole place slot h p apart is =
 
 module _ (old new : List Slot) (hole place : ℕ) (moved : IsMoved old new hole place) (opened : IsOpened old hole)
     (taken_last : is_taken old place ≡ true) where
-  apart_last : place ≢ hole
-  apart_last same = both_ways (is_taken old place) (ap (is_taken old) same ∙ opened.free) taken_last
-
   left_free : is_taken new place ≡ false
   left_free = ap taken_by moved.left
 

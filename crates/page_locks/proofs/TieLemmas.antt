@@ -1,6 +1,6 @@
 -- A table's rows and its slots say the same, and go on to after a change.
 use Rattle.std.proofs.Common.{arith, ◌≡◌, ◌≢◌, ℕ, zero, suc, ◌*◌, ◌<◌, ◌≤◌, true, false}
-use Rattle.std.proofs.Common.{List, [], ◌∷◌, length, map, get_or, replicate, Option, Some, None, refl, sym, ap, ◌∙◌, inl, inr, true≢false}
+use Rattle.std.proofs.Common.{List, [], ◌∷◌, length, map, get_or, Option, Some, None, refl, sym, ap, ◌∙◌, inl, inr, true≢false}
 use Rattle.page_locks.proofs.Names.{cases_Bool, cases_eq, flat_map, length-flat_map, length-map, list_any, list_any-append, or_left, or_right, sum_by-le}
 use Rattle.page_locks.specs.declared.holders.Holders.{Holders}
 use Rattle.page_locks.specs.declared.lock.Lock.{Lock}
@@ -9,16 +9,16 @@ use Rattle.page_locks.specs.declared.lock.LockName.{LockName}
 use Rattle.page_locks.specs.declared.slot.Slot.{Slot}
 use Rattle.page_locks.specs.declared.row.TheConstants.{MAX_LOCKS}
 use Rattle.page_locks.specs.declared.lock_table.TheConstants.{MAX_SEATS}
-use Rattle.page_locks.specs.Holding.{nobody, is_nobody, kind_at, ChangesSeat}
+use Rattle.page_locks.specs.Holding.{is_nobody, kind_at, ChangesSeat}
 use Rattle.page_locks.specs.Locks.{is_against, is_on, is_same, kind_of, without}
 use Rattle.page_locks.specs.Probing.{holders_of, ChangesName, HasFewNames, HasHomesApart, IsWanted}
 use Rattle.page_locks.specs.Table.{Table, IsSeat, row_of, held, with_lock, without_lock, with_kind, IsFree, IsLawful}
 use Rattle.page_locks.specs.Ties.{IsTied, IsSoundTable, AreHomesApart, IsHeldOrAsked}
 use Rattle.page_locks.specs.Writers.{ChangesOnly}
 use Rattle.page_locks.proofs.ChangeLemmas.{ChangesOnly-grant, ChangesOnly-release, ChangesOnly-convert, held-grant, held-release, held-convert}
-use Rattle.page_locks.proofs.HolderLemmas.{held_by, kind_at-nobody}
+use Rattle.page_locks.proofs.HolderLemmas.{held_by}
 use Rattle.page_locks.proofs.NameLemmas.{is_same-itself, is_same-true}
-use Rattle.page_locks.proofs.TableLemmas.{IsLawful-grant, IsLawful-release, IsLawful-convert, row_of-empty, row_of-same, row_of-other, IsLawful-empty}
+use Rattle.page_locks.proofs.TableLemmas.{IsLawful-grant, IsLawful-release, IsLawful-convert, row_of-same, row_of-other}
 use Rattle.page_locks.proofs.WriterLemmas.{held-kept}
 
 -- the names that a row has, and those of all rows
@@ -126,15 +126,6 @@ module _ (slots : List Slot) (t : Table) (tied : IsTied slots t) where
       ];
     }
 
-pub IsTied-empty : (slots : List Slot) (seats : ℕ) → 1 ≤ seats → seats ≤ MAX_SEATS →
-    ((name : LockName) → holders_of slots name ≡ nobody) → IsTied slots (replicate seats [])
-IsTied-empty slots seats some few none = record {
-  lawful = IsLawful-empty seats some few;
-  ties = λ seat name.
-      ap (λ (h : Holders). kind_at h seat) (none name) ∙ kind_at-nobody nobody seat refl ∙
-      sym (ap (λ (row : List Lock). kind_of row name) (row_of-empty seats seat));
-}
-
 -- a grant, a release and a conversion, in the slots and in the rows
 module _ (slots : List Slot) (t : Table) (tied : IsTied slots t) (seat : ℕ) (is : IsSeat t seat) (name : LockName)
     (holders : Holders) (its : holders ≡ holders_of slots name) (new_holders : Holders) (new : List Slot)
@@ -189,10 +180,3 @@ module _ (slots : List Slot) (t : Table) (looked : ℕ) (sound : IsSoundTable sl
         let empty : held t seat name ≡ None = ap (λ (locks : List Lock). kind_of locks name) (sound.begun none seat) in
         absurd cc;
   }
-
-pub IsSoundTable-empty : (slots : List Slot) (seats looked : ℕ) → 1 ≤ seats → seats ≤ MAX_SEATS →
-    ((name : LockName) → holders_of slots name ≡ nobody) → IsSoundTable slots (replicate seats []) looked
-IsSoundTable-empty slots seats looked some few none = record {
-  tied = IsTied-empty slots seats some few none;
-  begun = λ first seat. row_of-empty seats seat;
-}

@@ -6,10 +6,10 @@ use Rattle.page_locks.specs.declared.lock.LockKind.{LockKind}
 use Rattle.page_locks.specs.declared.lock.LockKind.TheVariants.{Read, Selective, Exclusive}
 use Rattle.page_locks.specs.declared.lock.LockName.{LockName}
 use Rattle.page_locks.specs.Locks.{compatible, is_against, is_same, kind_of}
-use Rattle.page_locks.specs.Table.{Table, IsSeat, row_of, with_lock, without_lock, with_kind, held, IsPairwiseCompatible, IsOpposed, IsFree}
-use Rattle.page_locks.specs.Writers.{may_write, IsWriter, HasNoWriter, HasOneWriter, ChangesOnly}
+use Rattle.page_locks.specs.Table.{Table, IsSeat, row_of, with_lock, with_kind, held, IsPairwiseCompatible, IsOpposed, IsFree}
+use Rattle.page_locks.specs.Writers.{may_write, HasNoWriter, HasOneWriter, ChangesOnly}
 use Rattle.page_locks.proofs.NameLemmas.{is_same-itself, is_same-true}
-use Rattle.page_locks.proofs.ChangeLemmas.{ChangesOnly-grant, ChangesOnly-release, ChangesOnly-convert, held-release, held-convert}
+use Rattle.page_locks.proofs.ChangeLemmas.{ChangesOnly-grant, ChangesOnly-convert, held-convert}
 
 -- what two seats hold of one name
 abbrev GoTogether : Option LockKind → Option LockKind → Type 0
@@ -38,14 +38,6 @@ one_writer t name pairs i j w v = elim (cases_eq i j) [
   | inr apart ↦ absurd (two_writers (held t i name) (held t j name) (λ k l. pairs i j name k l apart) w v)
 ]
 
--- beside a writer no other seat may write
-pub no_other_writer : (t : Table) (name : LockName) (seat other : ℕ) → IsPairwiseCompatible t → IsWriter t seat name →
-    other ≢ seat → may_write (held t other name) ≡ false
-no_other_writer t name seat other pairs w apart = elim (cases_Bool (may_write (held t other name))) [
-  | inl v ↦ absurd (apart (one_writer t name pairs other seat v w))
-  | inr none ↦ none
-]
-
 -- beside an exclusive holder no other seat holds the name
 nothing_beside : (theirs : Option LockKind) → GoTogether (Some Exclusive) theirs → theirs ≡ None
 nothing_beside None go = refl
@@ -61,13 +53,6 @@ read_beside (Some Read) l go is = cc
 read_beside (Some Selective) l go is = absurd (true≢false (sym (go Selective Selective refl refl)))
 read_beside (Some Exclusive) l go is = absurd (true≢false (sym (go Selective Exclusive refl refl)))
 
--- beside a reader no other seat is exclusive
-shared_beside : (theirs : Option LockKind) → GoTogether (Some Read) theirs → theirs ≢ Some Exclusive
-shared_beside None go is = cc
-shared_beside (Some Read) go is = cc
-shared_beside (Some Selective) go is = cc
-shared_beside (Some Exclusive) go is = true≢false (sym (go Read Exclusive refl refl))
-
 module _ (t : Table) (pairs : IsPairwiseCompatible t) (seat other : ℕ) (name : LockName) (apart : other ≢ seat) where
   together : (k : LockKind) → held t seat name ≡ Some k → GoTogether (Some k) (held t other name)
   together k mine k' l is theirs = pairs seat other name k' l (λ e. apart (sym e)) (mine ∙ is) theirs
@@ -77,9 +62,6 @@ module _ (t : Table) (pairs : IsPairwiseCompatible t) (seat other : ℕ) (name :
 
   pub beside_selective : (l : LockKind) → held t seat name ≡ Some Selective → held t other name ≡ Some l → l ≡ Read
   beside_selective l mine theirs = read_beside (held t other name) l (together Selective mine) theirs
-
-  pub beside_reader : held t seat name ≡ Some Read → held t other name ≢ Some Exclusive
-  beside_reader mine = shared_beside (held t other name) (together Read mine)
 
 -- a seat that nobody opposes is free to hold the name
 pub IsFree-unopposed : (t : Table) (seat : ℕ) (name : LockName) (kind : LockKind) →
@@ -115,10 +97,6 @@ alone (Some Read) free = absurd cc
 alone (Some Selective) free = absurd cc
 alone (Some Exclusive) free = absurd cc
 
-pub free_alone : (t : Table) (seat other : ℕ) (name : LockName) → IsFree t seat name Exclusive → other ≢ seat →
-    held t other name ≡ None
-free_alone t seat other name free apart = alone (held t other name) (free other apart)
-
 -- a change at one name makes no writer of another, and takes none away
 module _ (seat : ℕ) (name : LockName) (old new : Table) (changes : ChangesOnly seat name old new) where
   pub held-kept : (i : ℕ) (n : LockName) → name ≢ n → held new i n ≡ held old i n
@@ -127,9 +105,6 @@ module _ (seat : ℕ) (name : LockName) (old new : Table) (changes : ChangesOnly
         ap (λ (x : ℕ). held new x n) same ∙ changes.names n other ∙ ap (λ (x : ℕ). held old x n) (sym same)
     | inr apart ↦ ap (λ (row : List Lock). kind_of row n) (changes.rows i apart)
   ]
-
-  pub HasNoWriter-kept : (n : LockName) → name ≢ n → HasNoWriter old n → HasNoWriter new n
-  HasNoWriter-kept n other none i = ap may_write (held-kept i n other) ∙ none i
 
   pub HasNoWriter-before : (n : LockName) → name ≢ n → HasNoWriter new n → HasNoWriter old n
   HasNoWriter-before n other none i = ap may_write (sym (held-kept i n other)) ∙ none i
@@ -169,17 +144,6 @@ module _ (t : Table) (seat : ℕ) (is : IsSeat t seat) (name : LockName) where
     | inr e ↦
         HasNoWriter-before seat name t (with_kind t seat name kind) (ChangesOnly-convert t seat is name kind) n
         (λ same. true≢false (sym (rw (sym same) (is_same-itself name)) ∙ e)) none
-  ]
-
-  -- where the one writer gives the name back, nobody writes
-  pub HasNoWriter-release : IsPairwiseCompatible t → IsWriter t seat name → HasNoWriter (without_lock t seat name) name
-  HasNoWriter-release pairs w i = elim (cases_eq i seat) [
-    | inl same ↦
-        ap (λ (x : ℕ). may_write (held (without_lock t seat name) x name)) same ∙
-        ap may_write (held-release t seat is name)
-    | inr apart ↦
-        let row = (ChangesOnly-release t seat is name).rows i apart in
-        ap (λ (locks : List Lock). may_write (kind_of locks name)) row ∙ no_other_writer t name seat i pairs w apart
   ]
 
 -- where nobody holds a lock, nobody writes

@@ -6,7 +6,7 @@ use Rattle.std.proofs.Math.IntN.{nat_abs}
 use Rattle.std.specs.Ordering.{int_eq}
 use Rattle.std.specs.Option.{option_eq}
 use Rattle.queue_model.specs.declared.message.Message.{Message}
-use Rattle.queue_model.proofs.ListLemmas.{position_None, IsFoundAt-position, find-None}
+use Rattle.queue_model.proofs.ListLemmas.{IsFoundAt-position, find-None}
 use Rattle.queue_model.specs.Found.{IsFoundAt}
 use Rattle.queue_model.specs.Selection.{selects, selected, has_type, lowest_type}
 
@@ -31,10 +31,6 @@ pub position_selects-below : (t : ℤ) (ms : List Message) → int_lt t (pos 0) 
     position (selects t ms) ms ≡ position (has_type (lowest_type (pos (nat_abs t)) ms)) ms
 position_selects-below (pos n) ms below = absurd (grind (arith, ints, below))
 position_selects-below (negsuc n) ms below = refl
-
--- no message has the type of nothing
-pub position_has_type-None : (ms : List Message) → position (has_type None) ms ≡ None
-position_has_type-None ms = position_None (has_type None) ms (λ k d h. refl)
 
 -- whether a message has the type that was found, as the code asks it
 pub has_type-option_eq : (found : Option ℤ) (m : Message) → option_eq int_eq (Some m.mtype) found ≡ has_type found m

@@ -180,9 +180,6 @@ unwrap_at [] i = refl
 unwrap_at (x ∷ xs) zero = refl
 unwrap_at (x ∷ xs) (suc i) = unwrap_at xs i
 
-pub one_behind : (n k : ℕ) → n ≡ k → n + 1 ≡ suc k
-one_behind n k e = omega (arith, e)
-
 -- the types of one message more
 pub types_more : (ms : List Message) (i : ℕ) (m : Message) → i < length ms → slice_index_or ms i m ≡ m →
     types (take (i + 1) ms) ≡ with_type (types (take i ms)) m.mtype

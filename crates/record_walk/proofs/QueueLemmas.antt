@@ -1,5 +1,5 @@
 -- What is read of a queue determines it.
-use Rattle.std.proofs.Common.{ℕ, ◌≡◌, Bool, List, Option, Some, None, Result, Ok, Err, IfOk, IsTrue, ◌↔◌, refl, sym, ap, subst, ◌∙◌, inl, inr}
+use Rattle.std.proofs.Common.{ℕ, ◌≡◌, List, Option, Some, None, ◌↔◌, refl, sym, ap, subst, ◌∙◌, inl, inr}
 use Rattle.std.specs.List.{All}
 use Rattle.queue_records.specs.declared.record.Record.TheVariants as records
 use Rattle.record_walk.specs.Held.{Holds}
@@ -54,12 +54,6 @@ holds_now now old r s same is h =
 pub all_before : (now old : RecordKey → Option (List ℕ)) (rs : List Record) → now ≡ old → All (Holds now) rs →
     All (Holds old) rs
 all_before now old rs same h = subst (λ (held : RecordKey → Option (List ℕ)). All (Holds held) rs) same h
-
--- what is told of the last part is told of the whole
-pub told_whole : {A B : Type 0} (r : Result Bool WalkFault) → IfOk r (λ b. IsTrue b ↔ A) → (A → B) → (B → A) →
-    IfOk r (λ b. IsTrue b ↔ B)
-told_whole (Ok b) h there back = (λ t. there (h.0 t), λ x. h.1 (back x))
-told_whole (Err e) h there back = tt
 
 -- a walk that failed
 pub walk_failed : (now held : RecordKey → Option (List ℕ)) (id : ℕ) (entry : QueueEntry) (fault : WalkFault) →

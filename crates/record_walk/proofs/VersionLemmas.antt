@@ -1,6 +1,6 @@
 -- What a file of a layout holds at a key is what was found there, as of today's.
 use Rattle.std.proofs.Common.{ℕ, ◌≡◌, Bool, true, false, List, Option, Some, None, refl, sym, ap, ◌∙◌}
-use Rattle.record_walk.specs.Versions.{found_by, found_in, held_by, held_in, is_today, today_by, today_in}
+use Rattle.record_walk.specs.Versions.{found_by, found_in, held_by, held_in, is_today, today_in}
 use Rattle.record_walk.specs.LookupWords.{Layout, RecordKey, Store, contents}
 
 found_today : (key : RecordKey) (found : Option (List ℕ)) → found_by true key found ≡ found

@@ -1,6 +1,6 @@
 -- What a device shows after each thing that is done.
-use Rattle.std.proofs.Common.{◌≡◌, ◌≢◌, ◌<◌, ◌≤◌, ◌+◌, ℕ, zero, suc, Bool, true, false, List, [], ◌∷◌, ◌++◌, length, take, set}
-use Rattle.std.proofs.Common.{replicate, slice_get, Some, refl, sym, ◌∙◌, ap, subst, arith, IsTrue, length-set, length-append}
+use Rattle.std.proofs.Common.{◌≡◌, ◌≢◌, ◌<◌, ◌≤◌, ◌+◌, ℕ, Bool, true, false, List, [], ◌∷◌, ◌++◌, length, take, set}
+use Rattle.std.proofs.Common.{slice_get, Some, refl, sym, ◌∙◌, ap, arith, IsTrue, length-set, length-append}
 use Rattle.std.proofs.lemmas.Int.{clamps}
 use Rattle.std.proofs.lemmas.List.{take_all, length-take, length-replicate}
 use Rattle.page_device.specs.Device.{DiffersAtMostAt}

@@ -1,8 +1,8 @@
 -- What each call of a guarded file leaves.
-use Rattle.std.proofs.Common.{◌≡◌, ◌++◌, [], ◌∷◌, ◌≤◌, ◌∙◌, ap, sym, subst, refl, ℕ, List, Bool, true, Some, Option}
+use Rattle.std.proofs.Common.{◌≡◌, ◌++◌, [], ◌∷◌, ◌≤◌, ◌∙◌, ap, sym, subst, refl, ℕ, List, true, Some, Option}
 use Rattle.std.proofs.Common.{length, length-append, length-set, set, arith}
 use Rattle.safe_device.specs.Left.{Left, recovered, recovered_by, added}
-use Rattle.safe_device.specs.Crash.{Appended, TornAt, LongerBy, Elapses, Follows, HasJournal, Keeps, LeavesOnly}
+use Rattle.safe_device.specs.Crash.{Appended, TornAt, LongerBy, Elapses, Follows, LeavesOnly}
 use Rattle.safe_device.specs.Safe.{numbers, first_count, committed, IsSafe, IsSession, StandsFor}
 use Rattle.safe_device.specs.declared.guarded_file.GuardedFile.{GuardedFile}
 use Rattle.safe_device.specs.declared.journal.Journal.{Journal}

@@ -76,13 +76,6 @@ not_met Added file = ([], sym (append-nil file))
 not_met (Cut pages) file =
     let long = pages + length file in (long, omega arith, sym (take_all long file (omega arith)))
 
--- nothing has happened
-pub not_torn : (page : ℕ) (s : Snapshot) → Follows (TornAt page) (MayLeave s) (MayLeave s)
-not_torn page s c now = (c, now, record { file = inl refl; journal = refl })
-
-pub not_longer : (s : Snapshot) → Follows LongerBy (MayLeave s) (MayLeave s)
-not_longer s c now = (c, now, record { file = ([], sym (append-nil c.file)); journal = refl })
-
 pub not_cut : (pages : ℕ) (s : Snapshot) → Follows (CutTo pages) (MayLeave s) (MayLeave s)
 not_cut pages s c now =
     let long = pages + length c.file in
@@ -122,11 +115,6 @@ remove_follows s c now = ⊎_elim written lost now.1
 
     lost : c.journal ≡ s.synced_journal → (d : Left) × MayLeave s d × Removed d c
     lost is = (c, (now.0, inr is), record { file = refl; journal = inl refl })
-
--- a file that is synced has the outcome that a read gives
-pub synced_kept : (s : Snapshot) (c : Left) → MayLeave (record s { synced_file = s.seen_file; changes = [] }) c
-    → MayLeave s c
-synced_kept s c now = (inl (⊎_elim (λ is. is) (λ is. is) now.0), now.1)
 
 keeps : (past : List Snapshot) (s : Snapshot) (c : Left) → MightLeave past c → MightLeave (past ++ s ∷ []) c
 keeps [] s c had = absurd had

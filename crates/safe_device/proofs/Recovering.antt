@@ -1,10 +1,9 @@
 -- What each call of a recovery leaves.
-use Rattle.std.proofs.Common.{◌≡◌, ◌∙◌, ap, inr, refl, subst, List, Option}
+use Rattle.std.proofs.Common.{◌≡◌, ◌∙◌, ap, inr, refl, Option}
 use Rattle.safe_device.specs.Left.{Left, recovered_by}
-use Rattle.safe_device.specs.Crash.{Elapses, Follows, LeavesOnly, Removed}
+use Rattle.safe_device.specs.Crash.{Follows, Removed}
 use Rattle.safe_device.specs.Safe.{committed, IsFoundOrLeft, IsLeftBefore}
 use Rattle.safe_device.specs.declared.journal.Journal.{Journal}
-use Rattle.safe_device.proofs.Moments.{first, joined}
 use Rattle.safe_device.proofs.Restoring.{Pages}
 use Rattle.safe_device.proofs.Sessions.{removed_step, left_earlier}
 

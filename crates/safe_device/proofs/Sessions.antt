@@ -1,5 +1,5 @@
 -- What each call leaves in a session.
-use Rattle.std.proofs.Common.{◌≡◌, ◌⊎◌, inl, inr, ⊎_elim, ℕ, zero, suc, ◌<◌, ◌≤◌, Bool, true, false, List, [], ◌∷◌, ◌++◌, length, take, set, slice_get, Option, Some, None, refl, sym, ◌∙◌, ap, subst, arith, All, Contains, IsTrue, is_some}
+use Rattle.std.proofs.Common.{◌≡◌, ◌⊎◌, inl, inr, ⊎_elim, ℕ, zero, suc, ◌<◌, ◌≤◌, Bool, true, false, List, [], ◌∷◌, ◌++◌, length, take, set, slice_get, Option, Some, None, refl, sym, ◌∙◌, ap, subst, arith, Contains, IsTrue, is_some}
 use Rattle.std.proofs.lemmas.Int.{clamps}
 use Rattle.std.proofs.lemmas.List.Elements.{All-take}
 use Rattle.std.proofs.lemmas.List.{take_all, length-take, map-append}
@@ -276,13 +276,6 @@ found_images (Some j) found is =
 pub found_some : (q : Option Journal) (found : FoundJournal) → Some found ≡ found_of q → IsTrue (is_some q)
 found_some None found is = absurd cc
 found_some (Some j) found is = refl
-
-pub found_restored : (q : Option Journal) (found : FoundJournal) (pages : Pages) → Some found ≡ found_of q
-    → put_back (take found.count pages) (images_of q) ≡ recovered_by q pages
-found_restored None found pages is = absurd cc
-found_restored (Some j) found pages is =
-    let same : found ≡ record { count = j.count; images = length j.images } = cc in
-    ap (λ (n : ℕ). put_back (take n pages) j.images) (ap (λ (f : FoundJournal). f.count) same)
 
 pub before_joined : (first mid : Left → Type 0) (c : Left) → ((d : Left) → mid d → IsLeftBefore first d)
     → IsLeftBefore mid c → IsLeftBefore first c

@@ -32,9 +32,6 @@ page_steps e = omega (
   mod_below (e + 512) 512 (omega arith),
 )
 
-pub page_early : (e : ℕ) → page_of e ≤ e + 1
-page_early e = omega (arith, div-add-mod e 512)
-
 -- the pages of a directory of a depth
 pub page_within : (i depth : ℕ) → depth ≤ 17 → i < 2 ^ depth → page_of i < 257
 page_within i depth shallow below =

@@ -1,7 +1,6 @@
 -- In a sound world no page that a split writes is at fault.
 use Rattle.std.proofs.Common.{◌≡◌, refl, sym, ap, subst, ℕ, zero, suc, ◌+◌, ◌-◌, ◌^◌, ◌≤◌, ◌<◌, ◌==◌, Bool, true, false, if◌then◌else◌, List, [], ◌∷◌, length, inl, inr, arith, add-one}
 use Rattle.std.proofs.lemmas.Bool.{eq-eqb, ne_eqb}
-use Rattle.std.proofs.Math.Nat.{two-pow-succ}
 use Rattle.directory.specs.Links.{met_from}
 use Rattle.directory.proofs.MemberLaws.{contains_head}
 use Rattle.hash_file.specs.Chain.{how_many}
@@ -9,11 +8,11 @@ use Rattle.hash_file.specs.Sound.{IsSoundFile}
 use Rattle.hash_file.specs.Store.{bucket_at, count_at, has_bucket, next_at}
 use Rattle.hash_file.proofs.Roles.{numbered}
 use Rattle.stale_search.specs.file_pages.Headers.{MaySplitCount}
-use Rattle.stale_search.specs.file_pages.Entries.{MayCopy, MayRetarget}
+use Rattle.stale_search.specs.file_pages.Entries.{MayRetarget}
 use Rattle.stale_search.specs.file_pages.Buckets.{IsThere, MaySplit}
 use Rattle.step_rules.specs.Words.{Store, chain}
 use Rattle.step_rules.specs.Known.{AllKnown}
-use Rattle.split_merge.specs.Words.{RecordKey, GREATEST_DEPTH, ROOT_PAGE, World, IsSoundWorld, Change, Taken, Linked, Range, upper_half_of, page_of, CopyDirectory, WriteNew, Retarget, SetCounts}
+use Rattle.split_merge.specs.Words.{RecordKey, GREATEST_DEPTH, ROOT_PAGE, World, IsSoundWorld, Change, Taken, Linked, Range, upper_half_of, page_of, WriteNew, Retarget, SetCounts}
 use Rattle.split_merge.specs.Order.{IsPlaced}
 use Rattle.split_merge.specs.Splits.{SplitView, IsSplit, bucket_facts, facts_at}
 use Rattle.split_merge.proofs.PageLemmas.{page_last}
@@ -52,21 +51,6 @@ module _ (hash : RecordKey → ℕ) (seat : ℕ) (v : SplitView) (inv : IsSplit 
 
   greatest_is : s.layout.greatest ≡ GREATEST_DEPTH
   greatest_is = ap (λ l. l.greatest) laid
-
-  pub may_copy : (new page : ℕ) → AllKnown seat w (facts_at (CopyDirectory new page) v) →
-      IsPlaced v.whole v.depth (CopyDirectory new page) → MayCopy page s
-  may_copy new page known placed =
-      let last = page_last (2 ^ suc v.depth - 1) (suc v.depth)
-      (omega (arith, two-pow-succ v.depth, some v.depth)) (omega (arith, placed.0, inv.shallow)) in
-      record {
-        first = omega (arith, placed.1);
-        last = omega (arith, placed.2, last);
-        shallow = omega (arith, known.1.0.1, placed.0, inv.shallow);
-      }
-    where
-      some : (d : ℕ) → 0 < 2 ^ d
-      some zero = omega arith
-      some (suc d) = omega (arith, two-pow-succ d, some d)
 
   pub may_split : AllKnown seat w (bucket_facts v) → MaySplit v.page s
   may_split known =

@@ -10,21 +10,6 @@ use Rattle.xsi_remove.specs.Works.{Drives, Hears, HearsBy, IsNoMessage, heard_wi
 module _ (hash : RecordKey → ℕ) (seat : ℕ) (did : Progress FileFault) (w w' : Work) (a : AccessView)
     (pool pool' : PoolState) (locks locks' : Table)
     (makes : MakesAccess hash seat did w.access a pool pool' locks locks') where
-  -- nothing was looked at
-  pub drives_quiet : (did ≡ Moved Look → ⊥) → w' ≡ record w { access = a } →
-      Drives hash seat did w w' pool pool' locks locks'
-  drives_quiet quiet is =
-      subst (λ (x : Work). Drives hash seat did w x pool pool' locks locks') (sym is) (inl (record {
-        makes = makes;
-        same = refl;
-        hears = record {
-          quiet = λ _. refl;
-          once = λ _. refl;
-          unanswered = λ none _. none;
-          told = λ m looked none has. absurd (quiet looked);
-        };
-      }))
-
   module _ (looked : did ≡ Moved Look) {X E : Type 0} (result : Result X E)
       (h : Hears result (record w { access = a }) w') where
     access_is : w'.access ≡ a

@@ -29,7 +29,8 @@ loop-slot-preserved c =
     ∙ ap (λ (k : ℕ). entry_in c.args.lower.now (c.first_entry-first.result + c.loop-slot.slot - k))
     c.half_of-half.ensures in
     one_copied c.args.depth c.first_entry-first.result c.loop-slot.slot c.args.lower.now c.args.payload.now
-    c.loop-slot.payload c.put_entry.new.payload from to c.loop-slot.invariant put c.put_entry.ensures.others c.put_entry.ensures.directory
+    c.loop-slot.payload c.put_entry.new.payload from to c.loop-slot.invariant put
+    c.put_entry.ensures.others c.put_entry.ensures.directory
 
 pub returns-clause-ok : goal.returns-clause-ok
 returns-clause-ok c i on =

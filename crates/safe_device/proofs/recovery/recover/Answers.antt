@@ -1,5 +1,5 @@
 -- Until the file is restored a crash leaves what it might have left before, and then what was restored.
-use Rattle.std.proofs.Common.{◌≡◌, ◌∙◌, inr, refl, sym}
+use Rattle.std.proofs.Common.{◌≡◌, ◌∙◌, inr, refl}
 use Rattle.safe_device.specs.Safe.{committed, IsFoundOrLeft, IsLeftBefore}
 use Rattle.safe_device.proofs.Moments.{first, goes_on, joined}
 use Rattle.safe_device.proofs.Recovering.{was_left, was_before, ended_kept, same_committed}

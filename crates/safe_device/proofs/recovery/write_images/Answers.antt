@@ -1,6 +1,6 @@
 -- An image is written over a page that has it.
-use Rattle.std.proofs.Common.{◌≡◌, ◌∙◌, ap, sym, subst, ℕ, List, Option, Some, slice_get, set, take, IsTrue}
-use Rattle.safe_device.specs.Left.{images_of, put_back}
+use Rattle.std.proofs.Common.{◌≡◌, ◌∙◌, ap, sym, subst, ℕ, Option, Some, slice_get, set, IsTrue}
+use Rattle.safe_device.specs.Left.{images_of}
 use Rattle.safe_device.specs.declared.journal.Journal.{Journal}
 use Rattle.safe_device.specs.declared.journal.PageImage.{PageImage}
 use Rattle.safe_device.proofs.Moments.{goes_on}

@@ -1,5 +1,5 @@
 -- What was recovered stands in the file.
-use Rattle.std.proofs.Common.{◌≡◌, ◌∙◌, ap, sym, refl, List, length, IsTrue}
+use Rattle.std.proofs.Common.{◌≡◌, ◌∙◌, ap, sym, refl, List, length}
 use Rattle.safe_device.specs.Device.{content_of}
 use Rattle.safe_device.specs.declared.journal.PageImage.{PageImage}
 use Rattle.safe_device.proofs.DeviceLemmas.{content_opened, opened_synced}

@@ -1,5 +1,5 @@
 -- A page that isn't guarded reads as it was at the last sync.
-use Rattle.std.proofs.Common.{◌≡◌, refl, sym, subst, ℕ, List, Some, slice_get, get_or, All}
+use Rattle.std.proofs.Common.{◌≡◌, refl, sym, subst, ℕ, List, Some, slice_get, get_or}
 use Rattle.std.proofs.lemmas.List.Elements.{All-push}
 use Rattle.safe_device.specs.Safe.{committed}
 use Rattle.safe_device.specs.declared.journal.PageImage.{PageImage}

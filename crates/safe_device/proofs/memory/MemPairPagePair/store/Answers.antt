@@ -2,7 +2,7 @@ use Rattle.std.proofs.Common.{◌≡◌, ◌++◌, [], ◌∷◌, ◌∙◌, ap,
 use Rattle.safe_device.specs.Crash.{Follows, TornAt}
 use Rattle.safe_device.specs.Memory.{MayLeave}
 use Rattle.safe_device.specs.declared.memory.FileChange.{FileChange}
-use Rattle.safe_device.specs.declared.memory.FileChange.TheVariants.{Stored, Added}
+use Rattle.safe_device.specs.declared.memory.FileChange.TheVariants.{Stored}
 use Rattle.safe_device.specs.declared.memory.Snapshot.{Snapshot}
 use Rattle.safe_device.proofs.Kept.{changed, elapses, set_follows}
 use Rattle.safe_device.proofs.Restoring.{Pages}
