@@ -40,8 +40,17 @@ impl Value {
         self.bytes.as_slice()
     }
 
+    /// Becomes these bytes.
+    pub fn set(&mut self, bytes: &[u8])
+        requires { length bytes.now ≤ MAX_VALUE_BYTES }
+        ensures { self.new ≡ bytes.now }
+    {
+        self.clear();
+        self.put_all(bytes);
+    }
+
     /// Takes out all bytes.
-    pub(crate) fn clear(&mut self)
+    pub fn clear(&mut self)
         ensures { self.new ≡ [] }
     {
         self.bytes.clear();

@@ -105,7 +105,8 @@ none_at_look (operations.Replace r) page = refl
 none_at_look (operations.Delete d) page = refl
 
 module _ (seat : ℕ) (pool : PoolState) (ready : IsReady pool) (locks : Table) (seated : IsSeat locks seat)
-    (bare : HasNoFileLock (row_of locks seat)) (room : length (row_of locks seat) + 3 ≤ MAX_LOCKS) (hash : RecordKey → ℕ)
+    (bare : HasNoFileLock (row_of locks seat)) (room : length (row_of locks seat) + 3 ≤ MAX_LOCKS)
+    (hash : RecordKey → ℕ)
   where
     may_at : (b : AccessView) → MayAccess seat (standing access_locks seat pool locks b)
     may_at b = record {

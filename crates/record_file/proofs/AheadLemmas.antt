@@ -14,7 +14,7 @@ use Rattle.step_rules.specs.declared.kind.Kind.{Kind}
 use Rattle.step_rules.specs.declared.kind.Kind.TheVariants as kinds
 use Rattle.record_file.specs.Words.{Table, IsSeat, Lock, LockKind, Page, Selective, IsReady, Moved, Progress, Release, SearchView, EndsRow, HasNoFileLock, found_at, on_page, row_of, search_locks, with_row, without_lock}
 use Rattle.record_file.specs.BucketAccesses.{BucketView, SuitsKind, bucket_locks, locks_in}
-use Rattle.record_file.specs.BucketRuns.{BucketStep, FindsStraight, bucket_at, bucket_found, bucket_stops, bucket_way}
+use Rattle.record_file.specs.BucketRuns.{BucketHeads, BucketStep, FindsStraight, bucket_at, bucket_found, bucket_stops, bucket_way}
 use Rattle.record_file.specs.declared.bucket_access.BucketStage.{BucketStage}
 use Rattle.record_file.specs.declared.bucket_access.BucketStage.TheVariants.{Searching}
 use Rattle.record_file.specs.declared.bucket_access.Deed.{Deed}
@@ -82,7 +82,8 @@ module _ (seat : ℕ) where
       SearchStep seat (Moved kind) old new → BucketStep deed seat (Moved kind) (access_of old) (access_of new)
   move_of_search deed kind old new suits s bytes =
       searches_on deed seat bytes old.pool new.pool old.locks (Moved kind) old.machine new.machine new.locks
-      (none_where (found_at old.machine.place) (λ some. let never = s.aim.ended.1 some in absurd cc)) suits s.reads s.aim
+      (none_where (found_at old.machine.place) (λ some. let never = s.aim.ended.1 some in absurd cc)) suits s.reads
+      s.aim
       s.row s.progress s.step s.answer
 
   -- it locks pages in the same kind all the way
@@ -104,14 +105,12 @@ module _ (seat : ℕ) where
   goes_straight deed pool locks v page found suits moves =
       moves_of_search deed (at v pool locks) (search_stops seat page found (at v pool locks)) suits moves
 
-  pub goes_if : (pool : PoolState) (locks : Table) (v : SearchView) (there : Option (ℕ × Option ℕ)) →
-      IfSome there (λ (t : ℕ × Option ℕ). MovesAlong (SearchStep seat) (at v pool locks)
-      (search_stops seat t.0 t.1 (at v pool locks))) →
-      IfSome there (λ (t : ℕ × Option ℕ). (deed : Deed) → SuitsKind deed v.kind →
-      MovesAlong (BucketStep deed seat) (at (searching v) pool locks)
-      (bucket_way seat t.0 t.1 (at (searching v) pool locks)))
-  goes_if pool locks v None moves = tt
-  goes_if pool locks v (Some t) moves = λ deed suits. goes_straight deed pool locks v t.0 t.1 suits moves
+  pub heads_if : (pool : PoolState) (locks : Table) (v : SearchView) (there : Option ℕ) →
+      IfSome there (λ (page : ℕ). GoesStraight seat page v pool locks) →
+      IfSome there (λ (page : ℕ). BucketHeads seat page (searching v) pool locks)
+  heads_if pool locks v None moves = tt
+  heads_if pool locks v (Some page) moves = λ deed found suits has.
+      goes_straight deed pool locks v page found suits (moves found has)
 
   -- ---- a find
 

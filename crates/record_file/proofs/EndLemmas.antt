@@ -1,5 +1,5 @@
 -- A write that has ended has written.
-use Rattle.std.proofs.Common.{◌≡◌, refl, sym, ap, ◌∙◌, Bool, true, false, Option}
+use Rattle.std.proofs.Common.{◌≡◌, refl, sym, ◌∙◌, Bool, true, false, Option}
 use Rattle.std.proofs.lemmas.Bool.{true≢false}
 use Rattle.record_file.specs.split_merge.declared.merge_place.MergePlace.{MergePlace}
 use Rattle.record_file.specs.Deletes.{IsOver}

@@ -1,5 +1,8 @@
 -- A first try that goes straight to a page without a record of its key: each of its moves is one of the insert.
-use Rattle.std.proofs.Common.{◌≡◌, refl, sym, ap, ◌∙◌, ℕ, None}
+use Rattle.std.proofs.Common.{◌≡◌, refl, sym, ap, ◌∙◌, subst, ℕ, length, Option, None, Some, IfSome, IsSome}
+use Rattle.std.specs.Option.{option_map}
+use Rattle.bucket_page.specs.Records.{lookup}
+use Rattle.hash_file.specs.Store.{records_at}
 use Rattle.std.proofs.lemmas.Bool.{true≢false}
 use Rattle.record_file.specs.stale_search.SearchRuns.{At, HasNoLock, at, standing}
 use Rattle.record_file.specs.stale_search.declared.place.SearchPlace.{SearchPlace}
@@ -7,12 +10,12 @@ use Rattle.record_file.specs.step_rules.Runs.{MovesAlong}
 use Rattle.record_file.specs.step_rules.declared.kind.Kind.{Kind}
 use Rattle.record_file.specs.Words.{found_at}
 use Rattle.record_file.specs.BucketAccesses.{bucket_locks}
-use Rattle.record_file.specs.BucketRuns.{BucketStep, bucket_at, bucket_way}
+use Rattle.record_file.specs.BucketRuns.{BucketHeads, BucketStep, bucket_at, bucket_way}
 use Rattle.record_file.specs.declared.bucket_access.BucketStage.TheVariants.{Searching}
 use Rattle.record_file.specs.declared.bucket_access.Deed.TheVariants as deeds
 use Rattle.record_file.specs.declared.insert.InsertStage.TheVariants.{First}
 use Rattle.record_file.specs.Inserts.{InsertView, IsFirstAt, is_there}
-use Rattle.record_file.specs.OperationRuns.{GoesToPage, OperationStep}
+use Rattle.record_file.specs.OperationRuns.{GoesToPage, OperationHeads, OperationStep}
 use Rattle.record_file.specs.OperationWords.{BucketView, Insert, Moved, PoolState, RecordKey, RecordOperation, Table, store_of}
 use Rattle.record_file.proofs.AheadLemmas.{along_way, holds_selective}
 use Rattle.record_file.proofs.InsertLemmas.{says_on}
@@ -34,7 +37,7 @@ module _ (seat : ℕ) (key : RecordKey) (k : ℕ) where
       (says_on hash seat key k bytes old.pool new.pool old.locks new.locks (Moved kind) old.machine new.machine None inv
       (moves bytes))
 
-  module _ (t : BucketView) (inv : IsFirstAt key k t None) (searches : t.stage ≡ Searching) where
+  module _ (t : BucketView) (inv : IsFirstAt key k t None) where
     -- on its way no page has answered
     still_first : (place : SearchPlace) → found_at place ≡ None → IsFirstAt key k (bucket_at place t) None
     still_first place none = record {
@@ -45,10 +48,10 @@ module _ (seat : ℕ) (key : RecordKey) (k : ℕ) where
       going = inv.going;
     }
 
-    pub insert_goes : (pool : PoolState) (locks : Table) (page : ℕ) → HasNoLock (bucket_locks t) →
+    insert_goes : (pool : PoolState) (locks : Table) (page : ℕ) → t.stage ≡ Searching → HasNoLock (bucket_locks t) →
         MovesAlong (BucketStep deeds.Put seat) (at t pool locks) (bucket_way seat page None (at t pool locks)) →
         GoesToPage seat page None (Insert (trying t)) pool locks
-    insert_goes pool locks page none moves = record {
+    insert_goes pool locks page searches none moves = record {
       bare = none;
       holds = holds_selective t page None searches inv.kind_is;
       lacks = refl;
@@ -61,3 +64,15 @@ module _ (seat : ℕ) (key : RecordKey) (k : ℕ) where
           (standing bucket_locks seat pool locks (bucket_at place t)) new (still_first place unseen) made)
           moves;
     }
+
+    pub insert_heads : (pool : PoolState) (locks : Table) (there : Option ℕ) → (IsSome there → t.stage ≡ Searching) →
+        (IsSome there → HasNoLock (bucket_locks t)) →
+        IfSome there (λ (page : ℕ). BucketHeads seat page t pool locks) →
+        IfSome there (λ (page : ℕ). OperationHeads seat page (Insert (trying t)) pool locks)
+    insert_heads pool locks None searches none heads = tt
+    insert_heads pool locks (Some page) searches none heads = λ found stands lacks.
+        let here : None ≡ option_map length (lookup t.search.key (records_at (store_of pool.images) page)) =
+        sym lacks ∙ stands ∙ ap (λ (of : RecordKey). option_map length (lookup of (records_at (store_of pool.images) page)))
+        (sym inv.key_is) in
+        subst (λ (f : Option ℕ). GoesToPage seat page f (Insert (trying t)) pool locks) (sym lacks)
+        (insert_goes pool locks page (searches refl) (none refl) (heads deeds.Put None inv.kind_is here))

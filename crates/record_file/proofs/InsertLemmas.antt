@@ -12,7 +12,7 @@ use Rattle.record_file.specs.declared.bucket_access.BucketStage.{BucketStage}
 use Rattle.record_file.specs.declared.bucket_access.Deed.TheVariants as deeds
 use Rattle.record_file.proofs.StepLemmas.{ended_is, fault_spares}
 use Rattle.split_merge.proofs.of_stale_search.StayLemmas.{Stays-of}
-use Rattle.record_file.specs.InsertWords.{RecordKey, Pair, pair, Put, Known, Ask, Turn, PoolState, Table, Lock, Change, Progress, Moved, Blocked, Fault, Ended, World, is_fault, HasNoFileLock, Owns, row_of, with_row, store_of, Stays, Tells, WritesOrSpares, world, Sees, Step, Tried, IsPut, IsThere}
+use Rattle.record_file.specs.InsertWords.{RecordKey, Pair, pair, Put, Known, Ask, Turn, PoolState, Table, Lock, Change, Progress, Moved, Blocked, Fault, Ended, World, is_fault, HasNoFileLock, Owns, row_of, with_row, store_of, Stays, Tells, world, Sees, Step, Tried, IsPut, IsThere}
 use Rattle.record_file.specs.SecondSteps.{IsSeenThere, MakesStep, NearsOrSpares, SaysAt}
 use Rattle.record_file.specs.SecondTries.{SecondTryView, said_at, second_facts, second_turn}
 use Rattle.record_file.specs.Inserts.{InsertView, IsFirstAt, IsSecondAt, SECOND_STEPS, is_there}
@@ -119,7 +119,14 @@ module _ (hash : RecordKey → ℕ) (seat : ℕ) (key : RecordKey) (k : ℕ) (va
     goes_on said' stays says = record {
       writes = made.writes.writes;
       cause = made.cause;
-      aim = record { key = refl; pseudokey = refl; ended = made.aim.ended; stays = stays; goes = tt; lent = λ lent. tt };
+      aim = record {
+        key = refl;
+        pseudokey = refl;
+        ended = made.aim.ended;
+        stays = stays;
+        goes = tt;
+        lent = λ lent. tt;
+      };
       row = made.row;
       progress = λ change keyed sees. nears_on change sees;
       step = puts;

@@ -9,10 +9,9 @@ use Rattle.record_file.specs.step_rules.Runs.{MovesAlong}
 use Rattle.record_file.specs.step_rules.declared.kind.Kind.{Kind}
 use Rattle.record_file.specs.Words.{LockKind, SearchView, Selective, on_page, search_locks}
 use Rattle.record_file.specs.BucketAccesses.{SuitsKind, bucket_locks, ended_in, has_ended}
-use Rattle.record_file.specs.BucketRuns.{BucketStep, bucket_at, bucket_stops, bucket_way}
+use Rattle.record_file.specs.BucketRuns.{BucketHeads, BucketStep, bucket_at, bucket_stops, bucket_way}
 use Rattle.record_file.specs.declared.bucket_access.BucketStage.{BucketStage}
 use Rattle.record_file.specs.declared.bucket_access.BucketStage.TheVariants.{Searching}
-use Rattle.record_file.specs.declared.bucket_access.Deed.{Deed}
 use Rattle.record_file.specs.declared.bucket_access.Deed.TheVariants as deeds
 use Rattle.record_file.specs.Deletes.{IsBegun}
 use Rattle.record_file.proofs.AheadLemmas.{along_way, holds_selective}
@@ -20,13 +19,8 @@ use Rattle.record_file.proofs.KindLemmas.{find_makes, replace_makes}
 use Rattle.record_file.proofs.RemovalLemmas.{removal_makes}
 use Rattle.record_file.proofs.StepLemmas.{as_searching, searching}
 use Rattle.record_file.proofs.of_step_rules.RunLemmas.{lifted}
-use Rattle.record_file.specs.OperationRuns.{GoesToPage, OperationStep, operation_stops}
+use Rattle.record_file.specs.OperationRuns.{GoesToPage, OperationHeads, OperationStep, operation_stops}
 use Rattle.record_file.specs.OperationWords.{BucketView, Delete, DeleteView, Find, Moved, PoolState, RecordOperation, Replace, Table, store_of}
-
--- what an access within one bucket tells of its way to a page
-abbrev Goes : ℕ → BucketView → PoolState → Table → Option (ℕ × Option ℕ) → Type 0
-Goes seat b pool locks there = IfSome there (λ (t : ℕ × Option ℕ). (deed : Deed) → SuitsKind deed b.search.kind →
-    MovesAlong (BucketStep deed seat) (at b pool locks) (bucket_way seat t.0 t.1 (at b pool locks)))
 
 module _ (seat : ℕ) where
   -- ---- a find
@@ -59,19 +53,20 @@ module _ (seat : ℕ) where
       replace_makes hash seat bytes (Moved kind) old.pool new.pool old.locks new.locks old.machine new.machine
       (moves bytes)
 
-  pub replace_goes : (pool : PoolState) (locks : Table) (r : BucketView) (there : Option (ℕ × Option ℕ)) →
+  pub replace_heads : (pool : PoolState) (locks : Table) (r : BucketView) (there : Option ℕ) →
       SuitsKind deeds.Replace r.search.kind → (IsSome there → r.stage ≡ Searching) →
-      (IsSome there → HasNoLock (bucket_locks r)) → Goes seat r pool locks there →
-      IfSome there (λ (t : ℕ × Option ℕ). GoesToPage seat t.0 t.1 (Replace r) pool locks)
-  replace_goes pool locks r None suits searches none moves = tt
-  replace_goes pool locks r (Some t) suits searches none moves = record {
+      (IsSome there → HasNoLock (bucket_locks r)) →
+      IfSome there (λ (page : ℕ). BucketHeads seat page r pool locks) →
+      IfSome there (λ (page : ℕ). OperationHeads seat page (Replace r) pool locks)
+  replace_heads pool locks r None suits searches none heads = tt
+  replace_heads pool locks r (Some page) suits searches none heads = λ found stands lacks. record {
     bare = none refl;
-    holds = holds_selective r t.0 t.1 (searches refl) suits;
+    holds = holds_selective r page found (searches refl) suits;
     lacks = tt;
     goes_on = λ over.
         true≢false (sym over ∙ ap (λ (stage : BucketStage). has_ended stage) (searches refl));
     moves = lifted (BucketStep deeds.Replace seat) (OperationStep seat) replace_of move_of_replace (at r pool locks)
-        (bucket_way seat t.0 t.1 (at r pool locks)) (moves deeds.Replace suits);
+        (bucket_way seat page found (at r pool locks)) (heads deeds.Replace found suits stands);
   }
 
   -- ---- a delete, whose merge waits
@@ -109,15 +104,16 @@ module _ (seat : ℕ) where
           moves;
     }
 
-    pub delete_goes : (pool : PoolState) (locks : Table) (r : BucketView) (there : Option (ℕ × Option ℕ)) →
+    pub delete_heads : (pool : PoolState) (locks : Table) (r : BucketView) (there : Option ℕ) →
         SuitsKind deeds.Remove r.search.kind → (IsSome there → r.stage ≡ Searching) →
-        (IsSome there → HasNoLock (bucket_locks r)) → Goes seat r pool locks there →
-        IfSome there (λ (t : ℕ × Option ℕ). GoesToPage seat t.0 t.1 (Delete (removing r)) pool locks)
-    delete_goes pool locks r None suits searches none moves = tt
-    delete_goes pool locks r (Some t) suits searches none moves =
+        (IsSome there → HasNoLock (bucket_locks r)) →
+        IfSome there (λ (page : ℕ). BucketHeads seat page r pool locks) →
+        IfSome there (λ (page : ℕ). OperationHeads seat page (Delete (removing r)) pool locks)
+    delete_heads pool locks r None suits searches none heads = tt
+    delete_heads pool locks r (Some page) suits searches none heads = λ found stands lacks.
         let is = as_searching r (searches refl) in
-        subst (λ (b : BucketView). GoesToPage seat t.0 t.1 (Delete (removing b)) pool locks) (sym is)
-        (removes_straight pool locks r.search t.0 t.1 suits
+        subst (λ (b : BucketView). GoesToPage seat page found (Delete (removing b)) pool locks) (sym is)
+        (removes_straight pool locks r.search page found suits
         (subst (λ (b : BucketView). HasNoLock (bucket_locks b)) is (none refl))
         (subst (λ (b : BucketView). MovesAlong (BucketStep deeds.Remove seat) (at b pool locks)
-        (bucket_way seat t.0 t.1 (at b pool locks))) is (moves deeds.Remove suits)))
+        (bucket_way seat page found (at b pool locks))) is (heads deeds.Remove found suits stands)))

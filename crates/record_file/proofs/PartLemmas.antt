@@ -56,12 +56,6 @@ is_over (Written n due) place is = absurd cc
 is_over (HasEnded true) place is = refl
 is_over (HasEnded false) place is = absurd (let f : false ≡ true = cc in cc)
 
-pub is_over_now : (stage : BucketStage) (place : MergePlace) → ended_in stage ≡ Some false → IsOver stage place
-is_over_now Searching place is = absurd cc
-is_over_now (Written n due) place is = absurd cc
-is_over_now (HasEnded true) place is = absurd (let f : true ≡ false = cc in cc)
-is_over_now (HasEnded false) place is = tt
-
 -- a merge that has not begun holds and knows nothing
 module _ (m : MergeView) (begun : IsBegun m) where
   pub begun_locks : (before : List Lock) → merge_locks m before ≡ before

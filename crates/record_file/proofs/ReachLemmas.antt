@@ -27,7 +27,8 @@ front_taken pool ready (operations.Replace r) replace links old_bytes bytes writ
     let o : RecordOperation = operations.Replace (bucket_at (Found page (Some len)) r) in
     record {
       is = refl;
-      takes = front_takes o links old_bytes written page len refl tt pool pool tt bytes (untouched pool ready) size within
+      takes = front_takes o links old_bytes written page len refl tt pool pool tt bytes (untouched pool ready) size
+          within
           (λ q honest such value. front q such value);
     }
 front_taken pool ready (operations.Find f) replace links old_bytes bytes written page len size within front =

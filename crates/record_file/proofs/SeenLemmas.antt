@@ -11,9 +11,9 @@ use Rattle.split_merge.specs.stale_search.Searches.{AnswersFor, IsLed, KeepsAim,
 use Rattle.split_merge.specs.stale_search.Rows.{on_page}
 use Rattle.split_merge.proofs.of_stale_search.RowLemmas.{page_on}
 use Rattle.record_file.specs.Words.{RecordKey, PoolState, Table, Lock, Selective, Page, Change, Store, row_of, kind_of, lookup, records_at, Progress, Moved, Look, WriteRecord, World, Turn, Known, LeadsTo, OnPage, Covering, AllKnown, IsSoundWorld, world, Sees, Step, HasNoFileLock, LockKind, SearchView, search_facts, search_locks, found_at}
-use Rattle.record_file.specs.Machines.{FindsAt, Tells}
+use Rattle.record_file.specs.Machines.{Tells}
 use Rattle.record_file.specs.Writers.{seen_at, seen_of}
-use Rattle.record_file.proofs.AnswerLemmas.{tells, told}
+use Rattle.record_file.proofs.AnswerLemmas.{tells}
 
 -- no page has answered
 pub none_found : (v : SearchView) → found_at v.place ≡ None → IsSome (found_at v.place) → ⊥
@@ -153,11 +153,3 @@ module _ (hash : RecordKey → ℕ) (seat : ℕ) (pool : PoolState) (locks : Tab
       locks' change) (sym aim.key)
       (subst (λ (k : ℕ). Step hash seat turn did (seen_at v'.place v.key k) pool pool' locks locks' change)
       (sym aim.pseudokey) done)
-
-  pub seen_told : (did : Progress FileFault) (v' : SearchView) → hash v.key ≡ v.pseudokey →
-      AnswersFor hash seat did v.key v.place v'.place (world pool.images locks change) →
-      FindsAt hash seat did v.key (found_at v.place) (found_at v'.place) (world pool.images locks change)
-  seen_told did v' keyed answers =
-      told hash seat did v.key (world pool.images locks change) sees_search.sound v.place v'.place
-      (subst (λ (k : ℕ). AllKnown seat (world pool.images locks change) (facts_at v.place k)) (sym keyed)
-      sees_search.known) answers

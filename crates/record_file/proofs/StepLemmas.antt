@@ -167,7 +167,8 @@ module _ (deed : Deed) (seat : ℕ) (bytes : List ℕ) (pool pool' : PoolState) 
     progress = λ hash change suits sees. nears_on did (steps_behind deed) (steps_left v (store_of pool.images))
         (steps_left v' (store_of pool'.images)) pool pool'
         (near hash change (as_search hash seat pool locks change v deed none sees));
-    step = λ hash change before bare owns here suits sees fine. by deed hash change before bare kind owns here sees fine;
+    step = λ hash change before bare owns here suits sees fine. by deed hash change before bare kind owns here sees
+        fine;
     answer = λ hash change keyed sees fine.
         let plain = as_search hash seat pool locks change v deed none sees in
         let old : World = world pool.images locks change in (
@@ -313,7 +314,8 @@ module _ (deed : Deed) (seat : ℕ) (bytes : List ℕ) (pool pool' : PoolState) 
         step = λ hash change before bare owns row suits sees fine.
             let own = owns_as deed hash before v writer owns in
             wrote hash change before bare own.0 own.1
-            (page_row_selective v page found at kind (row_of locks seat) before row) suits (seen_there hash change sees);
+            (page_row_selective v page found at kind (row_of locks seat) before row) suits
+            (seen_there hash change sees);
         answer = λ hash change keyed sees fine. (inl refl, tells hash change keyed (seen_there hash change sees));
       }
         where

@@ -1,5 +1,5 @@
 -- What a find and a relink take from the page that answered.
-use Rattle.std.proofs.Common.{◌≡◌, refl, sym, ap, ◌∙◌, subst, ℕ, ◌<◌, ◌≤◌, Bool, true, false, List, length, Option, Some, None, IfSome, IsTrue, Ok, Err, arith}
+use Rattle.std.proofs.Common.{◌≡◌, refl, sym, ap, ◌∙◌, subst, ℕ, ◌<◌, ◌≤◌, Bool, true, false, List, length, Option, Some, IfSome, IsTrue, Ok, Err, arith}
 use Rattle.std.specs.Option.{option_map}
 use Rattle.file_pages.specs.Reads.{OnlyReads}
 use Rattle.file_pages.specs.Fault.{FileHasCause, IsDevicesFault}
@@ -103,36 +103,6 @@ module _ (o : RecordOperation) (links : Option Links) (old_bytes bytes : List �
               spells),
         );
   }
-
-  pub value_fails : {X : Type 0} (fault : FileFault) → OnlyReads false pool pool' → FileHasCause pool pool' fault →
-      ((r : Record) → SeesBucket page pool → value_on pool page (operation_key o) ≡ Some (value_of r) →
-      len ≡ length (value_of r) → SpellsRecord r (operation_key o) (value_of r) → IsDevicesFault pool pool' fault) →
-      Takes {X = X} (Err fault) pool pool' old new
-  value_fails fault reads cause why = record {
-    reads = reads;
-    cause = cause;
-    operation = refl;
-    written = refl;
-    serves = serves_find;
-    rests = λ none. let both = sym none ∙ at in absurd cc;
-    suits = λ fine. absurd cc;
-    tells = λ p found page' len' here serves shown was.
-        let is = finds_only p o (page, Some len) finds serves.kind in
-        let same = same_parts page page' (Some len) len' (sym at ∙ here) in
-        let value : value_on pool page (operation_key o) ≡ option_map value_of found =
-        ap (λ (n : ℕ). value_on pool n (operation_key o)) same.0 ∙ shown.holds in
-        let sees = subst (λ (n : ℕ). SeesBucket n pool) (sym same.0) shown.sees in
-        let length_is : Some len ≡ option_map length (option_map value_of found) =
-        same.1 ∙ shown.length_is ∙ ap (option_map length) shown.holds in
-        (subst IsReader (sym is.1) tt, by found value sees length_is shown.spelled);
-  }
-    where
-      by : (found : Option Record) → value_on pool page (operation_key o) ≡ option_map value_of found →
-          SeesBucket page pool → Some len ≡ option_map length (option_map value_of found) →
-          IfSome found (λ (r : Record). SpellsRecord r (operation_key o) (value_of r)) →
-          IsDevicesFault pool pool' fault
-      by None value sees long spells = absurd cc
-      by (Some r) value sees long spells = why r sees value (some_of len (length (value_of r)) long) spells
 
 -- ---- a relink
 

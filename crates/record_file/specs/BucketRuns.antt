@@ -7,7 +7,7 @@ use Rattle.split_merge.specs.stale_search.declared.place.SearchPlace.{SearchPlac
 use Rattle.split_merge.specs.stale_search.declared.place.SearchPlace.TheVariants.{Found}
 use Rattle.step_rules.specs.Runs.{MovesAlong, Stop, stop, stops_in}
 use Rattle.record_file.specs.Words.{PoolState, Progress, Release, Table, store_of}
-use Rattle.record_file.specs.BucketAccesses.{BucketView, bucket_locks}
+use Rattle.record_file.specs.BucketAccesses.{BucketView, SuitsKind, bucket_locks}
 use Rattle.record_file.specs.BucketSteps.{MakesBucket}
 use Rattle.record_file.specs.declared.bucket_access.BucketStage.TheVariants.{Ended as HasEnded}
 use Rattle.record_file.specs.declared.bucket_access.Deed.{Deed}
@@ -35,6 +35,12 @@ bucket_way seat page found old =
 abbrev pub bucket_stops : ℕ → (page : ℕ) → Option ℕ → At BucketView → List (Stop (At BucketView))
 bucket_stops seat page found old = bucket_way seat page found old
     ++ stop Release (at (bucket_found page found old.machine) old.pool old.locks) ∷ []
+
+-- whatever its deed, it moves to where the page answers what it has
+abbrev pub BucketHeads : ℕ → (page : ℕ) → BucketView → PoolState → Table → Type 0
+BucketHeads seat page b pool locks = (deed : Deed) (found : Option ℕ) → SuitsKind deed b.search.kind →
+    HasAt page found b.search pool →
+    MovesAlong (BucketStep deed seat) (at b pool locks) (bucket_way seat page found (at b pool locks))
 
 -- a find moves to where the page answers what it has, and gives it back
 abbrev pub FindsStraight : ℕ → (page : ℕ) → BucketView → PoolState → Table → Type 0

@@ -1,5 +1,8 @@
 -- A find that is made in one go, and the way of a write to its page: their states. docs/STEPS.md, "Search".
-use Rattle.std.specs.Prelude.{ℕ, ◌≡◌, List, [], ◌∷◌, ◌++◌, Option, None, ⊤}
+use Rattle.std.specs.Prelude.{ℕ, ◌≡◌, List, [], ◌∷◌, ◌++◌, length, Option, None, ⊤}
+use Rattle.std.specs.Option.{option_map}
+use Rattle.bucket_page.specs.Records.{lookup}
+use Rattle.hash_file.specs.Store.{records_at}
 use Rattle.record_file.specs.file_pages.declared.fault.FileFault.{FileFault}
 use Rattle.record_file.specs.BucketRuns.{bucket_at, bucket_found}
 use Rattle.record_file.specs.stale_search.SearchRuns.{At, HasNoLock, at, standing, way_to}
@@ -12,7 +15,7 @@ use Rattle.record_file.specs.Words.{on_page}
 use Rattle.record_file.specs.declared.insert.InsertStage.{InsertStage}
 use Rattle.record_file.specs.declared.insert.InsertStage.TheVariants.{First, Second}
 use Rattle.record_file.specs.OperationSteps.{MakesOperation}
-use Rattle.record_file.specs.Operations.{HasEnded, operation_locks}
+use Rattle.record_file.specs.Operations.{HasEnded, operation_key, operation_locks}
 
 -- a step, at whatever pseudokeys, and whatever bytes are lent to it
 abbrev pub OperationStep : ℕ → Progress FileFault → (old new : At RecordOperation) → Type 0
@@ -70,3 +73,13 @@ pub record GoesToPage (seat page : ℕ) (found : Option ℕ) (o : RecordOperatio
   -- the write is still to be made
   pub goes_on : HasEnded (operation_at (Found page found) o) → ⊥
   pub moves : MovesAlong (OperationStep seat) (at o pool locks) (operation_way seat page found (at o pool locks))
+
+-- the page has of the key a value of this length, or none
+abbrev pub StandsAt : (page : ℕ) → Option ℕ → RecordOperation → PoolState → Type 0
+StandsAt page found o pool =
+    found ≡ option_map length (lookup (operation_key o) (records_at (store_of pool.images) page))
+
+-- it does where the page has what it then answers, and of the key of an insert nothing
+abbrev pub OperationHeads : (seat page : ℕ) → RecordOperation → PoolState → Table → Type 0
+OperationHeads seat page o pool locks = (found : Option ℕ) → StandsAt page found o pool → LacksKey found o →
+    GoesToPage seat page found o pool locks

@@ -1,5 +1,5 @@
 -- What is read of the page that answered, and what an access takes of it.
-use Rattle.std.specs.Prelude.{ℕ, ◌≡◌, false, List, length, Option, Some, None, IfErr, IfSome, IsSome, IsTrue, IsOk, Result, Ok, Err, is_ok, ⊤}
+use Rattle.std.specs.Prelude.{ℕ, ◌≡◌, ◌≤◌, false, List, length, Option, Some, None, IfErr, IfSome, IsSome, IsTrue, IsOk, Result, Ok, Err, is_ok, ⊤}
 use Rattle.std.specs.Option.{option_map}
 use Rattle.bucket_page.specs.Records.{lookup}
 use Rattle.file_pages.specs.Fault.{FileHasCause, IsDevicesFault}
@@ -9,9 +9,9 @@ use Rattle.file_pages.specs.Reads.{OnlyReads}
 use Rattle.file_pages.specs.Writes.{IsBucketThere}
 use Rattle.hash_file.specs.Store.{records_at}
 use Rattle.record_file.specs.declared.operation.RecordOperation.TheVariants as operations
-use Rattle.record_file.specs.AccessWords.{RecordKey, RecordOperation, PoolState, store_of, operation_found, HasSuch, Record, SpellsRecord, value_of, Replace, Relink, Delete}
+use Rattle.record_file.specs.AccessWords.{RecordKey, RecordOperation, PoolState, store_of, operation_found, HasSuch, Links, Record, SpellsRecord, linked_bytes, value_of, Replace, Relink, Delete}
 use Rattle.record_file.specs.Purposes.{CanBeOn, Purpose, ToFind, ToInsert, ToWrite}
-use Rattle.record_file.specs.Accesses.{AccessView, AllowsInsert, FitsWrite, HasFound, Serves, access_key}
+use Rattle.record_file.specs.Accesses.{AccessView, AllowsInsert, FitsWrite, HasFound, IsFrontOf, Serves, access_key}
 use Rattle.record_file.specs.AccessSteps.{SuitsFound}
 
 -- what the bucket on a page has of a key
@@ -42,6 +42,12 @@ pub record IsShown (page : ℕ) (len : Option ℕ) (pool : PoolState) (key : Rec
     pub holds : value_on pool page key ≡ option_map value_of found
     pub length_is : len ≡ option_map length (value_on pool page key)
     pub spelled : IfSome found (λ (r : Record). SpellsRecord r key (value_of r))
+
+-- the front of this value, with the links set in it
+pub record HasFrontSet (value : List ℕ) (links : Links) (bytes : List ℕ) : Type 0 where
+  pub long : linked_bytes links ≤ length value
+  pub whole : length bytes ≡ linked_bytes links
+  pub set : (r : Record) → HasSuch links (Some r) → value ≡ value_of r → IsFrontOf links bytes r
 
 abbrev pub IsReplace : RecordOperation → Type 0
 IsReplace (operations.Replace r) = ⊤

@@ -1,6 +1,6 @@
 //! The access.
 
-ghost use Rattle.std.specs.Prelude.{◌≡◌, ◌≢◌, ◌≤◌, ◌↔◌, Option, None, Some, not, true, false, length};
+ghost use Rattle.std.specs.Prelude.{◌≡◌, ◌≢◌, ◌≤◌, ◌↔◌, [], Option, None, Some, not, true, false, length};
 ghost use Rattle.queue_records.specs.declared.layout.TheConstants.{MAX_VALUE_BYTES};
 ghost use Rattle.queue_records.specs.Range.{IsInRange};
 ghost use Rattle.xsi_inquiry.specs.Writing.{HasRange};
@@ -34,15 +34,14 @@ pub struct Access {
     key: RecordKey,
     operation: RecordOperation,
     links: Option<Links>,
-    bytes: [u8; MAX_VALUE_BYTES],
-    len: usize,
+    value: Value,
     written: bool,
 }
 
 const _: () = prove!(size_of::<Access>() <= 1600);
 
 impl Model for Access {
-    ghost use Rattle.std.specs.Prelude.{take};
+    ghost use Rattle.std.specs.Prelude.{length};
     ghost use Rattle.record_file.specs.Accesses.{AccessView, IsAccess};
 
     ghost Value = { AccessView };
@@ -50,11 +49,11 @@ impl Model for Access {
     ghost view = { λ a. record {
       operation = a.operation;
       links = a.links;
-      bytes = take a.len a.bytes;
+      bytes = a.value;
       written = a.written;
     } };
 
-    ghost invariant = { λ a. IsAccess a.key a.len a.operation };
+    ghost invariant = { λ a. IsAccess a.key (length a.value) a.operation };
 }
 
 impl Access {
@@ -67,8 +66,7 @@ impl Access {
             key,
             operation: RecordOperation::find(key, pseudokey),
             links: None,
-            bytes: [0; MAX_VALUE_BYTES],
-            len: 0,
+            value: Value::new(),
             written: false,
         }
     }
@@ -100,7 +98,7 @@ impl Access {
         ensures value { self.new ≡ begun (ToFind key) pseudokey }
         ensures serves { Serves (ToFind key) self.new }
     {
-        self.begin_again(key, RecordOperation::find(key, pseudokey), None, &[]);
+        self.begin_again(key, RecordOperation::find(key, pseudokey), None);
     }
 
     /// Becomes an insert of a record whose key has this pseudokey, in place.
@@ -109,15 +107,9 @@ impl Access {
         ensures value { self.new ≡ begun (ToInsert entry.now) pseudokey }
         ensures serves { Serves (ToInsert entry.now) self.new }
     {
-        let mut value = Value::new();
-        entry.encode(&mut value);
         let key = entry.key();
-        self.begin_again(
-            key,
-            RecordOperation::insert(key, pseudokey),
-            None,
-            value.as_slice(),
-        );
+        self.begin_again(key, RecordOperation::insert(key, pseudokey), None);
+        entry.encode(&mut self.value);
     }
 
     /// Becomes a write at a key that has this pseudokey, in place.
@@ -128,15 +120,9 @@ impl Access {
     {
         match write {
             Write::Replace(entry) => {
-                let mut value = Value::new();
-                entry.encode(&mut value);
                 let key = entry.key();
-                self.begin_again(
-                    key,
-                    RecordOperation::replace(key, pseudokey),
-                    None,
-                    value.as_slice(),
-                );
+                self.begin_again(key, RecordOperation::replace(key, pseudokey), None);
+                entry.encode(&mut self.value);
             }
             Write::Relink(key, links) => {
                 links_fit(links);
@@ -144,39 +130,29 @@ impl Access {
                     *key,
                     RecordOperation::replace(*key, pseudokey),
                     Some(*links),
-                    &[],
                 );
             }
             Write::Delete(key) => {
-                self.begin_again(*key, RecordOperation::delete(*key, pseudokey), None, &[]);
+                self.begin_again(*key, RecordOperation::delete(*key, pseudokey), None);
             }
         }
     }
 
-    /// Begins by an operation to which these bytes are lent. Those that stand behind them are
-    /// nobody's, and stay.
-    fn begin_again(
-        &mut self,
-        key: RecordKey,
-        operation: RecordOperation,
-        links: Option<Links>,
-        value: &[u8],
-    )
+    /// Begins by an operation to which no byte is lent yet.
+    fn begin_again(&mut self, key: RecordKey, operation: RecordOperation, links: Option<Links>)
         requires key { operation_key operation ≡ key }
-        requires within { length value.now ≤ MAX_VALUE_BYTES }
-        requires lent { MayBeLent (length value.now) operation }
+        requires lent { MayBeLent 0 operation }
         ensures { self.new ≡ record {
           operation = operation;
           links = links;
-          bytes = value.now;
+          bytes = [];
           written = false;
         } }
     {
-        self.bytes[..value.len()].copy_from_slice(value);
+        self.value.clear();
         self.key = key;
         self.operation = operation;
         self.links = links;
-        self.len = value.len();
         self.written = false;
     }
 
@@ -192,7 +168,7 @@ impl Access {
         match find.found() {
             None => None,
             Some((_, None)) => Some(None),
-            Some((_, Some(_))) => match Record::decode(&self.key, &self.bytes[..self.len]) {
+            Some((_, Some(_))) => match Record::decode(&self.key, self.value.as_slice()) {
                 Ok(entry) => Some(Some(entry)),
                 Err(_) => None,
             },
@@ -250,15 +226,15 @@ impl Access {
         let answered = self.operation.found().is_some();
         match &mut self.operation {
             RecordOperation::Find(find) => {
-                let did = find.step(Deed::Find, pool, locks, seat, &self.bytes[..self.len]);
+                let did = find.step(Deed::Find, pool, locks, seat, self.value.as_slice());
                 self.settle(answered, did, pool)
             }
             RecordOperation::Insert(insert) => {
-                let did = insert.step(pool, locks, keys, seat, &self.bytes[..self.len]);
+                let did = insert.step(pool, locks, keys, seat, self.value.as_slice());
                 self.settle(answered, did, pool)
             }
             RecordOperation::Replace(replace) => {
-                let did = replace.step(Deed::Replace, pool, locks, seat, &self.bytes[..self.len]);
+                let did = replace.step(Deed::Replace, pool, locks, seat, self.value.as_slice());
                 self.settle(answered, did, pool)
             }
             RecordOperation::Delete(delete) => {
@@ -313,7 +289,7 @@ impl Access {
             RecordOperation::Insert(_) => Ok(()),
             RecordOperation::Replace(_) => match (self.links, found) {
                 (Some(links), Some(len)) => self.take_front(pool, page, len, &links),
-                (None, Some(len)) if len == self.len => Ok(()),
+                (None, Some(len)) if len == self.value.as_slice().len() => Ok(()),
                 _ => Err(FileFault::Failed),
             },
             RecordOperation::Delete(_) => {
@@ -336,8 +312,9 @@ impl Access {
         requires finds { access_answer self.old ≡ Some (page, Some len) }
         ensures { Takes result pool.old pool.new self.old self.new }
     {
-        read_value(pool, page, &self.key, len, &mut self.bytes)?;
-        self.len = len;
+        let mut room = [0; MAX_VALUE_BYTES];
+        read_value(pool, page, &self.key, len, &mut room)?;
+        self.value.set(&room[..len]);
         Ok(())
     }
 
@@ -360,8 +337,7 @@ impl Access {
         }
         let mut front = [0; MESSAGE_BYTES];
         let bytes = read_front(pool, page, &self.key, links, &mut front)?;
-        self.bytes[..bytes].copy_from_slice(&front[..bytes]);
-        self.len = bytes;
+        self.value.set(&front[..bytes]);
         Ok(())
     }
 }

@@ -5,13 +5,12 @@
 
 ghost use Rattle.std.specs.Prelude.{◌≡◌, ◌-◌, ℕ, List, IfSome, IsSome, Some, None, true};
 ghost use Rattle.page_locks.specs.declared.lock.LockName.{LockName};
-ghost use Rattle.split_merge.specs.stale_search.SearchRuns.{HasNoLock, at};
+ghost use Rattle.split_merge.specs.stale_search.SearchRuns.{HasNoLock};
 ghost use Rattle.split_merge.specs.stale_search.Searches.{IsShared};
 ghost use Rattle.split_merge.specs.stale_search.declared.place.SearchPlace.{SearchPlace};
-ghost use Rattle.step_rules.specs.Runs.{MovesAlong};
 ghost use Rattle.record_file.specs.Words.{IsSeat, row_of, IsReady, EndsRow, Moved, Release, Selective, without_lock};
 ghost use Rattle.record_file.specs.BucketAccesses.{SuitsKind, begun_access, bucket_locks, ended_in, found_of, has_ended, has_room, is_due, kind_for};
-ghost use Rattle.record_file.specs.BucketRuns.{BucketStep, FindsStraight, bucket_at, bucket_way};
+ghost use Rattle.record_file.specs.BucketRuns.{BucketHeads, FindsStraight, bucket_at};
 ghost use Rattle.record_file.specs.BucketSteps.{MakesBucket};
 
 use bucket_page::{RECORD_HEAD_BYTES, ROOM_BYTES, RecordKey};
@@ -139,8 +138,8 @@ impl BucketAccess {
         }
     }
 
-    /// The page to which a find goes straight that has not begun, to give it back at once. Nothing is
-    /// done.
+    /// The page to which an access goes straight that has not begun, and a find to give it back at
+    /// once. Nothing is done.
     pub fn heads_for<D: PageDevice>(
         &self,
         pool: &mut Pool<D>,
@@ -151,38 +150,15 @@ impl BucketAccess {
         requires ready { IsReady pool.old }
         requires row { EndsRow (bucket_locks self.now) 2 (row_of locks.now seat) }
         ensures pool { pool.new ≡ pool.old }
+        ensures searches { IsSome result → self.now.stage ≡ BucketStage.Searching }
         ensures bare { IsSome result → HasNoLock (bucket_locks self.now) }
+        ensures heads { IfSome result (λ page.
+            BucketHeads seat page self.now pool.old locks.now) }
         ensures moves { IfSome result (λ page.
             FindsStraight seat page self.now pool.old locks.now) }
     {
         match self.stage {
             BucketStage::Searching => self.search.heads_for(pool, locks, seat),
-            _ => None,
-        }
-    }
-
-    /// Where an access arrives that has not begun and goes straight to the page that the directory
-    /// names, by the Look by which that page answers. Nothing is done.
-    pub fn ahead_to_page<D: PageDevice>(
-        &self,
-        pool: &mut Pool<D>,
-        locks: &LockTable,
-        seat: u8,
-    ) -> Option<(u32, Option<usize>)>
-        requires seat { IsSeat locks.now seat }
-        requires ready { IsReady pool.old }
-        requires row { EndsRow (bucket_locks self.now) 2 (row_of locks.now seat) }
-        ensures pool { pool.new ≡ pool.old }
-        ensures searches { IsSome result → self.now.stage ≡ BucketStage.Searching }
-        ensures bare { IsSome result → HasNoLock (bucket_locks self.now) }
-        // whatever its deed
-        ensures moves { IfSome result (λ there. (deed : Deed) →
-            SuitsKind deed self.now.search.kind → MovesAlong (BucketStep deed seat)
-            (at self.now pool.old locks.now)
-            (bucket_way seat there.0 there.1 (at self.now pool.old locks.now))) }
-    {
-        match self.stage {
-            BucketStage::Searching => self.search.ahead(pool, locks, seat),
             _ => None,
         }
     }

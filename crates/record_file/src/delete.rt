@@ -1,7 +1,8 @@
 //! A record that is deleted.
 
-ghost use Rattle.std.specs.Prelude.{◌≡◌, ◌↔◌, ℕ, IfSome, List, Option, true, false};
+ghost use Rattle.std.specs.Prelude.{◌≡◌, ◌↔◌, ℕ, IfSome, IsSome, List, Option, true, false};
 ghost use Rattle.split_merge.specs.Steps.{TurnsAwayAt};
+ghost use Rattle.split_merge.specs.stale_search.SearchRuns.{HasNoLock};
 ghost use Rattle.split_merge.specs.stale_search.declared.place.ApproachPlace.{ApproachPlace};
 ghost use Rattle.split_merge.specs.stale_search.declared.place.SearchPlace.{SearchPlace};
 ghost use Rattle.split_merge.specs.declared.merge_place.MergePlace.{MergePlace};
@@ -14,7 +15,7 @@ ghost use Rattle.record_file.specs.BucketAccesses.{found_of};
 ghost use Rattle.record_file.specs.BucketRuns.{bucket_at};
 ghost use Rattle.record_file.specs.BucketSteps.{TurnsAwayIn};
 ghost use Rattle.record_file.specs.Deletes.{IsOver, KeepsDelete, delete_facts, delete_left, delete_locks, delete_turn};
-ghost use Rattle.record_file.specs.OperationRuns.{GoesToPage};
+ghost use Rattle.record_file.specs.OperationRuns.{OperationHeads};
 
 use crate::bucket_access::{BucketAccess, Deed};
 use bucket_page::RecordKey;
@@ -143,23 +144,23 @@ impl Delete {
         }
     }
 
-    /// Where a removal arrives that has not begun and goes straight to the page that the directory
-    /// names. Nothing is done.
-    pub fn ahead_to_page<D: PageDevice>(
+    /// The page to which a removal goes straight that has not begun. Nothing is done.
+    pub fn heads_for<D: PageDevice>(
         &self,
         pool: &mut Pool<D>,
         locks: &LockTable,
         seat: u8,
-    ) -> Option<(u32, Option<usize>)>
+    ) -> Option<u32>
         requires seat { IsSeat locks.now seat }
         requires ready { IsReady pool.old }
         requires row { EndsRow (delete_locks self.now) 3 (row_of locks.now seat) }
         ensures pool { pool.new ≡ pool.old }
-        ensures goes { IfSome result (λ there. GoesToPage seat there.0 there.1
-            (RecordOperation.Delete self.now) pool.old locks.now) }
+        ensures bare { IsSome result → HasNoLock (delete_locks self.now) }
+        ensures heads { IfSome result (λ page.
+            OperationHeads seat page (RecordOperation.Delete self.now) pool.old locks.now) }
     {
         match self.removal.ended() {
-            None => self.removal.ahead_to_page(pool, locks, seat),
+            None => self.removal.heads_for(pool, locks, seat),
             Some(_) => None,
         }
     }

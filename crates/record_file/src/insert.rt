@@ -1,6 +1,7 @@
 //! A record that is inserted.
 
 ghost use Rattle.std.specs.Prelude.{◌≡◌, ◌↔◌, IfSome, IsSome, None, true, length};
+ghost use Rattle.split_merge.specs.stale_search.SearchRuns.{HasNoLock};
 ghost use Rattle.split_merge.specs.stale_search.declared.place.SearchPlace.{SearchPlace};
 ghost use Rattle.record_file.specs.declared.bucket_access.Deed.{Deed};
 ghost use Rattle.record_file.specs.declared.operation.RecordOperation.{RecordOperation};
@@ -8,7 +9,7 @@ ghost use Rattle.record_file.specs.BucketAccesses.{begun_access};
 ghost use Rattle.record_file.specs.InsertWords.{IsReady, IsSeat, row_of, EndsRow};
 ghost use Rattle.record_file.specs.Inserts.{IsLent, IsOver, insert_locks, is_there, said_of};
 ghost use Rattle.record_file.specs.InsertSteps.{MakesInsert};
-ghost use Rattle.record_file.specs.OperationRuns.{GoesToPage, stage_at};
+ghost use Rattle.record_file.specs.OperationRuns.{OperationHeads, stage_at};
 
 use crate::bucket_access::{BucketAccess, Deed};
 use crate::second_try::SecondTry;
@@ -131,21 +132,21 @@ impl Insert {
         }
     }
 
-    /// Where a first try arrives that has not begun and goes straight to the page that the
-    /// directory names, where that page has no record of the key. Nothing is done. A second try
-    /// tells none.
-    pub fn ahead_to_page<D: PageDevice>(
+    /// The page to which a first try goes straight that has not begun, where that page has no record
+    /// of the key. Nothing is done. A second try tells none.
+    pub fn heads_for<D: PageDevice>(
         &self,
         pool: &mut Pool<D>,
         locks: &LockTable,
         seat: u8,
-    ) -> Option<(u32, Option<usize>)>
+    ) -> Option<u32>
         requires seat { IsSeat locks.now seat }
         requires ready { IsReady pool.old }
         requires row { EndsRow (insert_locks self.now) 3 (row_of locks.now seat) }
         ensures pool { pool.new ≡ pool.old }
-        ensures goes { IfSome result (λ there. GoesToPage seat there.0 there.1
-            (RecordOperation.Insert self.now) pool.old locks.now) }
+        ensures bare { IsSome result → HasNoLock (insert_locks self.now) }
+        ensures heads { IfSome result (λ page.
+            OperationHeads seat page (RecordOperation.Insert self.now) pool.old locks.now) }
     {
         let InsertStage::First(first, said) = &self.stage else {
             return None;
@@ -153,13 +154,7 @@ impl Insert {
         if said.is_some() {
             return None;
         }
-        let Some((page, found)) = first.ahead_to_page(pool, locks, seat) else {
-            return None;
-        };
-        match found {
-            None => Some((page, None)),
-            Some(_) => None,
-        }
+        first.heads_for(pool, locks, seat)
     }
 
     /// A page that has no record of the key has answered its first try.

@@ -1,10 +1,11 @@
 //! The operation.
 
-ghost use Rattle.std.specs.Prelude.{◌≡◌, ◌↔◌, ℕ, true, IfSome};
+ghost use Rattle.std.specs.Prelude.{◌≡◌, ◌↔◌, ℕ, true, IfSome, IsSome};
+ghost use Rattle.record_file.specs.stale_search.SearchRuns.{HasNoLock};
 ghost use Rattle.record_file.specs.stale_search.declared.place.SearchPlace.{SearchPlace};
 ghost use Rattle.record_file.specs.OperationWords.{IsReady, IsSeat, row_of, EndsRow};
 ghost use Rattle.record_file.specs.Operations.{FoundAtEnd, HasEnded, MayBeLent, TriedAtEnd, begun_delete, begun_find, begun_insert, begun_replace, operation_found, operation_locks, operation_tried};
-ghost use Rattle.record_file.specs.OperationRuns.{GoesToPage, LacksKey, operation_at};
+ghost use Rattle.record_file.specs.OperationRuns.{LacksKey, OperationHeads, operation_at};
 
 use crate::bucket_access::{BucketAccess, Deed};
 use crate::buffer_pool::Pool;
@@ -99,28 +100,28 @@ impl RecordOperation {
         }
     }
 
-    /// Where a write arrives that has not begun and goes straight to the page that the directory
-    /// names, by the Look by which that page answers. Nothing is done. A find tells none, nor does
-    /// an insert where the key has a record there or in its second try.
-    pub fn ahead_to_page<D: PageDevice>(
+    /// The page to which a write goes straight that has not begun, an insert where that page has no
+    /// record of the key. Nothing is done. A find tells none, nor does an insert in its second try.
+    pub fn heads_for<D: PageDevice>(
         &self,
         pool: &mut Pool<D>,
         locks: &LockTable,
         seat: u8,
-    ) -> Option<(u32, Option<usize>)>
+    ) -> Option<u32>
         requires seat { IsSeat locks.now seat }
         requires ready { IsReady pool.old }
         requires row { EndsRow (operation_locks self.now) 3 (row_of locks.now seat) }
         requires lent { (bytes : ℕ) × MayBeLent bytes self.now }
         ensures pool { pool.new ≡ pool.old }
-        ensures goes { IfSome result (λ there. GoesToPage seat there.0 there.1 self.now
-            pool.old locks.now) }
+        ensures bare { IsSome result → HasNoLock (operation_locks self.now) }
+        ensures heads { IfSome result (λ page.
+            OperationHeads seat page self.now pool.old locks.now) }
     {
         match self {
             RecordOperation::Find(_) => None,
-            RecordOperation::Insert(insert) => insert.ahead_to_page(pool, locks, seat),
-            RecordOperation::Replace(replace) => replace.ahead_to_page(pool, locks, seat),
-            RecordOperation::Delete(delete) => delete.ahead_to_page(pool, locks, seat),
+            RecordOperation::Insert(insert) => insert.heads_for(pool, locks, seat),
+            RecordOperation::Replace(replace) => replace.heads_for(pool, locks, seat),
+            RecordOperation::Delete(delete) => delete.heads_for(pool, locks, seat),
         }
     }
 

@@ -6,10 +6,9 @@
 ghost use Rattle.std.specs.Prelude.{◌≡◌, IfSome, IsSome};
 ghost use Rattle.page_locks.specs.Table.{IsSeat, row_of};
 ghost use Rattle.file_pages.specs.Files.{IsReady};
-ghost use Rattle.step_rules.specs.Runs.{MovesAlong};
 ghost use Rattle.stale_search.specs.Steps.{Advances, FollowsRow, MakesStep, ReadsPages};
 ghost use Rattle.stale_search.specs.Searches.{GivesAnswer, HasRow, IsShared, KeepsAim};
-ghost use Rattle.stale_search.specs.SearchRuns.{GoesStraight, HasNoLock, SearchStep, at, search_at, search_stops};
+ghost use Rattle.stale_search.specs.SearchRuns.{GoesStraight, HasNoLock, search_at};
 ghost use Rattle.stale_search.specs.Searches.{search_facts, search_locks, search_turn, left_in};
 
 use crate::place::SearchPlace;
@@ -18,7 +17,7 @@ use file_pages::bucket_page::RecordKey;
 use file_pages::buffer_pool::Pool;
 use file_pages::page_device::PageDevice;
 use file_pages::{
-    FileFault, Sight, look, peek_depth, peek_entry, peek_range, peek_value, read_depth, read_entry,
+    FileFault, Sight, look, peek_depth, peek_entry, peek_range, read_depth, read_entry,
 };
 use page_locks::{Grant, LockKind, LockName, LockTable};
 use std::marker::Model;
@@ -197,29 +196,6 @@ impl Search {
             return None;
         }
         Some(page)
-    }
-
-    /// That page and, of the key, the length of the value there. Nothing is done.
-    pub fn ahead<D: PageDevice>(
-        &self,
-        pool: &mut Pool<D>,
-        locks: &LockTable,
-        seat: u8,
-    ) -> Option<(u32, Option<usize>)>
-        requires seat { IsSeat locks.now seat }
-        requires ready { IsReady pool.old }
-        requires row { HasRow self.now (row_of locks.now seat) }
-        ensures pool { pool.new ≡ pool.old }
-        ensures bare { IsSome result → HasNoLock (search_locks self.now) }
-        ensures moves { IfSome result (λ there. MovesAlong (SearchStep seat)
-            (at self.now pool.old locks.now)
-            (search_stops seat there.0 there.1 (at self.now pool.old locks.now))) }
-    {
-        let page = self.heads_for(pool, locks, seat)?;
-        match peek_value(pool, page, &self.key)? {
-            Some(value) => Some((page, Some(value.len()))),
-            None => Some((page, None)),
-        }
     }
 
     /// Is at the page that answers.

@@ -1,10 +1,11 @@
 //! All steps of a write up to where its page answers, in one go.
 
-ghost use Rattle.std.specs.Prelude.{◌≡◌, Some, true, false};
+ghost use Rattle.std.specs.Prelude.{◌≡◌, IfSome, None, true, false};
 ghost use Rattle.record_file.specs.AccessWords.{EndsRow, IsReady, IsSeat, row_of};
 ghost use Rattle.record_file.specs.Accesses.{access_locks};
 ghost use Rattle.record_file.specs.AccessRuns.{ReachesAtOnce, TakesAhead};
-ghost use Rattle.record_file.specs.Readings.{IsReplace};
+ghost use Rattle.record_file.specs.OperationRuns.{LacksKey, StandsAt};
+ghost use Rattle.record_file.specs.Readings.{HasFrontSet, IsReplace};
 
 use crate::access::Access;
 use crate::operation::RecordOperation;
@@ -12,7 +13,7 @@ use file_pages::buffer_pool::Pool;
 use file_pages::peek_value;
 use page_device::PageDevice;
 use page_locks::{Grant, LockKind, LockName, LockTable};
-use queue_records::{Links, relink};
+use queue_records::{Links, MESSAGE_BYTES, relink};
 
 impl Access {
     /// All steps of a write up to the Look by which its page answers, in one go: where it has not
@@ -33,64 +34,64 @@ impl Access {
             ReachesAtOnce seat self.old self.new pool.old locks.old locks.new }
         ensures spares { result ≡ false → (self.new ≡ self.old) × (locks.new ≡ locks.old) }
     {
-        let Some((page, found)) = self.operation.ahead_to_page(pool, locks, seat) else {
+        let Some(page) = self.operation.heads_for(pool, locks, seat) else {
             return false;
         };
         let Grant::Granted = locks.try_grant(seat, LockName::Page(page), LockKind::Selective) else {
             return false;
         };
-        if !self.take_ahead(pool, page, found) {
+        let Some(found) = self.take_ahead(pool, page) else {
             locks.release(seat, LockName::Page(page));
             return false;
-        }
+        };
         self.operation.stand_at(page, found);
         true
     }
 
     /// Takes of a page that is in a frame what a write is for, as `take` does, where that can be
-    /// written there.
-    fn take_ahead<D: PageDevice>(&mut self, pool: &Pool<D>, page: u32, found: Option<usize>) -> bool
+    /// written there. Of the key, the length of the value there is told.
+    fn take_ahead<D: PageDevice>(&mut self, pool: &Pool<D>, page: u32) -> Option<Option<usize>>
         requires ready { IsReady pool.now }
-        ensures made { result ≡ true → TakesAhead page found pool.now self.old self.new }
-        ensures spares { result ≡ false → self.new ≡ self.old }
+        ensures stands { IfSome result (λ found. StandsAt page found self.old.operation pool.now) }
+        ensures lacks { IfSome result (λ found. LacksKey found self.old.operation) }
+        ensures made { IfSome result (λ found.
+            TakesAhead page found pool.now self.old self.new) }
+        ensures spares { result ≡ None → self.new ≡ self.old }
     {
+        let value = peek_value(pool, page, &self.key)?;
         match &self.operation {
-            RecordOperation::Find(_) => false,
-            RecordOperation::Insert(_) => true,
-            RecordOperation::Replace(_) => match (self.links, found) {
-                (Some(links), Some(len)) => self.front_ahead(pool, page, len, &links),
-                (None, Some(len)) if len == self.len => true,
-                _ => false,
+            RecordOperation::Find(_) => None,
+            RecordOperation::Insert(_) => match value {
+                None => Some(None),
+                Some(_) => None,
             },
-            RecordOperation::Delete(_) => found.is_some(),
+            RecordOperation::Replace(_) => {
+                let value = value?;
+                let suits = match self.links {
+                    Some(links) => self.front_ahead(value, &links),
+                    None => value.len() == self.value.as_slice().len(),
+                };
+                suits.then_some(Some(value.len()))
+            }
+            RecordOperation::Delete(_) => Some(Some(value?.len())),
         }
     }
 
-    /// Takes the front of the value that links are set in, where one of this length stands there
-    /// and has that front.
-    fn front_ahead<D: PageDevice>(
-        &mut self,
-        pool: &Pool<D>,
-        page: u32,
-        len: usize,
-        links: &Links,
-    ) -> bool
-        requires ready { IsReady pool.now }
-        requires replaces { IsReplace self.old.operation }
-        requires links { self.old.links ≡ Some links.now }
-        ensures made { result ≡ true → TakesAhead page (Some len) pool.now self.old self.new }
+    /// Takes the front of this value, where it has one that links are set in.
+    fn front_ahead(&mut self, value: &[u8], links: &Links) -> bool
+        requires { IsReplace self.old.operation }
+        ensures front { result ≡ true → HasFrontSet value.now links.now self.new.bytes }
+        ensures others { self.new ≡ record self.old { bytes = self.new.bytes } }
         ensures spares { result ≡ false → self.new ≡ self.old }
     {
-        let Some(Some(value)) = peek_value(pool, page, &self.key) else {
-            return false;
-        };
         let bytes = links.front_bytes();
-        if value.len() != len || len < bytes {
+        if value.len() < bytes {
             return false;
         }
-        self.bytes[..bytes].copy_from_slice(&value[..bytes]);
-        relink(&mut self.bytes[..bytes], links);
-        self.len = bytes;
+        let mut front = [0; MESSAGE_BYTES];
+        front[..bytes].copy_from_slice(&value[..bytes]);
+        relink(&mut front[..bytes], links);
+        self.value.set(&front[..bytes]);
         true
     }
 }

@@ -12,7 +12,7 @@ returns-in-Find g c =
     rw (← c.self.view_is, c.in-Find.is) (c.settle.ensures _ c.args.seat _ c.args.pool.now c.args.locks.now
     c.step-did.new.locks had refl
     (find_makes _ c.args.seat _ c.step-did.result c.args.pool.now c.step-did.new.pool c.args.locks.now
-    c.step-did.new.locks c.in-Find.find c.step-did.new.self c.step-did.ensures))
+    c.step-did.new.locks c.in-Find.find c.step-did.new.self (rw (c.as_slice.ensures.value) at c.step-did.ensures)))
 
 pub returns-in-Insert : goal.returns-in-Insert
 returns-in-Insert g c =
@@ -22,7 +22,7 @@ returns-in-Insert g c =
     c.step-did-in-Insert.new.locks had refl
     (insert_makes _ c.args.seat _ c.step-did-in-Insert.result c.args.pool.now c.step-did-in-Insert.new.pool
     c.args.locks.now c.step-did-in-Insert.new.locks c.in-Insert.insert c.step-did-in-Insert.new.self
-    c.step-did-in-Insert.ensures))
+    (rw (c.as_slice-in-Insert.ensures.value) at c.step-did-in-Insert.ensures)))
 
 pub returns-in-Replace : goal.returns-in-Replace
 returns-in-Replace g c =
@@ -32,7 +32,7 @@ returns-in-Replace g c =
     c.args.locks.now c.step-did-in-Replace.new.locks had refl
     (replace_makes _ c.args.seat _ c.step-did-in-Replace.result c.args.pool.now c.step-did-in-Replace.new.pool
     c.args.locks.now c.step-did-in-Replace.new.locks c.in-Replace.replace c.step-did-in-Replace.new.self
-    c.step-did-in-Replace.ensures))
+    (rw (c.as_slice-in-Replace.ensures.value) at c.step-did-in-Replace.ensures)))
 
 pub returns-in-Delete : goal.returns-in-Delete
 returns-in-Delete g c =

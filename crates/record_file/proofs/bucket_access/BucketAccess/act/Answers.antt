@@ -19,17 +19,20 @@ returns-in-Find g c =
 pub returns-in-Some : goal.returns-in-Some
 returns-in-Some g c =
     let v = c.args.self.now.search in
-    let at : found_at v.place ≡ Some (c.args.page, Some c.in-Some.field-0) = c.requires.found ∙ ap (λ (f : Option ℕ). Some (c.args.page, f)) c.in-Some.is in
+    let at : found_at v.place ≡ Some (c.args.page, Some c.in-Some.field-0) =
+    c.requires.found ∙ ap (λ (f : Option ℕ). Some (c.args.page, f)) c.in-Some.is in
     let given = c.give_back-in-Some in
     rw (as_searching c.args.self.now c.requires.stage, c.in-Put.is) (gave_unwritten deeds.Put c.args.seat
-    c.args.bytes.now c.args.pool.now c.args.pool.now c.args.locks.now v c.args.page (Some c.in-Some.field-0) at given.result
+    c.args.bytes.now c.args.pool.now c.args.pool.now c.args.locks.now v c.args.page (Some c.in-Some.field-0) at
+    given.result
     given.new.self given.new.locks (nothing_read c.args.pool.now c.requires.ready) c.requires.seat false (λ none. refl)
     (λ hash change keyed sees. tt) given.ensures.moved given.ensures.ended given.ensures.released)
 
 pub returns-in-None-found : goal.returns-in-None-found
 returns-in-None-found g c =
     let v = c.args.self.now.search in
-    let at : found_at v.place ≡ Some (c.args.page, None) = c.requires.found ∙ ap (λ (f : Option ℕ). Some (c.args.page, f)) c.in-None-found.is in
+    let at : found_at v.place ≡ Some (c.args.page, None) =
+    c.requires.found ∙ ap (λ (f : Option ℕ). Some (c.args.page, f)) c.in-None-found.is in
     let given = c.give_back-in-None-found in
     rw (as_searching c.args.self.now c.requires.stage, c.in-Replace.is) (gave_unwritten deeds.Replace c.args.seat
     c.args.bytes.now c.args.pool.now c.args.pool.now c.args.locks.now v c.args.page None at given.result
@@ -39,7 +42,8 @@ returns-in-None-found g c =
 pub returns-in-None-found-2 : goal.returns-in-None-found-2
 returns-in-None-found-2 g c =
     let v = c.args.self.now.search in
-    let at : found_at v.place ≡ Some (c.args.page, None) = c.requires.found ∙ ap (λ (f : Option ℕ). Some (c.args.page, f)) c.in-None-found-2.is in
+    let at : found_at v.place ≡ Some (c.args.page, None) =
+    c.requires.found ∙ ap (λ (f : Option ℕ). Some (c.args.page, f)) c.in-None-found-2.is in
     let given = c.give_back-in-None-found-2 in
     rw (as_searching c.args.self.now c.requires.stage, c.in-Remove.is) (gave_unwritten deeds.Remove c.args.seat
     c.args.bytes.now c.args.pool.now c.args.pool.now c.args.locks.now v c.args.page None at given.result

@@ -19,7 +19,8 @@ returns-in-Err g c =
     let v = c.args.self.now.search in
     let at : found_at v.place ≡ Some (c.args.page, None) = c.requires.found in
     let reads = c.in-Err.ensures.reads in
-    rw (as_searching c.args.self.now c.requires.stage) (has_failed deeds.Put c.args.seat c.args.value.now c.args.pool.now
+    rw (as_searching c.args.self.now c.requires.stage) (has_failed deeds.Put c.args.seat c.args.value.now
+    c.args.pool.now
     c.read_bucket.new.pool c.args.locks.now v c.args.page None at tt _
     (read_only false c.args.pool.now c.read_bucket.new.pool reads) reads.images c.in-Err.ensures.cause
     (λ hash change suits sees. read_fails hash c.args.seat _ c.args.pool.now c.args.locks.now change sees c.args.page
@@ -34,7 +35,8 @@ returns-then-not-has_room g c =
     let at : found_at v.place ≡ Some (c.args.page, None) = c.requires.found in
     let full = no_room_is c.in-Ok.sight.used (length c.args.value.now)
     (sym c.has_room.ensures ∙ c.if-not-has_room.true) in
-    rw (as_searching c.args.self.now c.requires.stage) (gave_unwritten deeds.Put c.args.seat c.args.value.now c.args.pool.now
+    rw (as_searching c.args.self.now c.requires.stage) (gave_unwritten deeds.Put c.args.seat c.args.value.now
+    c.args.pool.now
     c.read_bucket.new.pool c.args.locks.now v c.args.page None at c.give_back.result c.give_back.new.self
     c.give_back.new.locks c.in-Ok.ensures.reads c.requires.seat true (λ none. absurd cc)
     (λ hash change keyed sees.
@@ -58,7 +60,8 @@ returns-in-Ok-put_record g c =
     let reads = c.in-Ok.ensures.reads in
     let writes = writes_behind true c.args.pool.now c.read_bucket.new.pool c.put_record.new.pool reads
     c.in-Ok-put_record.ensures.writes in
-    let room = room_is c.in-Ok.sight.used (length c.args.value.now) (sym c.has_room.ensures ∙ c.if-not-has_room.false) in
+    let room =
+    room_is c.in-Ok.sight.used (length c.args.value.now) (sym c.has_room.ensures ∙ c.if-not-has_room.false) in
     rw (← c.self.view_is, stage) (has_written deeds.Put c.args.seat c.args.value.now c.args.pool.now
     c.put_record.new.pool c.args.locks.now v c.args.page None at tt false kind writes
     (λ hash change before bare keyed owns row suits sees.
@@ -77,7 +80,8 @@ returns-in-Err-put_record g c =
     let at : found_at v.place ≡ Some (c.args.page, None) = rw (← c.self.view_is) at c.requires.found in
     let fault = rw (← c.self.invariant.key_is) at c.in-Err-put_record.ensures.fault in
     let reads = c.in-Ok.ensures.reads in
-    let room = room_is c.in-Ok.sight.used (length c.args.value.now) (sym c.has_room.ensures ∙ c.if-not-has_room.false) in
+    let room =
+    room_is c.in-Ok.sight.used (length c.args.value.now) (sym c.has_room.ensures ∙ c.if-not-has_room.false) in
     rw (← c.self.view_is, stage) (has_failed deeds.Put c.args.seat c.args.value.now c.args.pool.now
     c.put_record.new.pool c.args.locks.now v c.args.page None at tt _
     (writes_behind false c.args.pool.now c.read_bucket.new.pool c.put_record.new.pool reads

@@ -1,7 +1,6 @@
 -- What was looked at allows each of the moves.
 use Rattle.std.proofs.Common.{◌≡◌, ◌∙◌, ap, ℕ, ◌%◌, ◌^◌}
-use Rattle.file_pages.specs.Reads.{CoversIn}
-use Rattle.file_pages.specs.hash_file.Store.{entry_at, page_at}
+use Rattle.file_pages.specs.hash_file.Store.{entry_at}
 use Rattle.step_rules.specs.Words.{Store}
 use Rattle.stale_search.specs.Words.{PoolState, store_of}
 use Rattle.step_rules.proofs.OwnLemmas.{low_bits_below}
