@@ -6,7 +6,7 @@ use Rattle.step_rules.specs.declared.progress.Progress.TheVariants as progress
 use Rattle.xsi_calls.proofs.RowLemmas.{over_holds_nothing, new_holds_nothing}
 use Rattle.xsi_calls.specs.Machine.{IsOverAt, conclusion_at}
 use Rattle.xsi_calls.specs.Stages.{Stage, Undecided, Paying, Releasing}
-use Rattle.xsi_calls.specs.declared.undecided.UndecidedCall.{UndecidedCall}
+use Rattle.xsi_calls.specs.Undecided.{UndecidedCall}
 use Rattle.xsi_calls.specs.declared.conclusion.Conclusion.{Conclusion}
 use Rattle.interleaving_core.specs.Words.{Answer, Call, CallView, Entry, IsOver, PoolState, Progress, RecordKey, Table, answer_of_call, conclusion_of, row_of, with_row}
 use Rattle.interleaving_core.specs.Active.{ActiveView, BeginsAgain, decided_by, draft_by, is_waiting, told_at_end}

@@ -8,7 +8,7 @@ use Rattle.interleaving_core.specs.xsi_calls.Stages.{Paying, Releasing, Stage, U
 use Rattle.interleaving_core.specs.xsi_calls.Words.{Change, Lock, Owes, Records, has_no_room}
 use Rattle.interleaving_core.specs.xsi_calls.declared.conclusion.Conclusion.{Conclusion}
 use Rattle.interleaving_core.specs.xsi_calls.declared.conclusion.Conclusion.TheVariants as conclusions
-use Rattle.interleaving_core.specs.xsi_calls.declared.trials.Trials.{Trials}
+use Rattle.interleaving_core.specs.xsi_calls.Undecided.{Trials}
 use Rattle.xsi_calls.proofs.Names.{is_full, trials_in}
 use Rattle.interleavings.specs.Words.{Call, CallView, Caller, FileFault, PoolState, Progress, RecordKey, State, Table, conclusion_of, lacks_room}
 

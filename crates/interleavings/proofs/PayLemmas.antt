@@ -1,7 +1,7 @@
 -- A plan that is carried out, and a payment, beside another seat.
 use Rattle.std.proofs.Common.{ℕ, ◌≡◌, sym, ap, ◌∙◌, subst, List, Option, Some, None, IsSome}
 use Rattle.xsi_calls.proofs.RecordLemmas.{swept_guard, without_at}
-use Rattle.xsi_calls.specs.declared.payment.Stage.TheVariants as stages
+use Rattle.xsi_calls.specs.PaymentStages as stages
 use Rattle.xsi_calls.specs.Paying.{IsPayingSweep}
 use Rattle.xsi_calls.specs.PaymentWords.{Faces, IsCarrying, Owns, Work, sweep_facts, sweep_locks, writes_facts, writes_locks}
 use Rattle.xsi_calls.specs.declared.writes.CallWrites.{CallWrites}

@@ -14,7 +14,7 @@ use Rattle.interleavings.specs.xsi_calls.Undecided.{owes_in}
 use Rattle.interleavings.specs.xsi_calls.Calling.{IsCallingAt}
 use Rattle.interleavings.specs.xsi_calls.Machine.{owes_at as owes_of_call}
 use Rattle.interleavings.specs.xsi_calls.Words.{Exclusive, Plan, QuestionsView, guard_of, its_plan, kind_of}
-use Rattle.interleavings.specs.xsi_calls.declared.trials.Trials.{Trials}
+use Rattle.interleavings.specs.xsi_calls.Undecided.{Trials}
 use Rattle.interleavings.specs.xsi_calls.Stages.{Undecided, Paying, Releasing}
 use Rattle.interleavings.specs.ConcurrentWords.{Call, CallView, Change, IsCalling, Lock, PoolState, RecordKey, Records, Stage, State, Table, UndecidedCall, call_locks, call_owes, owes_at, row_of}
 

@@ -20,7 +20,7 @@ use Rattle.interleavings.specs.xsi_calls.Calling.{IsCallingAt}
 use Rattle.interleavings.specs.xsi_calls.Laws.{BeginRight}
 use Rattle.interleavings.specs.xsi_calls.Machine.{IsNew, IsOverAt, owes_at as owes_of_call}
 use Rattle.interleavings.specs.xsi_calls.Words.{guard_of, its_plan, kind_of}
-use Rattle.interleavings.specs.xsi_calls.declared.trials.Trials.{Trials}
+use Rattle.interleavings.specs.xsi_calls.Undecided.{Trials}
 use Rattle.interleavings.specs.xsi_calls.Stages.{Undecided, Paying, Releasing}
 use Rattle.queue_records.specs.declared.record.Record.TheVariants as records_are
 use Rattle.interleavings.specs.ConcurrentWords.{Call, CallView, Change, HasFittingCall, HasFittingCaller, IsCalling, IsFileAtRest, IsFiled, IsOver, Lock, PoolState, RecordKey, Records, Stage, StandsAt, State, Table, UndecidedCall, call_owes, counter_key, overlaid, owes_at, record_of, row_of, store_of, world}

@@ -22,7 +22,7 @@ use Rattle.interleavings.specs.xsi_calls.CallSteps.{GoesOnAt, StepsCall}
 use Rattle.interleavings.specs.xsi_calls.Calling.{IsCallingAt}
 use Rattle.interleavings.specs.xsi_calls.Machine.{call_facts, facts_at, locks_at, owes_at as owes_of_call}
 use Rattle.interleavings.specs.xsi_calls.Words.{AreAlike, Exclusive, IsBehind, LockName, QuestionsView, Sees, guard_of, its_plan, kind_of}
-use Rattle.interleavings.specs.xsi_calls.declared.trials.Trials.{Trials}
+use Rattle.interleavings.specs.xsi_calls.Undecided.{Trials}
 use Rattle.interleavings.specs.xsi_calls.Stages.{Undecided, Paying, Releasing}
 use Rattle.interleavings.specs.SeatWords.{names_in}
 use Rattle.interleavings.specs.ConcurrentWords.{Call, CallView, Change, FileFault, HasFittingCall, HasFittingCaller, IsFiled, IsKeptApart, IsSeat, Lock, MakesCall, PoolState, Progress, RecordKey, Records, Stage, StandsAt, State, Table, UndecidedCall, call_locks, call_owes, counter_key, is_fault, overlaid, owes_at, record_of, row_of, store_of, world}

@@ -3,7 +3,7 @@ pub use Rattle.call_decisions.specs.Others.{DecidesApart, HoldsOwn}
 pub use Rattle.call_decisions.specs.Settling.{IsAnswer, writes_owed}
 pub use Rattle.call_decisions.specs.Words.{Answer, Caller, Owes, Sweep, Verdict, outcome}
 pub use Rattle.xsi_calls.specs.Paying.{AreSameUnder, IsPaying}
-pub use Rattle.xsi_calls.specs.declared.payment.Stage.{Stage}
+pub use Rattle.xsi_calls.specs.PaymentStages.{Stage}
 pub use Rattle.xsi_calls.specs.UndecidedBelow.{AnyInquiry, Counter, HasNoFileLock, Known, Owns, Progress, Roomful, Sees, StandsAt, Step, Turn, counter_key, world}
 pub use Rattle.xsi_calls.specs.declared.writes.CallWrites.{CallWrites}
 pub use Rattle.file_pages.specs.Files.{IsFilePool}
@@ -17,5 +17,5 @@ pub use Rattle.xsi_calls.specs.Knowing.{IsAsking, IsTrying, IsUndecided}
 pub use Rattle.xsi_calls.specs.Undecided.{its_plan}
 pub use Rattle.xsi_calls.specs.UndecidedSteps.{AsksOn, GoesOn, IsBehind}
 pub use Rattle.xsi_calls.specs.UndecidedWords.{AreAlike, Call, Change, HasBegun, HasKey, Holds, IsFiled, KnowsApart, KnowsItsKey, KnowsNear, KnowsOf, Lock, LockName, Plan, PoolState, QuestionsView, Record, RecordKey, Records, State, Store, Table, asked_of, caller_of, guard_of, kind_of, locked_of, names_for, names_in, questions_facts, questions_locks, record_of, row_of, store_of}
-pub use Rattle.xsi_calls.specs.declared.trials.Trials.{Trials}
-pub use Rattle.xsi_calls.specs.declared.undecided.UndecidedCall.{UndecidedCall}
+pub use Rattle.xsi_calls.specs.Undecided.{Trials}
+pub use Rattle.xsi_calls.specs.Undecided.{UndecidedCall}

@@ -77,9 +77,11 @@ pub mod CounterLemmas
 pub mod GoLemmas
 pub mod AtOnceLemmas
 pub mod PhaseLemmas
+pub mod RoomLemmas
 pub mod ReleaseLemmas
 pub mod PayLemmas
 pub mod CallReachLemmas
+pub mod MachineLemmas
 pub mod RowLemmas
 pub mod LawLemmas
 pub mod AimLemmas

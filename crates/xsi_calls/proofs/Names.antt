@@ -16,9 +16,8 @@ pub use Rattle.xsi_calls.proofs.UndecidedNames.{Deed, GivesBack, given_back, in_
 pub use Rattle.xsi_calls.specs.UndecidedBelow.{key_of, undoing}
 pub use Rattle.xsi_calls.specs.Deciding.{IsDecidedIn, IsSettled, IsShortOfRoom, MayWrite}
 pub use Rattle.xsi_calls.specs.Knowing.{IsAsking, IsTrying, IsUndecidedIn}
-pub use Rattle.xsi_calls.specs.Undecided.{CanDecideIn, IsCalmIn, locks_in, owes_in, trials_in, untried}
+pub use Rattle.xsi_calls.specs.Undecided.{CanDecideIn, IsCalmIn, locks_in, owes_in, trials_in, untried, Trials}
 pub use Rattle.xsi_calls.specs.UndecidedWords.{Due, Record, Writes, is_full, names_in, owes, questions_facts}
-pub use Rattle.xsi_calls.specs.declared.trials.Trials.{Trials}
 pub use Rattle.xsi_inquiry.specs.Deciding.{answer_of}
 pub use Rattle.xsi_inquiry.specs.Writing.{CanAllBe, HasRange}
 pub use Rattle.xsi_inquiry.specs.declared.write.Write.{Write}

@@ -15,7 +15,7 @@ use Rattle.xsi_calls.specs.Dues.{due_writes}
 use Rattle.xsi_calls.specs.declared.due.Due.TheVariants.{Undoing}
 use Rattle.page_locks.specs.declared.lock.LockName.TheVariants as names_are
 use Rattle.xsi_calls.proofs.RecordLemmas.{swept_guard}
-use Rattle.xsi_calls.specs.declared.payment.Stage.TheVariants as stages
+use Rattle.xsi_calls.specs.PaymentStages as stages
 use Rattle.xsi_calls.specs.PaymentWords.{RecordKey, Lock, kind_of, Owns, Plan, writes_of, Due, Trying, Full, Writing, OwnsPlan}
 use Rattle.xsi_calls.specs.PaymentLaws.{OwesWhatItHolds}
 

@@ -8,8 +8,8 @@ use Rattle.xsi_calls.proofs.WriteNames.{ended_free}
 use Rattle.xsi_remove.proofs.FreshLemmas.{failed_cause}
 use Rattle.xsi_remove.specs.Words.{StepHasCause}
 use Rattle.xsi_remove.specs.SweepSteps.{IsOf, IsOver, MakesSweep}
-use Rattle.xsi_calls.specs.declared.payment.Stage.{Stage}
-use Rattle.xsi_calls.specs.declared.payment.Stage.TheVariants as stages
+use Rattle.xsi_calls.specs.PaymentStages.{Stage}
+use Rattle.xsi_calls.specs.PaymentStages as stages
 use Rattle.xsi_calls.specs.PaymentWords.{RecordKey, PoolState, Table, Lock, IsReady, OnlyWrites, FollowsRow, Progress, Ended, Fault, is_fault, Plan, CallWrites, writes_locks, Work, is_move, sweep_locks}
 use Rattle.xsi_calls.specs.Payments.{payment_locks, unwritten}
 use Rattle.xsi_calls.specs.MakeSteps.{MakesWrites}

@@ -5,7 +5,7 @@ use Rattle.step_rules.specs.Does.{KeepsOthers}
 use Rattle.step_rules.specs.Searching.{WalksTo}
 use Rattle.step_rules.specs.Turns.{TurnsAt, no_ask}
 use Rattle.xsi_calls.proofs.Names.{AccessView, Deed, FileFault, facts_under, locks_under, next_deed, set_out, turn_under, nears_with, owes_nothing_at_end, row_of-same, with_row-twice}
-use Rattle.xsi_calls.specs.declared.payment.Stage.TheVariants as stages
+use Rattle.xsi_calls.specs.PaymentStages as stages
 use Rattle.xsi_calls.specs.declared.conclusion.Conclusion.{Conclusion}
 use Rattle.xsi_calls.specs.declared.phase.Phase.{Phase}
 use Rattle.xsi_calls.specs.Stages.{Stage, Undecided, Paying, Releasing, stage_at}

@@ -4,8 +4,7 @@ use Rattle.xsi_calls.proofs.WriteAimLemmas.{writes_aimed}
 use Rattle.xsi_remove.proofs.AimLemmas.{sweep_aimed}
 use Rattle.xsi_calls.specs.stale_search.step_rules.Searching.{IsAimed}
 use Rattle.xsi_calls.specs.Payments.{payment_facts, payment_turn}
-use Rattle.xsi_calls.specs.declared.payment.Stage.{Stage}
-use Rattle.xsi_calls.specs.declared.payment.Stage.TheVariants.{Sweeping, Writing}
+use Rattle.xsi_calls.specs.PaymentStages.{Stage, Sweeping, Writing}
 use Rattle.xsi_calls.specs.PaymentWords.{Plan, RecordKey, Store}
 
 pub payment_aimed : (hash : RecordKey → ℕ) (p : Plan) (v : Stage) (s : Store) →

@@ -11,7 +11,7 @@ use Rattle.queue_model.specs.declared.answer.Answer.{Answer}
 use Rattle.xsi_calls.specs.WriteWords.{AccessView}
 use Rattle.xsi_inquiry.specs.Writing.{CanAllBe, HasRange, written}
 use Rattle.xsi_inquiry.specs.declared.write.Write.{Write}
-use Rattle.xsi_calls.specs.declared.payment.Stage.TheVariants as stages
+use Rattle.xsi_calls.specs.PaymentStages as stages
 use Rattle.xsi_calls.specs.PaymentWords.{RecordKey, PoolState, Table, Lock, Change, LockName, Call, Caller, State, record_of, Plan, Records, writes_of, OwesUnder, overlaid, AreAlike, Due, Full, Writing, CallWrites, IsCarrying, CanGoOn, owes, decided_at}
 use Rattle.xsi_calls.specs.PaymentLaws.{HasTried, UndoesItsTrials, WillPay}
 use Rattle.xsi_calls.specs.Payments.{decided, owes_now}

@@ -17,7 +17,7 @@ use Rattle.xsi_remove.specs.declared.work.Deed.TheVariants.{Reading}
 use Rattle.xsi_calls.proofs.PaymentBeginLemmas.{answer_pays, waiting_pays, will_write}
 use Rattle.xsi_calls.proofs.PaymentNames.{AccessView, begins_right, begun_turn, ends_swept, locks_under, message_of, has_few_steps, written_local}
 use Rattle.xsi_calls.proofs.RecordLemmas.{none_swept, stands_none, without_at}
-use Rattle.xsi_calls.specs.declared.payment.Stage.TheVariants as stages
+use Rattle.xsi_calls.specs.PaymentStages as stages
 use Rattle.xsi_calls.specs.PaymentWords.{RecordKey, PoolState, Table, Lock, Change, Store, store_of, StandsAt, Exclusive, LockName, kind_of, guard_of, Call, Caller, State, record_of, IsFiled, Sweep, IsSmall, Plan, Records, inserted, writes_of, without_swept, AreAlike, Writing, Due, CallWrites, CanGoOn, decided_at, owes, overlaid, Settled}
 use Rattle.xsi_calls.specs.PaymentLaws.{HasTried, MOST_PAYMENT_STEPS, OwesNothingAtEnd, PaysWhatIsDecided, WillPay}
 use Rattle.xsi_calls.specs.Payments.{begun_behind, begun_by, begun_payment, decided, payment_left, sweep_of}

@@ -11,8 +11,8 @@ use Rattle.xsi_remove.specs.Words.{MAX_MESSAGES}
 use Rattle.xsi_remove.specs.Sweeps.{DELETE_STEPS, TURN_STEPS, deeds_left}
 use Rattle.xsi_remove.specs.declared.work.Deed.{Deed}
 use Rattle.xsi_remove.specs.declared.work.Deed.TheVariants.{Reading, DeletingMessage, DeletingType}
-use Rattle.xsi_calls.specs.declared.payment.Stage.{Stage}
-use Rattle.xsi_calls.specs.declared.payment.Stage.TheVariants as stages
+use Rattle.xsi_calls.specs.PaymentStages.{Stage}
+use Rattle.xsi_calls.specs.PaymentStages as stages
 use Rattle.xsi_calls.specs.PaymentWords.{Change, Lock, Plan, PoolState, RecordKey, Records, Table, Work, Writing, store_of, sweep_facts, sweep_left, without_swept}
 use Rattle.xsi_calls.specs.Payments.{payment_left}
 use Rattle.xsi_calls.specs.Paying.{IsPaying}

@@ -7,8 +7,8 @@ use Rattle.xsi_calls.proofs.WrittenLemmas.{writes_on}
 use Rattle.xsi_remove.specs.SweepSteps.{IsOver}
 use Rattle.xsi_remove.specs.UnderWay.{StepsUnderWay}
 use Rattle.xsi_calls.specs.WriteWords.{AccessView, HasEnded}
-use Rattle.xsi_calls.specs.declared.payment.Stage.{Stage}
-use Rattle.xsi_calls.specs.declared.payment.Stage.TheVariants as stages
+use Rattle.xsi_calls.specs.PaymentStages.{Stage}
+use Rattle.xsi_calls.specs.PaymentStages as stages
 use Rattle.xsi_calls.specs.PaymentWords.{RecordKey, PoolState, Table, Lock, Change, store_of, IsReady, IsSeat, NearsOrSpares, Progress, is_fault, Plan, Records, CallWrites, Work, sweep_access}
 use Rattle.xsi_calls.specs.Payments.{payment_access, payment_left}
 use Rattle.xsi_calls.specs.Paying.{IsPaying}

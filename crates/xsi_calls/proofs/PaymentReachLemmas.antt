@@ -2,8 +2,8 @@
 use Rattle.std.proofs.Common.{◌≡◌, ℕ, sym, ap, subst}
 use Rattle.std.specs.Prelude.{⊤}
 use Rattle.step_rules.specs.declared.kind.Kind.{Kind}
-use Rattle.xsi_calls.specs.declared.payment.Stage.{Stage}
-use Rattle.xsi_calls.specs.declared.payment.Stage.TheVariants as stages
+use Rattle.xsi_calls.specs.PaymentStages.{Stage}
+use Rattle.xsi_calls.specs.PaymentStages as stages
 use Rattle.xsi_calls.specs.MakeSteps.{MakesWrites}
 use Rattle.xsi_calls.specs.PaySteps.{MakesPayment}
 use Rattle.xsi_calls.specs.PaymentWords.{CallWrites, Moved, Plan, PoolState, RecordKey, Table}

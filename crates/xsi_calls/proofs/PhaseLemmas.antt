@@ -19,3 +19,16 @@ pub paying_still : (phase : Phase) (v v' : PaymentStage) (c : Conclusion) → is
 paying_still phases.Undecided v v' c is = absurd cc
 paying_still phases.Paying v v' c is = refl
 paying_still phases.Releasing v v' c is = absurd cc
+
+-- before its Decide its place is the same whatever its room holds
+pub undecided_same : (phase : Phase) (v v' : PaymentStage) (c : Conclusion) →
+    is_undecided (stage_at phase v c) ≡ true → stage_at phase v c ≡ stage_at phase v' c
+undecided_same phases.Undecided v v' c is = refl
+undecided_same phases.Paying v v' c is = absurd cc
+undecided_same phases.Releasing v v' c is = absurd cc
+
+pub it_pays : (phase : Phase) (v : PaymentStage) (c : Conclusion) → is_paying (stage_at phase v c) ≡ true →
+    phase ≡ phases.Paying
+it_pays phases.Undecided v c is = absurd cc
+it_pays phases.Paying v c is = refl
+it_pays phases.Releasing v c is = absurd cc

@@ -9,10 +9,9 @@ use Rattle.xsi_calls.specs.declared.question.Question.{Question}
 use Rattle.xsi_inquiry.specs.declared.decision.Decision.TheVariants as decisions
 use Rattle.xsi_calls.specs.UndecidedWords.{AreAlike, AreNames, Call, Caller, Change, Decision, IsCarrying, IsRight, Known, LockName, Plan, PoolState, QuestionsView, Record, RecordKey, Records, State, Table, asked_of, caller_of, guard_of, inserted, is_done, locked_of, nothing, record_of, store_of}
 use Rattle.xsi_calls.specs.stale_search.Steps.{Sees}
-use Rattle.xsi_calls.specs.Undecided.{its_plan, untried}
+use Rattle.xsi_calls.specs.Undecided.{its_plan, untried, Trials}
 use Rattle.xsi_calls.specs.Knowing.{IsAsking, IsDecision, IsTrying}
 use Rattle.xsi_calls.specs.Deciding.{MayWrite}
-use Rattle.xsi_calls.specs.declared.trials.Trials.{Trials}
 use Rattle.xsi_calls.proofs.HeldLemmas.{both_are, is_among, neither_is, no_first, none_of}
 
 -- what a right decision writes is under the names

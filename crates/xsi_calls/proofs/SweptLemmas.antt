@@ -14,7 +14,7 @@ use Rattle.xsi_remove.specs.SweepSteps.{IsOf, IsOver, MakesSweep, Rests, SweepsA
 use Rattle.xsi_remove.specs.Sweeps.{IsSweeping, IsWorking}
 use Rattle.xsi_calls.proofs.RecordLemmas.{apart_round, deleted_elsewhere, deleted_owed, none_swept, same_round, same_without, stands_none, swept_guard}
 use Rattle.xsi_calls.proofs.PaymentNames.{Blocked, ends_swept, nears_next, nears_with, no_more, written_local}
-use Rattle.xsi_calls.specs.declared.payment.Stage.TheVariants as stages
+use Rattle.xsi_calls.specs.PaymentStages as stages
 use Rattle.xsi_calls.specs.PaymentWords.{RecordKey, PoolState, Table, Lock, Change, Store, store_of, row_of, IsSeat, NearsOrSpares, Progress, Moved, Ended, Fault, is_fault, Step, world, StandsAt, is_write, kind_of, Owns, Queue, State, guard_of, Plan, Records, Owes, overlaid, without_swept, writes_of, CallWrites, writes_left_in, Work, is_move, sweep_facts, sweep_left, sweep_locks, sweep_turn}
 use Rattle.xsi_calls.specs.Payments.{owes_now, payment_left, unwritten}
 use Rattle.xsi_calls.specs.Paying.{IsPayingSweep}

@@ -4,9 +4,7 @@ use Rattle.xsi_calls.proofs.QuestionAimLemmas.{questions_aimed}
 use Rattle.xsi_calls.specs.stale_search.step_rules.Searching.{IsAimed}
 use Rattle.xsi_calls.proofs.WriteAimLemmas.{sets_out_aimed, writes_aimed}
 use Rattle.xsi_calls.proofs.UndecidedNames.{next_deed}
-use Rattle.xsi_calls.specs.declared.trials.Trials.{Trials}
-use Rattle.xsi_calls.specs.declared.undecided.UndecidedCall.{UndecidedCall}
-use Rattle.xsi_calls.specs.Undecided.{facts_in, its_plan, turn_in, undecided_facts, undecided_turn, untried}
+use Rattle.xsi_calls.specs.Undecided.{Trials, UndecidedCall, facts_in, its_plan, turn_in, undecided_facts, undecided_turn, untried}
 use Rattle.xsi_calls.specs.UndecidedWords.{Call, QuestionsView, RecordKey, Store, is_done, questions_facts, questions_turn, writes_turn}
 
 pub undecided_aimed : (hash : RecordKey → ℕ) (call : Call) (u : UndecidedCall) (s : Store) →

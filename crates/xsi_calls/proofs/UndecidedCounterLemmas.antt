@@ -14,10 +14,9 @@ use Rattle.xsi_calls.proofs.UndecidedNames.{Deed, IsBehindDeed, Leaves, Write, W
 use Rattle.xsi_calls.proofs.PlanLemmas.{HasOneCounter, WritesOnce, has_counter, plans_have_one_counter}
 use Rattle.xsi_calls.specs.UndecidedBelow.{counter_key}
 use Rattle.xsi_calls.specs.Knowing.{IsOnTrial}
-use Rattle.xsi_calls.specs.Undecided.{owes_in}
+use Rattle.xsi_calls.specs.Undecided.{owes_in, Trials}
 use Rattle.xsi_calls.specs.UndecidedSteps.{IsBehind}
 use Rattle.xsi_calls.specs.UndecidedWords.{Call, Change, Due, Full, Plan, PoolState, QuestionsView, Record, RecordKey, Records, State, Table, Trying, owes}
-use Rattle.xsi_calls.specs.declared.trials.Trials.{Trials}
 
 -- ---- trials
 

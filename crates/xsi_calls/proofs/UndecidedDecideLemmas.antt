@@ -8,16 +8,14 @@ use Rattle.xsi_calls.specs.declared.deed.Deed.TheVariants as deeds
 use Rattle.xsi_calls.specs.Views.{is_full_at}
 use Rattle.xsi_calls.specs.declared.due.Due.TheVariants.{Undoing, Writing}
 use Rattle.xsi_calls.specs.WriteWords.{AccessView}
-use Rattle.xsi_calls.specs.declared.trials.Trials.{Trials}
-use Rattle.xsi_calls.proofs.UndecidedNames.{all_stand, settles, tries_rightly, write_under_names}
+use Rattle.xsi_calls.specs.Undecided.{Trials, its_plan, untried}
+use Rattle.xsi_calls.proofs.UndecidedNames.{all_stand, settles, tries_rightly, write_under_names, agrees_itself}
 use Rattle.xsi_calls.specs.UndecidedWords.{AreAlike, AreNames, Call, Change, Decision, Due, Exclusive, Full, IsOver, IsRight, Lock, LockName, Means, Plan, PoolState, QuestionsView, Record, RecordKey, Records, State, Table, Trying, caller_of, guard_of, inserted, is_done, is_full, kind_of, locked_of, names_in, next_deed, record_of, settled_by}
-use Rattle.xsi_calls.specs.Undecided.{its_plan, untried}
 use Rattle.xsi_calls.specs.Knowing.{IsAsking, IsOnTrial, IsTrying, standing}
 use Rattle.xsi_calls.specs.Deciding.{IsDecidedIn, IsSettled, settled_in}
 use Rattle.xsi_calls.proofs.HeldLemmas.{is_among, no_first}
 use Rattle.xsi_calls.proofs.ReadyLemmas.{carries, may_write}
 use Rattle.xsi_calls.proofs.SweepLemmas.{sweeps_change}
-use Rattle.xsi_calls.proofs.UndecidedNames.{agrees_itself}
 
 module _ (hash : RecordKey → ℕ) (seat : ℕ) (call : Call) (s : State) (q : QuestionsView) (records : Records)
     (pool : PoolState) (locks : Table) (change : Change) (stopped : Bool) (mark : s.stopped ≡ stopped) where

@@ -5,10 +5,8 @@ use Rattle.xsi_calls.proofs.QuestionHeldLemmas.{all_held}
 use Rattle.xsi_calls.proofs.WriteFewLemmas.{few_left as few_writes}
 use Rattle.xsi_calls.specs.declared.due.Due.TheVariants.{Undoing, Writing}
 use Rattle.xsi_inquiry.specs.declared.write.TheConstants.{MAX_TRIALS}
-use Rattle.xsi_calls.specs.declared.trials.Trials.{Trials}
-use Rattle.xsi_calls.specs.declared.undecided.UndecidedCall.{UndecidedCall}
+use Rattle.xsi_calls.specs.Undecided.{Trials, UndecidedCall, its_plan, left_in, undecided_left}
 use Rattle.xsi_calls.specs.UndecidedWords.{AreNamesOf, Call, Change, Due, Full, Plan, PoolState, QuestionsView, RecordKey, Records, State, Table, Trying, store_of}
-use Rattle.xsi_calls.specs.Undecided.{its_plan, left_in, undecided_left}
 use Rattle.xsi_calls.specs.Knowing.{IsOnTrial, IsUndecided, IsUndecidedIn}
 use Rattle.xsi_calls.proofs.UndecidedNames.{IsSmall, deeds_left, few_of}
 

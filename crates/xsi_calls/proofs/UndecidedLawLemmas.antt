@@ -19,12 +19,10 @@ use Rattle.xsi_calls.specs.QuestionWords.{Begins}
 use Rattle.xsi_calls.specs.stale_search.Steps.{Sees}
 use Rattle.xsi_inquiry.proofs.AgreeLemmas.{agrees_itself}
 use Rattle.xsi_inquiry.specs.Telling.{most_asked}
-use Rattle.xsi_calls.specs.declared.trials.Trials.{Trials}
+use Rattle.xsi_calls.specs.Undecided.{Trials, IsFresh, its_plan, left_in, UndecidedCall}
 use Rattle.xsi_calls.specs.UndecidedWords.{AreAlike, Call, Change, HasBegun, Known, KnowsNear, Lock, LockName, PoolState, Record, RecordKey, Records, State, Table, guard_of, names_for, names_in, nothing, record_of, row_of, store_of}
-use Rattle.xsi_calls.specs.Undecided.{IsFresh, its_plan, left_in}
 use Rattle.xsi_calls.specs.Knowing.{IsUndecided, IsUndecidedIn}
 use Rattle.xsi_calls.specs.UndecidedLaws.{HaveFewSteps, MOST_UNDECIDED_STEPS}
-use Rattle.xsi_calls.specs.declared.undecided.UndecidedCall.{UndecidedCall}
 use Rattle.xsi_calls.proofs.QuestionHeldLemmas.{none_held}
 use Rattle.xsi_calls.proofs.UndecidedNames.{few_searches as questions_begin_few}
 

@@ -4,13 +4,12 @@ use Rattle.std.specs.Prelude.{slice_get}
 use Rattle.file_pages.specs.declared.fault.FileFault.{FileFault}
 use Rattle.step_rules.specs.declared.kind.Kind.{Kind}
 use Rattle.step_rules.specs.declared.kind.Kind.TheVariants as kinds
-use Rattle.xsi_calls.specs.declared.undecided.UndecidedCall.{UndecidedCall}
+use Rattle.xsi_calls.specs.Undecided.{UndecidedCall, its_plan, untried}
 use Rattle.xsi_calls.specs.declared.writes.CallWrites.{CallWrites}
 use Rattle.xsi_calls.specs.Counting.{MOST_FINDS, finds_behind}
 use Rattle.xsi_calls.specs.Knowing.{IsDecision}
 use Rattle.xsi_calls.specs.MakeSteps.{MakesWrites}
 use Rattle.xsi_calls.specs.QuestionWords.{Moved}
-use Rattle.xsi_calls.specs.Undecided.{its_plan, untried}
 use Rattle.xsi_calls.specs.UndecidedSteps.{MakesUndecided}
 use Rattle.xsi_calls.specs.UndecidedWords.{AreNames, AskStep, At, Call, Decision, IsSeat, Plan, PoolState, QuestionsView, ReachesAtOnce, Record, RecordKey, Table, at, is_done, row_of, writes_locks}
 use Rattle.xsi_calls.specs.WriteRuns.{ReachesBySearch}

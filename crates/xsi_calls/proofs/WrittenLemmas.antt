@@ -10,7 +10,7 @@ use Rattle.xsi_calls.specs.declared.due.Due.TheVariants.{Undoing}
 use Rattle.file_pages.specs.declared.fault.FileFault.{FileFault}
 use Rattle.xsi_inquiry.proofs.LeadLemmas.{same_keys}
 use Rattle.xsi_inquiry.specs.declared.write.Write.TheVariants.{Replace, Relink, Delete}
-use Rattle.xsi_calls.specs.declared.payment.Stage.TheVariants as stages
+use Rattle.xsi_calls.specs.PaymentStages as stages
 use Rattle.xsi_calls.specs.PaymentWords.{RecordKey, PoolState, Table, Lock, Change, Progress, is_fault, Owns, Plan, Records, Due, Trying, Full, Writing, CallWrites, OwnsPlan, decided_at}
 use Rattle.xsi_calls.specs.Paying.{IsPayingWrites}
 use Rattle.xsi_calls.specs.MakeSteps.{MakesWrites}

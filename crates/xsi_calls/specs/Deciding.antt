@@ -4,10 +4,8 @@ use Rattle.std.specs.List.{All, Contains}
 use Rattle.xsi_calls.specs.declared.writes.CallWrites.{CallWrites}
 use Rattle.call_decisions.specs.declared.settled.Settled.TheVariants.{Sweeps}
 use Rattle.xsi_calls.specs.declared.decided.Decided.{Decided}
-use Rattle.xsi_calls.specs.declared.trials.Trials.{Trials}
-use Rattle.xsi_calls.specs.declared.undecided.UndecidedCall.{UndecidedCall}
+use Rattle.xsi_calls.specs.Undecided.{Trials, UndecidedCall, its_plan, trials_of}
 use Rattle.xsi_calls.specs.UndecidedWords.{AreAlike, Call, Change, Exclusive, Full, IsCarrying, LockName, Means, PoolState, QuestionsView, Record, RecordKey, Records, Settled, State, Sweep, Table, Trying, caller_of, guard_of, inserted, is_full, key_of, kind_of, locked_of, names_in, next_deed, nothing, record_of, settled_by}
-use Rattle.xsi_calls.specs.Undecided.{its_plan, trials_of}
 
 -- it is to write: each name under which it does is held Exclusive, all that it inserts on trial is under one of these,
 -- and under them, too, stand the records of s with all trials inserted

@@ -2,11 +2,9 @@
 -- docs/STEPS.md, "Calls", "What a call reads".
 use Rattle.std.specs.Prelude.{ℕ, ◌≡◌, ◌≢◌, Option, Some, None, IsSome, slice_get, take, ⊤}
 use Rattle.xsi_calls.specs.QuestionSteps.{Faces}
-use Rattle.xsi_calls.specs.declared.trials.Trials.{Trials}
-use Rattle.xsi_calls.specs.declared.undecided.UndecidedCall.{UndecidedCall}
+use Rattle.xsi_calls.specs.Undecided.{Trials, UndecidedCall, its_plan}
 use Rattle.xsi_calls.specs.UndecidedWords.{AreAlike, Call, Change, Decision, Due, Full, IsCarrying, IsFiled, IsRight, KnowsNear, KnowsOf, PoolState, QuestionsView, RecordKey, Records, State, Table, Trying, asked_of, caller_of, inserted, locked_of, names_for, names_in, nothing, questions_locks, record_of, row_of}
 use Rattle.xsi_calls.specs.declared.due.Due.TheVariants.{Undoing, Writing}
-use Rattle.xsi_calls.specs.Undecided.{its_plan}
 
 -- ---- it asks
 

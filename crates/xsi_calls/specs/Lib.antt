@@ -18,6 +18,7 @@ pub mod QuestionLaws
 pub mod QuestionRuns
 pub mod WriteRuns
 pub mod PaymentWords
+pub mod PaymentStages
 pub mod Payments
 pub mod Paying
 pub mod PaySteps
@@ -25,7 +26,6 @@ pub mod PaymentLaws
 pub mod UndecidedWords
 pub mod UndecidedBelow
 pub mod Undecided
-pub mod Lending
 pub mod Knowing
 pub mod UndecidedSteps
 pub mod Deciding
@@ -35,6 +35,7 @@ pub mod Below
 pub mod Stages
 pub mod Concluding
 pub mod Machine
+pub mod Parts
 pub mod Calling
 pub mod CallSteps
 pub mod Laws

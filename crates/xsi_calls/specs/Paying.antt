@@ -2,8 +2,8 @@
 use Rattle.std.specs.Prelude.{ℕ, ◌≡◌, ◌<◌, List, Option, IsSome}
 use Rattle.xsi_remove.specs.SweepSteps.{IsOver, turns_of}
 use Rattle.xsi_remove.specs.Words.{MAX_MESSAGES}
-use Rattle.xsi_calls.specs.declared.payment.Stage.{Stage}
-use Rattle.xsi_calls.specs.declared.payment.Stage.TheVariants as stages
+use Rattle.xsi_calls.specs.PaymentStages.{Stage}
+use Rattle.xsi_calls.specs.PaymentStages as stages
 use Rattle.xsi_calls.specs.PaymentWords.{RecordKey, PoolState, Table, Lock, Change, store_of, StandsAt, kind_of, Queue, State, guard_of, IsSmall, Plan, Records, without_swept, Writing, CallWrites, IsCarrying, OwnsPlan, CanGoOn, decided_at, Work, Faces}
 
 -- the same stands in both at each key whose name is held

@@ -4,7 +4,7 @@ use Rattle.std.specs.Prelude.{ℕ, ◌≡◌, List, true, Some, None, take, ⊤}
 use Rattle.std.specs.List.{Contains}
 use Rattle.call_decisions.specs.declared.settled.Settled.TheVariants as settlements
 use Rattle.call_decisions.specs.Owing as owed
-use Rattle.xsi_calls.specs.declared.payment.Stage.{Stage}
+use Rattle.xsi_calls.specs.PaymentStages.{Stage}
 use Rattle.xsi_calls.specs.PaymentWords.{RecordKey, PoolState, Table, Lock, Change, Exclusive, LockName, kind_of, Owns, Call, Caller, State, record_of, IsFiled, Plan, Records, inserted, OwesUnder, overlaid, Settled, AreAlike, Means, Trying, Full, CallWrites, IsCarrying}
 use Rattle.xsi_calls.specs.Payments.{IsPaid, begun_payment, owes_now}
 use Rattle.xsi_calls.specs.Paying.{IsPaying}

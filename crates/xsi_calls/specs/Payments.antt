@@ -4,8 +4,8 @@ use Rattle.std.specs.Prelude.{ℕ, ◌+◌, List, Option, Some, None}
 use Rattle.call_decisions.specs.Owing as owed
 use Rattle.call_decisions.specs.declared.settled.Settled.TheVariants as settlements
 use Rattle.xsi_calls.specs.Views.{IsOver}
-use Rattle.xsi_calls.specs.declared.payment.Stage.{Stage}
-use Rattle.xsi_calls.specs.declared.payment.Stage.TheVariants as stages
+use Rattle.xsi_calls.specs.PaymentStages.{Stage}
+use Rattle.xsi_calls.specs.PaymentStages as stages
 use Rattle.xsi_calls.specs.WriteWords.{AccessView}
 use Rattle.xsi_calls.specs.PaymentWords.{RecordKey, Lock, Store, Known, Turn, Plan, writes_of, Owes, Sweep, Settled, Due, Writing, CallWrites, owes, decided_at, writes_facts, writes_left_in, writes_locks, writes_turn, Work, begun_sweep, sweep_access, sweep_facts, sweep_left, sweep_locks, sweep_turn}
 

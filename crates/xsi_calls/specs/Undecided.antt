@@ -3,9 +3,17 @@ use Rattle.std.specs.Prelude.{ℕ, ◌≡◌, ◌≤◌, ◌+◌, ◌*◌, Bool,
 use Rattle.xsi_calls.specs.declared.writes.CallWrites.{CallWrites}
 use Rattle.xsi_inquiry.specs.declared.write.TheConstants.{MAX_TRIALS}
 use Rattle.xsi_inquiry.specs.Telling.{most_asked}
-use Rattle.xsi_calls.specs.declared.trials.Trials.{Trials}
-use Rattle.xsi_calls.specs.declared.undecided.UndecidedCall.{UndecidedCall}
-use Rattle.xsi_calls.specs.UndecidedWords.{Call, IsBare, IsOver, Known, Lock, MOST_STEPS, Owes, Plan, QuestionsView, RecordKey, Store, Trying, Turn, Writes, is_done, is_full, left_of, owes, plan_of, questions_facts, questions_left, questions_locks, questions_turn, writes_facts, writes_left_in, writes_locks, writes_turn}
+use Rattle.xsi_calls.specs.UndecidedWords.{Call, Decision, IsBare, IsOver, Known, Lock, MOST_STEPS, Owes, Plan, QuestionsView, RecordKey, Store, Trying, Turn, Writes, is_done, is_full, left_of, owes, plan_of, questions_facts, questions_left, questions_locks, questions_turn, writes_facts, writes_left_in, writes_locks, writes_turn}
+
+-- what it inserts on trial, and the decision for which it does, which is made once, before the first trial
+pub record Trials : Type 0 where
+  pub writes : CallWrites
+  pub decision : Decision
+
+-- what it has asked, and the trials that have begun
+pub record UndecidedCall : Type 0 where
+  pub questions : QuestionsView
+  pub trials : Option Trials
 
 -- the plan of its inquiry where that has come
 abbrev pub its_plan : Call → QuestionsView → Plan

@@ -1,8 +1,7 @@
 -- The law of calls up to their Decide, which is the contract of the function of undecided_laws.rt.
 use Rattle.std.specs.Prelude.{ℕ, ◌≤◌}
-use Rattle.xsi_calls.specs.declared.undecided.UndecidedCall.{UndecidedCall}
+use Rattle.xsi_calls.specs.Undecided.{UndecidedCall, IsFresh, undecided_left}
 use Rattle.xsi_calls.specs.UndecidedWords.{Call, Store}
-use Rattle.xsi_calls.specs.Undecided.{IsFresh, undecided_left}
 
 -- the steps of a call that has just begun, if no other seat steps
 abbrev pub MOST_UNDECIDED_STEPS : ℕ

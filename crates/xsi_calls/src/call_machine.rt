@@ -1,19 +1,22 @@
 //! The machine.
 
-ghost use Rattle.std.specs.Prelude.{◌≡◌, Bool, IsSome, None, Some, true, false};
+ghost use Rattle.std.specs.Prelude.{◌≡◌, Bool, IsOk, IsSome, None, Some, true, false};
 ghost use Rattle.std.specs.Option.{is_some};
 ghost use Rattle.xsi_calls.specs.declared.conclusion.Conclusion.TheVariants.{Waits};
 ghost use Rattle.xsi_calls.specs.Words.{CanDecide, IsReady, HasRoom, IsSeat, row_of};
+ghost use Rattle.xsi_calls.specs.Parts.{IsToPay, payment_under, undecided_with};
 ghost use Rattle.xsi_calls.specs.Machine.{Begins, IsOver, answer_of_call, call_locks, conclusion_of, finds_of, is_paying, is_undecided};
 ghost use Rattle.xsi_calls.specs.CallSteps.{Decides, MakesCall, MakesRelease, is_end};
 
 mod skipping;
 
 use crate::conclusion::Conclusion;
-use crate::decided::Decided;
-use crate::payment::{Payment, Stage, is_move, unwritten};
+use crate::part::Part;
+use crate::payment::{is_move, unwritten};
 use crate::phase::Phase;
-use crate::undecided::UndecidedCall;
+use crate::plan::PlanOf;
+use crate::questions::Questions;
+use crate::trials::TrialsPlace;
 use bucket_page::PseudoKey;
 use buffer_pool::Pool;
 use file_pages::FileFault;
@@ -21,6 +24,7 @@ use page_device::PageDevice;
 use page_locks::LockTable;
 use queue_model::{Answer, Call, Caller};
 use std::marker::Model;
+use std::mem::size_of;
 use step_rules::{Kind, Progress};
 use xsi_inquiry::{NotASystem, Room};
 
@@ -29,15 +33,18 @@ use xsi_inquiry::{NotASystem, Room};
 #[derive(Drop)]
 pub struct CallMachine {
     caller: Caller,
-    call: Call,
-    undecided: UndecidedCall,
     phase: Phase,
-    payment: Payment,
+    call: Call,
+    questions: Questions,
+    part: Part,
     conclusion: Conclusion,
 }
 
+const _: () = prove!(size_of::<CallMachine>() <= 2100);
+
 impl Model for CallMachine {
-    ghost use Rattle.xsi_calls.specs.Machine.{CallView, IsOneCall};
+    ghost use Rattle.xsi_calls.specs.Machine.{CallView};
+    ghost use Rattle.xsi_calls.specs.Parts.{IsOneMachine, payment_under, undecided_with};
     ghost use Rattle.xsi_calls.specs.Stages.{stage_at};
 
     ghost Value = { CallView };
@@ -45,16 +52,16 @@ impl Model for CallMachine {
     ghost view = { λ m. record {
       caller = m.caller;
       call = m.call;
-      undecided = m.undecided;
-      stage = stage_at m.phase m.payment m.conclusion;
+      undecided = undecided_with m.questions m.part;
+      stage = stage_at m.phase (payment_under m.part) m.conclusion;
     } };
 
-    ghost invariant = { λ m. IsOneCall (record {
+    ghost invariant = { λ m. IsOneMachine (record {
       caller = m.caller;
       call = m.call;
-      undecided = m.undecided;
-      stage = stage_at m.phase m.payment m.conclusion;
-    }) };
+      undecided = undecided_with m.questions m.part;
+      stage = stage_at m.phase (payment_under m.part) m.conclusion;
+    }) m.phase m.part };
 }
 
 impl CallMachine {
@@ -65,13 +72,13 @@ impl CallMachine {
         ensures begins { Begins caller call result }
         ensures room { result.undecided.questions.room ≡ room }
     {
-        let undecided = UndecidedCall::begin(caller, &call, room);
+        let questions = Questions::begin(caller, &call, room);
         CallMachine {
             caller,
-            call,
-            undecided,
             phase: Phase::Undecided,
-            payment: Payment::new(),
+            call,
+            questions,
+            part: Part::new(),
             conclusion: Conclusion::Waits,
         }
     }
@@ -83,7 +90,8 @@ impl CallMachine {
         ensures begins { Begins caller call self.new }
         ensures room { self.new.undecided.questions.room ≡ room }
     {
-        self.undecided.renew(caller, &call, room);
+        self.questions.renew(caller, &call, room);
+        self.part.rest();
         self.caller = caller;
         self.call = call;
         self.phase = Phase::Undecided;
@@ -96,7 +104,8 @@ impl CallMachine {
         ensures begins { Begins self.old.caller self.old.call self.new }
         ensures room { self.new.undecided.questions.room ≡ self.old.undecided.questions.room }
     {
-        self.undecided.begin_again(self.caller, &self.call);
+        self.questions.begin_again(self.caller, &self.call);
+        self.part.rest();
         self.phase = Phase::Undecided;
     }
 
@@ -144,7 +153,7 @@ impl CallMachine {
     pub fn finds(&self) -> u32
         ensures { result ≡ finds_of self.now }
     {
-        self.undecided.questions().finds()
+        self.questions.finds()
     }
 
     /// The answer, into which its room and its call's memory go; none where it has come to none.
@@ -158,7 +167,7 @@ impl CallMachine {
             return None;
         };
         self.call = Call::Remove { id: 0 };
-        Some(verdict.answer_in(self.undecided.take_room()))
+        Some(verdict.answer_in(self.questions.take_room()))
     }
 
     /// The answer, with a copy of its bytes in other room for as many; none where it has come to
@@ -168,9 +177,7 @@ impl CallMachine {
         ensures { result ≡ answer_of_call self.now }
     {
         match self.conclusion() {
-            Some(conclusion) => {
-                conclusion.answer_in(self.undecided.questions().room().copied_to(other))
-            }
+            Some(conclusion) => { conclusion.answer_in(self.questions.room().copied_to(other)) }
             None => None,
         }
     }
@@ -192,30 +199,20 @@ impl CallMachine {
             pool.old pool.new locks.old locks.new }
     {
         if self.is_undecided() {
-            if self.undecided.still_asks(&self.call) {
-                if self.undecided.questions.is_asking() {
-                    return self
-                        .undecided
-                        .questions
-                        .go_on(pool, locks, keys, seat, &self.call);
-                }
+            if self.questions.still_asks(&self.part, &self.call) {
                 return self
-                    .undecided
                     .questions
-                    .turn(pool, locks, keys, seat, &self.call);
+                    .step(&mut self.part, pool, locks, keys, seat, &self.call);
             }
-            let did = self.undecided.try_on(pool, locks, keys, seat, &self.call);
+            let did = self
+                .part
+                .try_on(&mut self.questions, pool, locks, keys, seat, &self.call);
             if !is_end(did) {
                 return did;
             }
-            self.undecided.questions().keep_order();
-            let Ok(conclusion) = decide(
-                &mut self.undecided,
-                &mut self.payment,
-                &self.call,
-                keys,
-                stopped,
-            ) else {
+            self.questions.keep_order();
+            let Ok(conclusion) = decide(&self.questions, &mut self.part, &self.call, keys, stopped)
+            else {
                 return Progress::Fault(FileFault::Failed);
             };
             self.conclusion = conclusion;
@@ -259,11 +256,11 @@ impl CallMachine {
         ensures { (stopped : Bool) → MakesCall (K.of_key keys.now) seat stopped result
             self.old self.new pool.old pool.new locks.old locks.new }
     {
-        self.undecided.questions().keep_order();
-        let plan = self.undecided.plan(&self.call);
-        let payment = &mut self.payment;
-        match &mut payment.stage {
-            Stage::Sweeping(sweep) => {
+        self.questions.keep_order();
+        let plan = PlanOf::new(&self.call, self.questions.inquiry());
+        match &mut self.part {
+            Part::Asks(_) => unreachable!(),
+            Part::Sweeps(sweep) => {
                 if sweep.is_over() {
                     return Progress::Fault(FileFault::Failed);
                 }
@@ -274,11 +271,14 @@ impl CallMachine {
                 if !sweep.is_over() {
                     return did;
                 }
-                payment.stage = Stage::Writing(unwritten());
+                self.part = Part::Writes(TrialsPlace {
+                    writes: unwritten(),
+                    decision: None,
+                });
                 return did;
             }
-            Stage::Writing(writes) => {
-                let did = writes.step(&plan, pool, locks, keys, seat);
+            Part::Writes(place) => {
+                let did = place.writes.step(&plan, pool, locks, keys, seat);
                 if !is_end(did) {
                     return did;
                 }
@@ -296,7 +296,7 @@ impl CallMachine {
         requires paid { is_paying self.old.stage ≡ false }
         ensures { MakesRelease seat result self.old self.new locks.old locks.new }
     {
-        self.undecided.give_back(locks, seat)
+        self.questions.give_back(locks, seat)
     }
 }
 
@@ -304,19 +304,21 @@ impl CallMachine {
 /// since each step would make room for what it alone needs.
 #[inline(never)]
 fn decide<K: PseudoKey>(
-    undecided: &mut UndecidedCall,
-    payment: &mut Payment,
+    questions: &Questions,
+    part: &mut Part,
     call: &Call,
     keys: &K,
     stopped: bool,
 ) -> Result<Conclusion, NotASystem>
-    requires { CanDecide call.now undecided.old }
-    ensures { Decides (K.of_key keys.now) call.now stopped result undecided.old undecided.new
-        payment.new }
+    requires { CanDecide call.now (undecided_with questions.now part.old) }
+    ensures decides { Decides (K.of_key keys.now) call.now stopped result
+        (undecided_with questions.now part.old) (undecided_with questions.now part.new)
+        (payment_under part.new) }
+    ensures pays { IsOk result → IsToPay part.new }
 {
-    let Decided { settled, due } = undecided.decide(call, stopped)?;
-    payment.begin(settled, due, keys);
-    Ok(Conclusion::of(settled))
+    let decided = part.decide(questions, call, stopped)?;
+    part.begin_payment(decided.settled, decided.due, keys);
+    Ok(Conclusion::of(decided.settled))
 }
 
 /// Whether it has ended.

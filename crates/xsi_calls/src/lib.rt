@@ -13,6 +13,7 @@ mod hearing;
 mod held_laws;
 mod held_names;
 mod laws;
+mod part;
 mod payment;
 mod payment_laws;
 mod phase;
@@ -39,7 +40,6 @@ pub use laws::{
     a_call_begins_few_searches, calls_begin_right, calls_have_few_steps, calls_have_few_steps_left,
     calls_hold_their_names,
 };
-pub use payment::Payment;
 pub use payment_laws::{
     a_payment_owes_what_is_held, a_payment_that_is_over_owes_nothing, what_is_decided_is_paid,
 };
@@ -48,10 +48,8 @@ pub use question_laws::{
     a_call_asks_under_its_names, a_call_writes_under_names_that_it_holds, questions_have_few_steps,
     what_stands_answers_a_question,
 };
-pub use questions::Questions;
 pub use step_rules;
 pub use turn::NameTurn;
-pub use undecided::UndecidedCall;
 pub use undecided_laws::calls_decide_in_few_steps;
 pub use write_laws::{trials_stand_in_order, what_is_decided_is_owed, what_is_due_is_owed};
 pub use writes::CallWrites;

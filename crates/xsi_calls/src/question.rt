@@ -1,14 +1,18 @@
 //! A question under way.
 
-ghost use Rattle.std.specs.Prelude.{◌≡◌, true, None, Some, if◌then◌else◌};
-ghost use Rattle.xsi_calls.specs.QuestionWords.{Look, Moved};
+ghost use Rattle.std.specs.Prelude.{◌≡◌, false, true, None, Some, if◌then◌else◌};
+ghost use Rattle.std.specs.Option.{is_some};
+ghost use Rattle.xsi_calls.specs.QuestionWords.{Look, Moved, ToFind, begun};
 ghost use Rattle.xsi_calls.specs.QuestionSteps.{Closes, Listens};
 
 use crate::hearing::hear;
+use bucket_page::RecordKey;
 use call_decisions::AnyInquiry;
 use file_pages::FileFault;
 use queue_model::Call;
+use queue_records::counter_key;
 use record_file::Access;
+use std::marker::Model;
 use step_rules::{Kind, Progress};
 use xsi_inquiry::{NotASystem, Room};
 
@@ -18,6 +22,66 @@ use xsi_inquiry::{NotASystem, Room};
 pub(crate) struct Question {
     pub(crate) access: Access,
     pub(crate) told: bool,
+}
+
+/// The place of a question, which is under way or not. The next one begins where the last one was.
+#[derive(Drop)]
+pub(crate) struct QuestionPlace {
+    pub(crate) question: Question,
+    pub(crate) is_asking: bool,
+}
+
+impl Model for QuestionPlace {
+    ghost use Rattle.std.specs.Prelude.{◌≡◌, Option, Some, None, true, if◌then◌else◌};
+    ghost use Rattle.xsi_calls.specs.declared.question.Question.{Question};
+    ghost use Rattle.xsi_calls.specs.Questions.{IsUnderWay};
+
+    ghost Value = { Option Question };
+
+    ghost view = { λ p. if p.is_asking then Some p.question else None };
+
+    ghost invariant = { λ p. p.is_asking ≡ true → IsUnderWay p.question.access };
+}
+
+impl QuestionPlace {
+    /// None is under way.
+    pub(crate) fn new() -> QuestionPlace
+        ensures { result ≡ None }
+    {
+        QuestionPlace {
+            question: Question {
+                access: Access::find(counter_key(), 0),
+                told: false,
+            },
+            is_asking: false,
+        }
+    }
+
+    /// Whether one is under way.
+    pub(crate) fn is_asking(&self) -> bool
+        ensures { result ≡ is_some self.now }
+    {
+        self.is_asking
+    }
+
+    /// One begins that reads a key, which has this pseudokey.
+    pub(crate) fn begin(&mut self, key: RecordKey, pseudokey: u32)
+        ensures { self.new ≡ Some (record {
+          access = begun (ToFind key) pseudokey;
+          told = false;
+        }) }
+    {
+        self.question.access.begin_find(key, pseudokey);
+        self.question.told = false;
+        self.is_asking = true;
+    }
+
+    /// It is let go.
+    pub(crate) fn close(&mut self)
+        ensures { self.new ≡ None }
+    {
+        self.is_asking = false;
+    }
 }
 
 /// Tells the inquiry what the access has found, in the Look by which a page answered: behind it

@@ -1,13 +1,13 @@
 //! The call that asks.
 
-ghost use Rattle.std.specs.Prelude.{◌≡◌, ◌≤◌, None, false, IsSome};
-ghost use Rattle.std.specs.Option.{is_some};
+ghost use Rattle.std.specs.Prelude.{◌≡◌, ◌≤◌, None, false, true, IsSome};
 ghost use Rattle.xsi_calls.specs.NameSteps.{GivesBack, MakesNameStep};
 ghost use Rattle.xsi_inquiry.specs.Rooms.{HasRoom};
 ghost use Rattle.xsi_inquiry.specs.Telling.{most_asked};
 ghost use Rattle.xsi_calls.specs.QuestionWords.{AreNames, IsReady, IsSeat, Ready, State, caller_of, left_of, name_turn, names_for, row_of, with_row};
 ghost use Rattle.xsi_calls.specs.Answering.{key_asked};
 ghost use Rattle.xsi_calls.specs.Counting.{finds_behind};
+ghost use Rattle.xsi_calls.specs.Parts.{asked_with, question_under, trials_under};
 ghost use Rattle.xsi_calls.specs.Questions.{IsBare, KnowsNear, changes, has_asked, is_done, is_ready, questions_locks};
 ghost use Rattle.xsi_calls.specs.QuestionSteps.{MakesQuestions, is_blocked};
 
@@ -15,7 +15,8 @@ mod skipping;
 
 use crate::counting::finds_behind;
 use crate::held_names::HeldNames;
-use crate::question::{Question, goes_on, listen};
+use crate::part::Part;
+use crate::question::{QuestionPlace, goes_on, listen};
 use crate::turn::NameTurn;
 use bucket_page::{PseudoKey, RecordKey};
 use buffer_pool::Pool;
@@ -25,73 +26,48 @@ use page_device::PageDevice;
 use page_locks::LockTable;
 use queue_model::{Call, Caller};
 use queue_records::counter_key;
-use record_file::Access;
-use std::marker::Model;
 use step_rules::Progress;
 use xsi_inquiry::{Inquiry, Room, Wanted};
 
-/// A call's reading half: what it asks of the file, under the names that it takes for that. The
-/// next question begins where the last one was.
+/// A call's reading half: what it asks of the file, under the names that it takes for that. It is
+/// lent the room of the question that is under way.
 #[derive(Drop)]
-pub struct Questions {
+pub(crate) struct Questions {
     inquiry: AnyInquiry,
     room: Room,
     names: HeldNames,
-    question: Question,
-    is_asking: bool,
     finds: u32,
-}
-
-impl Model for Questions {
-    ghost use Rattle.std.specs.Prelude.{◌≡◌, Some, None, true, if◌then◌else◌};
-    ghost use Rattle.xsi_calls.specs.Questions.{QuestionsView, IsUnderWay};
-
-    ghost Value = { QuestionsView };
-
-    ghost view = { λ q. record {
-      inquiry = q.inquiry;
-      room = q.room;
-      names = q.names;
-      question = if q.is_asking then Some q.question else None;
-      finds = q.finds;
-    } };
-
-    ghost invariant = { λ q. q.is_asking ≡ true → IsUnderWay q.question.access };
 }
 
 impl Questions {
     /// Those of a call that begins. The bytes that it is answered have this room.
-    pub fn begin(by: Caller, call: &Call, room: Room) -> Questions
+    pub(crate) fn begin(by: Caller, call: &Call, room: Room) -> Questions
         ensures caller { caller_of result.inquiry ≡ by }
         ensures few { left_of call.now result.inquiry ≤ most_asked call.now }
         ensures finds { result.finds ≡ 0 }
-        ensures bare { IsBare result }
+        ensures bare { IsBare (asked_with result None) }
         ensures room { result.room ≡ room }
-        ensures knows { (s : State) → HasRoom call.now room → KnowsNear call.now result s }
+        ensures knows { (s : State) → HasRoom call.now room →
+            KnowsNear call.now (asked_with result None) s }
     {
         Questions {
             inquiry: AnyInquiry::begin(by, call),
             room,
             names: HeldNames::new(),
-            question: Question {
-                access: Access::find(counter_key(), 0),
-                told: false,
-            },
-            is_asking: false,
             finds: 0,
         }
     }
 
     /// A call that has waited begins anew, over the same room. It holds no name.
-    pub fn begin_again(&mut self, by: Caller, call: &Call)
-        requires { IsBare self.old }
+    pub(crate) fn begin_again(&mut self, by: Caller, call: &Call)
+        requires { IsBare (asked_with self.old None) }
         ensures caller { caller_of self.new.inquiry ≡ by }
         ensures few { left_of call.now self.new.inquiry ≤ most_asked call.now }
         ensures finds { self.new.finds ≡ 0 }
-        ensures bare { IsBare self.new }
+        ensures bare { IsBare (asked_with self.new None) }
         ensures room { self.new.room ≡ self.old.room }
         ensures knows { (s : State) → HasRoom call.now self.old.room →
-            KnowsNear call.now self.new s }
+            KnowsNear call.now (asked_with self.new None) s }
     {
         self.inquiry = AnyInquiry::begin(by, call);
         self.finds = 0;
@@ -99,22 +75,22 @@ impl Questions {
 
     /// Become those of another call, in the place of one that is over. The bytes that it is answered
     /// have this room.
-    pub fn renew(&mut self, by: Caller, call: &Call, room: Room)
+    pub(crate) fn renew(&mut self, by: Caller, call: &Call, room: Room)
         ensures caller { caller_of self.new.inquiry ≡ by }
         ensures few { left_of call.now self.new.inquiry ≤ most_asked call.now }
         ensures finds { self.new.finds ≡ 0 }
-        ensures bare { IsBare self.new }
+        ensures bare { IsBare (asked_with self.new None) }
         ensures room { self.new.room ≡ room }
-        ensures knows { (s : State) → HasRoom call.now room → KnowsNear call.now self.new s }
+        ensures knows { (s : State) → HasRoom call.now room →
+            KnowsNear call.now (asked_with self.new None) s }
     {
         self.room = room;
         self.names = HeldNames::new();
-        self.is_asking = false;
         self.begin_again(by, call);
     }
 
     /// The inquiry, which is asked to decide once all is asked.
-    pub fn inquiry(&self) -> &AnyInquiry
+    pub(crate) fn inquiry(&self) -> &AnyInquiry
         ensures { result.now ≡ self.now.inquiry }
     {
         &self.inquiry
@@ -122,14 +98,14 @@ impl Questions {
 
     /// The searches that its call has begun since it last began: those of its questions, one a
     /// question, and what was counted beside them.
-    pub fn finds(&self) -> u32
+    pub(crate) fn finds(&self) -> u32
         ensures { result ≡ self.now.finds }
     {
         self.finds
     }
 
     /// Counts a search of the call beside its questions, where one has begun by this step.
-    pub fn count(&mut self, step: Progress<FileFault>, locks: &LockTable, seat: u8)
+    pub(crate) fn count(&mut self, step: Progress<FileFault>, locks: &LockTable, seat: u8)
         requires { IsSeat locks.now seat }
         ensures { self.new ≡ record self.old {
           finds = finds_behind step (row_of locks.now seat) self.old.finds;
@@ -139,14 +115,14 @@ impl Questions {
     }
 
     /// The room for the bytes that the call is answered.
-    pub fn room(&self) -> &Room
+    pub(crate) fn room(&self) -> &Room
         ensures { result.now ≡ self.now.room }
     {
         &self.room
     }
 
     /// The room moves out, for the answer. What stays has room for no byte.
-    pub fn take_room(&mut self) -> Room
+    pub(crate) fn take_room(&mut self) -> Room
         ensures room { result ≡ self.old.room }
         ensures others { self.new ≡ record self.old { room = self.new.room } }
     {
@@ -154,18 +130,31 @@ impl Questions {
     }
 
     /// Its names stand in order, each once and at most three, none of them the directory or a page.
-    pub fn keep_order(&self)
+    pub(crate) fn keep_order(&self)
         ensures { AreNames self.now.names }
     {
         self.names.keep_order();
     }
 
+    /// Whether it still asks: nothing is inserted on trial, and not all is asked.
+    pub(crate) fn still_asks(&self, part: &Part, call: &Call) -> bool
+        ensures asks { result ≡ true → (trials_under part.now ≡ None)
+            × (is_done call.now (asked_with self.now (question_under part.now)) ≡ false) }
+        ensures asked { result ≡ false → trials_under part.now ≡ None →
+            is_done call.now (asked_with self.now (question_under part.now)) ≡ true }
+    {
+        if part.is_trying() {
+            return false;
+        }
+        !self.is_done(part, call)
+    }
+
     /// Whether nothing is left to ask, and what is inserted on trial or written stands under names
     /// that are held.
-    pub fn is_done(&self, call: &Call) -> bool
-        ensures { result ≡ is_done call.now self.now }
+    pub(crate) fn is_done(&self, part: &Part, call: &Call) -> bool
+        ensures { result ≡ is_done call.now (asked_with self.now (question_under part.now)) }
     {
-        if self.is_asking {
+        if part.is_asking() {
             return false;
         }
         self.has_asked(call)
@@ -173,7 +162,7 @@ impl Questions {
 
     /// Whether the inquiry asks nothing more, and the names are there where it changes the file.
     fn has_asked(&self, call: &Call) -> bool
-        ensures { result ≡ has_asked call.now self.now }
+        ensures { result ≡ has_asked call.now (asked_with self.now None) }
     {
         if self.inquiry.wants(call).is_some() {
             return false;
@@ -198,9 +187,8 @@ impl Questions {
     }
 
     /// One step after the call's last write: the name that was taken last is given back.
-    pub fn give_back(&mut self, locks: &mut LockTable, seat: u8) -> Progress<FileFault>
+    pub(crate) fn give_back(&mut self, locks: &mut LockTable, seat: u8) -> Progress<FileFault>
         requires seat { IsSeat locks.old seat }
-        requires none { self.old.question ≡ None }
         requires row { row_of locks.old seat ≡ self.old.names }
         // whatever the device gives
         ensures gives { GivesBack result self.old.names self.new.names }
@@ -212,17 +200,10 @@ impl Questions {
         self.names.give_back(locks, seat)
     }
 
-    /// Whether a question is under way.
-    pub fn is_asking(&self) -> bool
-        ensures { result ≡ is_some self.now.question }
-    {
-        self.is_asking
-    }
-
-    /// One step where no question is under way: a name is taken or given back, or the record is read
-    /// that the inquiry asks for.
-    pub fn turn<D: PageDevice, K: PseudoKey>(
+    /// One step of the question under way, or else of those that come next.
+    pub(crate) fn step<D: PageDevice, K: PseudoKey>(
         &mut self,
+        part: &mut Part,
         pool: &mut Pool<D>,
         locks: &mut LockTable,
         keys: &K,
@@ -231,10 +212,45 @@ impl Questions {
     ) -> Progress<FileFault>
         requires seat { IsSeat locks.old seat }
         requires ready { IsReady pool.old }
-        requires none { self.old.question ≡ None }
-        requires row { row_of locks.old seat ≡ self.old.names }
-        ensures { MakesQuestions (K.of_key keys.now) seat call.now result self.old self.new
+        requires untried { trials_under part.old ≡ None }
+        requires row { row_of locks.old seat
+            ≡ questions_locks (asked_with self.old (question_under part.old)) }
+        ensures made { MakesQuestions (K.of_key keys.now) seat call.now result
+            (asked_with self.old (question_under part.old))
+            (asked_with self.new (question_under part.new))
             pool.old pool.new locks.old locks.new }
+        ensures untried { trials_under part.new ≡ None }
+    {
+        if !part.is_asking() {
+            return self.turn(part, pool, locks, keys, seat, call);
+        }
+        match part {
+            Part::Asks(question) => self.go_on(question, pool, locks, keys, seat, call),
+            Part::Writes(_) | Part::Sweeps(_) => unreachable!(),
+        }
+    }
+
+    /// One step where no question is under way: a name is taken or given back, or the record is read
+    /// that the inquiry asks for.
+    fn turn<D: PageDevice, K: PseudoKey>(
+        &mut self,
+        part: &mut Part,
+        pool: &mut Pool<D>,
+        locks: &mut LockTable,
+        keys: &K,
+        seat: u8,
+        call: &Call,
+    ) -> Progress<FileFault>
+        requires seat { IsSeat locks.old seat }
+        requires ready { IsReady pool.old }
+        requires none { question_under part.old ≡ None }
+        requires untried { trials_under part.old ≡ None }
+        requires row { row_of locks.old seat ≡ self.old.names }
+        ensures made { MakesQuestions (K.of_key keys.now) seat call.now result
+            (asked_with self.old (question_under part.old))
+            (asked_with self.new (question_under part.new))
+            pool.old pool.new locks.old locks.new }
+        ensures untried { trials_under part.new ≡ None }
     {
         if self.has_asked(call) {
             return Progress::Ended;
@@ -243,13 +259,20 @@ impl Questions {
         match self.names.turn(call, &self.inquiry) {
             NameTurn::Take(lock) => self.names.take(locks, seat, lock),
             NameTurn::GiveBack => self.names.give_back(locks, seat),
-            NameTurn::Ready => self.ask(pool, locks, keys, seat, call),
+            NameTurn::Ready => {
+                part.make_question();
+                match part {
+                    Part::Asks(question) => self.ask(question, pool, locks, keys, seat, call),
+                    Part::Writes(_) | Part::Sweeps(_) => unreachable!(),
+                }
+            }
         }
     }
 
     /// The first step of the next question. Where it is blocked the question has not begun.
     fn ask<D: PageDevice, K: PseudoKey>(
         &mut self,
+        question: &mut QuestionPlace,
         pool: &mut Pool<D>,
         locks: &mut LockTable,
         keys: &K,
@@ -258,31 +281,31 @@ impl Questions {
     ) -> Progress<FileFault>
         requires seat { IsSeat locks.old seat }
         requires ready { IsReady pool.old }
-        requires none { self.old.question ≡ None }
+        requires none { question.old ≡ None }
         requires row { row_of locks.old seat ≡ self.old.names }
-        requires asks { has_asked call.now self.old ≡ false }
+        requires asks { has_asked call.now (asked_with self.old None) ≡ false }
         requires names { name_turn self.old.names (names_for call.now self.old.inquiry) ≡ Ready }
-        ensures { MakesQuestions (K.of_key keys.now) seat call.now result self.old self.new
+        ensures { MakesQuestions (K.of_key keys.now) seat call.now result
+            (asked_with self.old question.old) (asked_with self.new question.new)
             pool.old pool.new locks.old locks.new }
     {
         let Some(wanted) = self.inquiry.wants(call) else {
             return Progress::Ended;
         };
         let key = key_asked(wanted);
-        self.question.access.begin_find(key, keys.of(&key));
-        self.question.told = false;
-        self.is_asking = true;
-        let did = self.go_on(pool, locks, keys, seat, call);
+        question.begin(key, keys.of(&key));
+        let did = self.go_on(question, pool, locks, keys, seat, call);
         if is_blocked(did) {
-            self.is_asking = false;
+            question.close();
             return did;
         }
         did
     }
 
     /// One step of the question under way.
-    pub fn go_on<D: PageDevice, K: PseudoKey>(
+    fn go_on<D: PageDevice, K: PseudoKey>(
         &mut self,
+        question: &mut QuestionPlace,
         pool: &mut Pool<D>,
         locks: &mut LockTable,
         keys: &K,
@@ -291,21 +314,22 @@ impl Questions {
     ) -> Progress<FileFault>
         requires seat { IsSeat locks.old seat }
         requires ready { IsReady pool.old }
-        requires under_way { IsSome self.old.question }
-        requires row { row_of locks.old seat ≡ questions_locks self.old }
-        ensures { MakesQuestions (K.of_key keys.now) seat call.now result self.old self.new
+        requires under_way { IsSome question.old }
+        requires row { row_of locks.old seat ≡ questions_locks (asked_with self.old question.old) }
+        ensures { MakesQuestions (K.of_key keys.now) seat call.now result
+            (asked_with self.old question.old) (asked_with self.new question.new)
             pool.old pool.new locks.old locks.new }
     {
         self.names.keep_order();
-        let did = self.question.access.step(pool, locks, keys, seat);
+        let did = question.question.access.step(pool, locks, keys, seat);
         let heard = listen(
-            &mut self.question,
+            &mut question.question,
             &mut self.inquiry,
             &mut self.room,
             call,
             did,
         );
-        self.is_asking = goes_on(&self.question);
+        question.is_asking = goes_on(&question.question);
         let Ok(()) = heard else {
             return Progress::Fault(FileFault::Failed);
         };

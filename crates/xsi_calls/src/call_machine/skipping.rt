@@ -6,6 +6,8 @@ ghost use Rattle.xsi_calls.specs.Machine.{call_locks, is_undecided};
 ghost use Rattle.xsi_calls.specs.Words.{AsksAtOnce, IsReady, IsSeat, ReachesAtOnce, row_of};
 
 use crate::call_machine::CallMachine;
+use crate::part::Part;
+use crate::plan::PlanOf;
 use bucket_page::PseudoKey;
 use buffer_pool::Pool;
 use page_device::PageDevice;
@@ -35,12 +37,13 @@ impl CallMachine {
         if !self.is_undecided() {
             return false;
         }
-        if self.undecided.trials.have_begun() {
+        if self.part.is_asking() {
             return false;
         }
-        self.undecided
-            .questions
-            .skip(pool, locks, keys, seat, &self.call)
+        if self.part.is_trying() {
+            return false;
+        }
+        self.questions.skip(pool, locks, keys, seat, &self.call)
     }
 
     /// All steps up to the Look of the next record that it inserts on trial, writes or takes out of
@@ -63,13 +66,18 @@ impl CallMachine {
         ensures spares { result ≡ false → (self.new ≡ self.old) × (locks.new ≡ locks.old) }
     {
         if self.is_undecided() {
-            return self.undecided.reach(pool, locks, keys, seat, &self.call);
+            return self
+                .part
+                .reach(&mut self.questions, pool, locks, keys, seat, &self.call);
         }
         if !self.is_paying() {
             return false;
         }
-        self.undecided.questions().keep_order();
-        let plan = self.undecided.plan(&self.call);
-        self.payment.reach(&plan, pool, locks, keys, seat)
+        self.questions.keep_order();
+        let plan = PlanOf::new(&self.call, self.questions.inquiry());
+        if let Part::Writes(place) = &mut self.part {
+            return place.writes.reach(&plan, pool, locks, keys, seat);
+        }
+        false
     }
 }

@@ -1,9 +1,9 @@
 //! A question that is asked in one go.
 
-ghost use Rattle.std.specs.Prelude.{◌≡◌, ◌+◌, false, min, true};
+ghost use Rattle.std.specs.Prelude.{◌≡◌, ◌+◌, None, false, min, true};
 ghost use Rattle.xsi_calls.specs.QuestionWords.{IsReady, IsSeat, row_of};
 ghost use Rattle.xsi_calls.specs.Counting.{MOST_FINDS};
-ghost use Rattle.xsi_calls.specs.Questions.{questions_locks};
+ghost use Rattle.xsi_calls.specs.Parts.{asked_with};
 ghost use Rattle.xsi_calls.specs.QuestionSteps.{MakesQuestions};
 ghost use Rattle.xsi_calls.specs.QuestionRuns.{AsksAtOnce};
 
@@ -18,11 +18,11 @@ use record_file::{BucketAccess, Deed, record_ahead};
 use xsi_inquiry::Inquiry;
 
 impl Questions {
-    /// All steps of the next question, in one go: where none is under way, the names that it needs
-    /// are held, its find goes straight to a page, which is in a frame as all pages on its way are,
+    /// All steps of the next question, in one go, while none is under way: where the names that it
+    /// needs are held, its find goes straight to a page, which is in a frame as all pages on its way are,
     /// and what stands there is a record of its key, or none does. The record is heard from that
     /// frame: no access begins for it. Else nothing is done, and it is left to `turn`.
-    pub fn skip<D: PageDevice, K: PseudoKey>(
+    pub(crate) fn skip<D: PageDevice, K: PseudoKey>(
         &mut self,
         pool: &mut Pool<D>,
         locks: &LockTable,
@@ -32,16 +32,13 @@ impl Questions {
     ) -> bool
         requires seat { IsSeat locks.now seat }
         requires ready { IsReady pool.old }
-        requires row { row_of locks.now seat ≡ questions_locks self.old }
+        requires row { row_of locks.now seat ≡ self.old.names }
         ensures pool { pool.new ≡ pool.old }
         ensures made { result ≡ true → AsksAtOnce
-            (MakesQuestions (K.of_key keys.now) seat call.now) seat self.old self.new
-            pool.old locks.now }
+            (MakesQuestions (K.of_key keys.now) seat call.now) seat (asked_with self.old None)
+            (asked_with self.new None) pool.old locks.now }
         ensures spares { result ≡ false → self.new ≡ self.old }
     {
-        if self.is_asking {
-            return false;
-        }
         let Some(wanted) = self.inquiry.wants(call) else {
             return false;
         };

@@ -1,5 +1,5 @@
 -- The find makes its moves, and the inquiry hears of what was read ahead.
-use Rattle.std.proofs.Common.{◌≡◌, ℕ, ◌+◌, ◌≤◌, List, min, sym, ap, ◌∙◌, subst, arith, length, Bool, Some, None, if◌then◌else◌}
+use Rattle.std.proofs.Common.{◌≡◌, ℕ, ◌+◌, ◌≤◌, List, min, sym, ap, ◌∙◌, subst, arith, length, None}
 use Rattle.page_locks.specs.declared.row.TheConstants.{MAX_LOCKS}
 use Rattle.record_file.specs.AccessWords.{HasNoFileLock}
 use Rattle.record_file.specs.BucketAccesses.{BucketView, begun_access}
@@ -10,7 +10,6 @@ use Rattle.record_file.proofs.FindAheadLemmas.{finds_ahead, found_there, same_ah
 use Rattle.xsi_calls.specs.Answering.{key_asked}
 use Rattle.xsi_calls.specs.Counting.{MOST_FINDS}
 use Rattle.xsi_calls.specs.QuestionRuns.{AsksAtOnce}
-use Rattle.xsi_calls.specs.Questions.{locks_behind, questions_locks}
 use Rattle.xsi_calls.specs.QuestionSteps.{MakesQuestions}
 use Rattle.xsi_calls.specs.QuestionWords.{Lock, PoolState, RecordKey, row_of}
 use Rattle.xsi_calls.proofs.QuestionAtOnceLemmas.{asks_at_once, ready_is}
@@ -19,7 +18,7 @@ use Rattle.xsi_calls.proofs.questions.Questions.skip.Goals as goal
 pub returns-clause-made : goal.returns-clause-made
 returns-clause-made g c = λ made.
     let hash = g.K.PseudoKey.of_key c.args.keys.now in
-    let i = c.self.inside in
+    let i = c.args.self.now in
     let pool = c.args.pool.now in
     let locks = c.args.locks.now in
     let seat = c.args.seat in
@@ -29,8 +28,7 @@ returns-clause-made g c = λ made.
     let key = key_asked c.in-Some.wanted in
     let key_is = c.key_asked-key.ensures in
     let names = c.keep_order.ensures in
-    let row = c.requires.row ∙ sym (ap questions_locks c.self.view_is)
-    ∙ ap (λ (b : Bool). locks_behind (if b then Some i.question else None) i.names) c.if-self.false in
+    let row = c.requires.row in
     let asked = sym c.wants.ensures ∙ c.in-Some.is in
     let turn = sym c.turn.ensures
     ∙ ready_is c.turn.result (sym c.is_ready.ensures ∙ c.if-not-is_ready.false) in
@@ -47,23 +45,23 @@ returns-clause-made g c = λ made.
     subst (λ (x : RecordKey). IsReadAhead found x (value_on pool page x)) key_is
     (subst (λ (p : PoolState). IsReadAhead found c.key_asked-key.result (value_on p page c.key_asked-key.result))
     c.heads_for.ensures.pool c.in-Some-record_ahead.ensures) in
-    let more : c.saturating_add-self-inside.result ≡ min (i.finds + 1) MOST_FINDS =
-    c.saturating_add-self-inside.ensures in
-    rw (← c.self.view_is, c.if-self.false) (subst (λ (n : ℕ). AsksAtOnce (MakesQuestions
+    let more : c.saturating_add-self.result ≡ min (i.finds + 1) MOST_FINDS =
+    c.saturating_add-self.ensures in
+    subst (λ (n : ℕ). AsksAtOnce (MakesQuestions
     (g.K.PseudoKey.of_key c.args.keys.now) c.args.seat c.args.call.now) c.args.seat (record {
-      inquiry = c.self.inside.inquiry;
-      room = c.self.inside.room;
-      names = c.self.inside.names;
+      inquiry = c.args.self.now.inquiry;
+      room = c.args.self.now.room;
+      names = c.args.self.now.names;
       question = None;
-      finds = c.self.inside.finds;
+      finds = c.args.self.now.finds;
     }) (record {
       inquiry = c.hear.new.inquiry;
       room = c.hear.new.room;
-      names = c.self.inside.names;
+      names = c.args.self.now.names;
       question = None;
       finds = n;
     }) c.args.pool.now c.args.locks.now) (sym more)
     (asks_at_once hash c.args.seat c.args.call.now i.inquiry i.room i.names names c.args.pool.now
     c.args.locks.now row c.requires.seat i.finds c.in-Some.wanted asked turn c.of.result keyed
     (found_there seat pool locks key k page) finds found (same_ahead seat pool locks key k page found read)
-    c.hear.new.inquiry c.hear.new.room c.hear.result c.hear.ensures.hears))
+    c.hear.new.inquiry c.hear.new.room c.hear.result c.hear.ensures.hears)
