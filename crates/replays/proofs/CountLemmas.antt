@@ -51,7 +51,8 @@ answered_more (steps.Answered answer) = 1
 answered_more steps.Idle = 0
 answered_more (steps.Fault fault) = 0
 
-many_told : (seat : ℕ) (call : Call) (did : Step) → length (entry_of seat (Some call) (answer_told did)) ≡ answered_more did
+many_told : (seat : ℕ) (call : Call) (did : Step) →
+    length (entry_of seat (Some call) (answer_told did)) ≡ answered_more did
 many_told seat call (steps.Moved kind) = refl
 many_told seat call (steps.Blocked other) = refl
 many_told seat call steps.Waiting = refl

@@ -101,7 +101,8 @@ module _ (script : List Line) (many : ℕ) (lines : List LinesView) (desks : Lis
     pub lines_there : (place : ℕ) → place < many → (desk_at made place).lines.lines ≡ script
     lines_there place below =
         (are.each place (here place below)).lines_are
-        ∙ ap (λ (s : LinesView). s.lines) (paired.lines_are place (here place below)) ∙ (fresh.each place below).lines_are
+        ∙ ap (λ (s : LinesView). s.lines)
+        (paired.lines_are place (here place below)) ∙ (fresh.each place below).lines_are
 
     pub sitter_at : (place : ℕ) → place < many → (desk_at made place).sitter.seat ≡ place + 1
     sitter_at place below = (are.each place (here place below)).at_seat ∙ seat_at place below
@@ -129,7 +130,8 @@ module _ (script : List Line) (many : ℕ) (lines : List LinesView) (desks : Lis
         }
 
     -- no seat is missing
-    any_at : (number : ℕ) (ds : List DeskView) (place : ℕ) → place < length ds → (desk_at ds place).sitter.seat ≡ number →
+    any_at : (number : ℕ) (ds : List DeskView) (place : ℕ) → place < length ds →
+        (desk_at ds place).sitter.seat ≡ number →
         list_any (sits_at number) (map (λ (d : DeskView). d.sitter) ds) ≡ true
     any_at number [] place below is = absurd (omega arith)
     any_at number (d ∷ ds) zero below is = grind (arith, is)
@@ -152,7 +154,8 @@ sitters desks = map (λ (d : DeskView). d.sitter) desks
 abbrev pub lines_on : List DeskView → List LinesView
 lines_on desks = map (λ (d : DeskView). d.lines) desks
 
-pub sitter_there : (ds : List DeskView) (place : ℕ) → slice_index_or (sitters ds) place nobody ≡ (desk_at ds place).sitter
+pub sitter_there : (ds : List DeskView) (place : ℕ) →
+    slice_index_or (sitters ds) place nobody ≡ (desk_at ds place).sitter
 sitter_there [] place = refl
 sitter_there (d ∷ ds) zero = refl
 sitter_there (d ∷ ds) (suc place) = sitter_there ds place

@@ -204,5 +204,7 @@ module _ (content : List (List ℕ)) (file : IsFileOf sha_key content no_queues)
     runs_in_memory (inl r) = inl (run_new r)
     runs_in_memory (inr refused) = inr (subst (λ (n : ℕ). IsFaultAlone n c.old c.new ending)
         (machine_alone refused.fault
-        (subst (λ (p : List (List ℕ)). MayRefuseUnchecked sha_key p refused.fault) its (refused.cause refl)) refused.framed
-        (λ is. subst (λ (n : ℕ). HasRisen n 0) none_before (subst (HasRisen c.was) none (refused.failed is)))) refused.leaves.alone)
+        (subst (λ (p : List (List ℕ)). MayRefuseUnchecked sha_key p refused.fault)
+        its (refused.cause refl)) refused.framed
+        (λ is. subst (λ (n : ℕ). HasRisen n 0) none_before (subst (HasRisen c.was) none (refused.failed is))))
+        refused.leaves.alone)

@@ -143,7 +143,13 @@ pub record Begun (count : ℕ) (guarded : List ℕ) (pages : Pages) (q : Option 
 pub begun : (b : Bool) (count : ℕ) (guarded : List ℕ) (pages : Pages) (q : Option Journal)
     → IsSession b count guarded pages q → b ≡ true → Begun count guarded pages q
 begun b count guarded pages None session is = let clash : false ≡ true = sym session.0 ∙ is in absurd cc
-begun b count guarded pages (Some j) session is = record { journal = j; is = refl; count_is = session.1; guarded_is = session.2; room_is = session.3 }
+begun b count guarded pages (Some j) session is = record {
+  journal = j;
+  is = refl;
+  count_is = session.1;
+  guarded_is = session.2;
+  room_is = session.3;
+}
 
 -- the page has an image in the journal, or was added
 abbrev pub IsGuarded : ℕ → List ℕ → ℕ → Type 0

@@ -194,7 +194,8 @@ module _ (seat k hops : ℕ) (key : RecordKey) (kind : LockKind) (pool : PoolSta
             ∙ ap (λ (locks : List Lock). without locks Directory) (sym is ∙ row') ∙ released before' bare' n kind);
         progress = λ hash change sees. omega arith;
         step = λ hash change write before' bare' row' sees _.
-            gave_back hash seat _ pool t change sees write (with_row t seat (on_page n kind before)) n k kind before bare
+            gave_back hash seat _ pool t change sees write (with_row t seat (on_page n kind before))
+            n k kind before bare
             seated (ap (λ (locks : List Lock). kind_of locks Directory) is ∙ both_held before bare n kind)
             (row_of-same t seat _ seated)
             (ap (with_row t seat) (sym (released before bare n kind)

@@ -134,7 +134,8 @@ module _ {K : Type 0} (of_key : K → RecordKey → ℕ) (o : Origin) (past : Li
         has_file honest = flushes o.hash (h.led honest).base (whole past old) (whole past new) (h.led honest).led
             whole_between whole_flushed
 
-        abbrev held_flushed : (d' : Desk Entry Call) (n : ℕ) → d' ≡ d → n ≡ count → IsHeld of_key o (whole past new) d' n
+        abbrev held_flushed : (d' : Desk Entry Call) (n : ℕ) → d' ≡ d → n ≡ count →
+            IsHeld of_key o (whole past new) d' n
         held_flushed d' n same counted = record {
           led = λ honest. record {
             base = (h.led honest).base;

@@ -162,7 +162,8 @@ module _ {K : Type 0} (of_key : K → RecordKey → ℕ) (o : Origin) (k : Kerne
         subst (λ (l : List Entry). LeavesFile o l content) (sym is)
         record {
           plain = journal_is of_key o k d count plain h honest;
-          left = subst (λ (callers : List Caller). IsFileOf o.hash content (restarted (after callers k.journal was.base)))
+          left = subst (λ (callers : List Caller). IsFileOf o.hash content
+              (restarted (after callers k.journal was.base)))
               h.callers
               (closes o.hash was.base content k was.led rests_all sound
               (flushed (subst IsTrue (sym h.honest) honest)));

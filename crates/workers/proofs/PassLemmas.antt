@@ -181,7 +181,8 @@ module _ {E C : Type 0} (seat_of : E → Option ℕ) where
           words = word_stays s.words (calls_in seat_of k.desk.journal) k.words;
           views = all_set (Fits seat_of k.writer k.ports k.desk) s.views id (sits after)
               (λ j u far e. k.views j u e)
-              (sits_fit seat_of k.writer k.ports k.desk id after was.0 (shown_right k.desk x found (omega arith) was.1));
+              (sits_fit seat_of k.writer k.ports k.desk id after was.0
+              (shown_right k.desk x found (omega arith) was.1));
         },
         (
           record {

@@ -66,7 +66,8 @@ returns-clause-replayed g c =
       stuck = busy_if_left last untold fault c.is_sound.ensures closes;
       well = λ taken none. left_well c.events_refine.ensures words c.args.replay c.play_all.new.self last plays rounds
           c.is_sound.ensures c.a_refining_kernel_closes_on_its_file.ensures left
-          (subst (λ (k : KernelState ShaKey). IsClosedWell k left) kernel (c.end_kernel-device.ensures.well taken none));
+          (subst (λ (k : KernelState ShaKey). IsClosedWell k left) kernel
+          (c.end_kernel-device.ensures.well taken none));
       unwritten = unwritten;
       before = λ away roomy. unwritten away
           ∙ stored_kept c.args.replay.kernel.pool last.kernel.pool

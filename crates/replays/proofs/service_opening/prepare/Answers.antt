@@ -45,7 +45,8 @@ returns-clause-enough g c =
     ∙ length-callers_of c.args.script.now.ids c.greatest_seat-seats.result in
     let from = c.from.ensures in
     let clamped = c.max-frames.ensures in
-    let enough : 4 * length c.as_slice.result.now + 8 ≤ c.max-frames.result = omega (arith, clamps, many, from, clamped) in
+    let enough : 4 * length c.as_slice.result.now + 8 ≤ c.max-frames.result =
+    omega (arith, clamps, many, from, clamped) in
     never_too_few c.open.result _ _ enough c.open.ensures.few
 
 -- memory is taken before the file is checked

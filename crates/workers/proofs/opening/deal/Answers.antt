@@ -4,7 +4,11 @@ use Rattle.workers.proofs.OpenLemmas.{dealing_goes, free_at, many_newcomers, sea
 use Rattle.workers.proofs.opening.deal.Goals as goal
 
 pub loop-place-init : goal.loop-place-init
-loop-place-init g c = record { own = c.requires.first; made = c.in_ok-made.ensures.items; room = grind (arith, common_steps) }
+loop-place-init g c = record {
+  own = c.requires.first;
+  made = c.in_ok-made.ensures.items;
+  room = grind (arith, common_steps);
+}
 
 pub deal-requires-clause-early : goal.deal-requires-clause-early
 deal-requires-clause-early g c = ap (λ d. d.journal) c.loop-place.invariant.own
@@ -13,7 +17,8 @@ pub deal-requires-clause-free : goal.deal-requires-clause-free
 deal-requires-clause-free g c = free_at _ _ _ c.loop-place.invariant.own
 
 pub invariant_of-push : goal.invariant_of-push
-invariant_of-push g c = seated_newcomer _ _ _ _ _ _ _ c.loop-place.invariant.own c.deal.ensures.seat refl c.new.ensures.items c.loop-place-test.true c.requires.seats
+invariant_of-push g c = seated_newcomer _ _ _ _ _ _ _ c.loop-place.invariant.own c.deal.ensures.seat
+    refl c.new.ensures.items c.loop-place-test.true c.requires.seats
 
 pub unwrap-requires : goal.unwrap-requires
 unwrap-requires g c =

@@ -19,7 +19,8 @@ returns-clause-crash c =
     let same : c.change.new.now ≡ changed old Added (old.seen_file ++ bytes ∷ []) =
     c.in_ok-change.ensures.ok
     ∙ ap (λ (file : Pages). record next { seen_file = file; changes = c.push.new.self }) c.in_ok-push-2.ensures.ok
-    ∙ ap (λ (l : List FileChange). record next { seen_file = next.seen_file ++ bytes ∷ []; changes = l }) c.in_ok-push.ensures
+    ∙ ap (λ (l : List FileChange). record next { seen_file = next.seen_file ++ bytes ∷ []; changes = l })
+    c.in_ok-push.ensures
     ∙ ap (λ (s : Snapshot). changed s Added (s.seen_file ++ bytes ∷ [])) c.in_ok-next.ensures in
     subst (λ (s : Snapshot). Follows LongerBy (MayLeave old) (MayLeave s)) (sym same)
     (push_follows old bytes)

@@ -19,7 +19,8 @@ returns-clause-crash c =
     let same : c.change.new.now ≡ changed old (Stored c.args.page) (set old.seen_file c.args.page bytes) =
     c.in_ok-change.ensures.ok
     ∙ ap (λ (file : Pages). record next { seen_file = file; changes = c.push.new.self }) c.set.ensures
-    ∙ ap (λ (l : List FileChange). record next { seen_file = set next.seen_file c.args.page bytes; changes = l }) c.in_ok-push.ensures
+    ∙ ap (λ (l : List FileChange). record next { seen_file = set next.seen_file c.args.page bytes; changes = l })
+    c.in_ok-push.ensures
     ∙ ap (λ (s : Snapshot). changed s (Stored c.args.page) (set s.seen_file c.args.page bytes)) c.in_ok-next.ensures in
     subst (λ (s : Snapshot). Follows (TornAt c.args.page) (MayLeave old) (MayLeave s)) (sym same)
     (set_follows old c.args.page bytes)

@@ -19,7 +19,8 @@ loop-place-preserved c =
     let change = get_or items loop.place (Stored 0) in
     let so_far = subst (λ (l : List FileChange). FileMay (take loop.place l) s.synced_file loop.file) (sym same)
     loop.invariant in
-    let met = may_meet (take loop.place items) change s.synced_file loop.file c.meet.new.file so_far c.in_ok-meet.ensures in
+    let met = may_meet (take loop.place items) change s.synced_file loop.file c.meet.new.file
+    so_far c.in_ok-meet.ensures in
     subst (λ (l : List FileChange). FileMay (take (loop.place + 1) l) s.synced_file c.meet.new.file) same
     (subst (λ (l : List FileChange). FileMay l s.synced_file c.meet.new.file)
     (sym (take_more items loop.place (Stored 0) lt)) met)

@@ -27,7 +27,8 @@ pub unreachable-requires : goal.unreachable-requires
 unreachable-requires g c =
     let busy = subst (λ fault. Refuses c.args.seat c.self.inside.kernel fault) c.in-Err-default-Busy.field-0-1-is
     c.in-Err-default-Busy.ensures.err.cause in
-    never_busy _ _ _ _ _ _ _ c.self.invariant.held c.compare.ensures.right c.requires.seat c.requires.rests busy.0 busy.1
+    never_busy _ _ _ _ _ _ _ c.self.invariant.held c.compare.ensures.right c.requires.seat
+    c.requires.rests busy.0 busy.1
 
 pub invariant_of-self : goal.invariant_of-self
 invariant_of-self g c =

@@ -17,7 +17,8 @@ overflow_add-self g c =
 
 pub tell-requires-clause-count : goal.tell-requires-clause-count
 tell-requires-clause-count g c =
-    counted_after c.self.inside.past.items _ _ _ _ c.step-did.ensures.turn _ _ _ c.self.invariant.held.counted (ap length c.journal-before.ensures)
+    counted_after c.self.inside.past.items _ _ _ _ c.step-did.ensures.turn _ _ _
+    c.self.invariant.held.counted (ap length c.journal-before.ensures)
     (ap length c.journal.ensures)
 
 pub tell-requires-clause-change : goal.tell-requires-clause-change
