@@ -72,7 +72,8 @@ module _ (seat : ℕ) (key : RecordKey) (k : ℕ) where
     insert_heads pool locks None searches none heads = tt
     insert_heads pool locks (Some page) searches none heads = λ found stands lacks.
         let here : None ≡ option_map length (lookup t.search.key (records_at (store_of pool.images) page)) =
-        sym lacks ∙ stands ∙ ap (λ (of : RecordKey). option_map length (lookup of (records_at (store_of pool.images) page)))
+        sym lacks ∙ stands ∙ ap (λ (of : RecordKey). option_map length
+        (lookup of (records_at (store_of pool.images) page)))
         (sym inv.key_is) in
         subst (λ (f : Option ℕ). GoesToPage seat page f (Insert (trying t)) pool locks) (sym lacks)
         (insert_goes pool locks page (searches refl) (none refl) (heads deeds.Put None inv.kind_is here))

@@ -1,5 +1,5 @@
 -- An insert in its first try, which passes on to the second, and in its second one.
-use Rattle.std.proofs.Common.{◌≡◌, refl, sym, ap, ◌∙◌, subst, ℕ, ◌+◌, true, false, List, [], Option, Some, None, is_some, length, arith, inl, inr}
+use Rattle.std.proofs.Common.{◌≡◌, refl, sym, ap, ◌∙◌, subst, ℕ, ◌+◌, true, false, List, Option, Some, None, is_some, length, arith, inl, inr}
 use Rattle.std.proofs.lemmas.Bool.{true≢false}
 use Rattle.split_merge.specs.file_pages.declared.fault.FileFault.{FileFault}
 use Rattle.step_rules.specs.declared.kind.Kind.TheVariants as kinds

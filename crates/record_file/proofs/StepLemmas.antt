@@ -62,6 +62,14 @@ no_more_due deeds.Put hash seat key bytes w w' = tt
 no_more_due deeds.Replace hash seat key bytes w w' = tt
 no_more_due deeds.Remove hash seat key bytes w w' = tt
 
+-- of a deed that wrote nothing
+pub left_unwritten : (deed : Deed) (hash : RecordKey → ℕ) (seat : ℕ) (key : RecordKey) (bytes : List ℕ)
+    (w w' : World) → TellsDue deed hash seat key bytes Searching (HasEnded false) w w'
+left_unwritten deeds.Find hash seat key bytes w w' = tt
+left_unwritten deeds.Put hash seat key bytes w w' = tt
+left_unwritten deeds.Replace hash seat key bytes w w' = tt
+left_unwritten deeds.Remove hash seat key bytes w w' = tt
+
 over_no_more : (deed : Deed) (hash : RecordKey → ℕ) (seat : ℕ) (key : RecordKey) (bytes : List ℕ) (due : Bool)
     (w w' : World) → TellsDue deed hash seat key bytes (HasEnded due) (HasEnded due) w w'
 over_no_more deeds.Find hash seat key bytes due w w' = tt

@@ -89,13 +89,14 @@ is_due depth used bytes = nat_le 1 depth && nat_le (used - RECORD_HEAD_BYTES - b
 abbrev pub IsFrontAt : Store → RecordKey → List ℕ → Type 0
 IsFrontAt s key front = (value : List ℕ) → contents s key ≡ Some value → length front ≤ length value
 
--- a replace: that the bytes are no more than the value has which the file holds at the key, and the pseudokey is that of
--- the key
+-- a replace: that the bytes are no more than the value has which the file holds at the key, and the pseudokey is
+-- that of the key
 abbrev pub SuitsFile : Deed → (RecordKey → ℕ) → Store → SearchView → List ℕ → Type 0
 SuitsFile deeds.Replace hash s v bytes = (hash v.key ≡ v.pseudokey) × IsFrontAt s v.key bytes
 SuitsFile deed hash s v bytes = ⊤
 
--- a deed that writes: that the pseudokey is that of the key, and the record's lock is among those that the seat had before
+-- a deed that writes: that the pseudokey is that of the key, and the record's lock is among those that the seat had
+-- before
 abbrev pub OwnsWritten : Deed → (RecordKey → ℕ) → List Lock → SearchView → Type 0
 OwnsWritten deeds.Find hash before v = ⊤
 OwnsWritten deed hash before v = (hash v.key ≡ v.pseudokey) × Owns before v.key

@@ -75,11 +75,11 @@ pub record GoesToPage (seat page : ℕ) (found : Option ℕ) (o : RecordOperatio
   pub moves : MovesAlong (OperationStep seat) (at o pool locks) (operation_way seat page found (at o pool locks))
 
 -- the page has of the key a value of this length, or none
-abbrev pub StandsAt : (page : ℕ) → Option ℕ → RecordOperation → PoolState → Type 0
-StandsAt page found o pool =
+abbrev pub HoldsLength : (page : ℕ) → Option ℕ → RecordOperation → PoolState → Type 0
+HoldsLength page found o pool =
     found ≡ option_map length (lookup (operation_key o) (records_at (store_of pool.images) page))
 
 -- it does where the page has what it then answers, and of the key of an insert nothing
 abbrev pub OperationHeads : (seat page : ℕ) → RecordOperation → PoolState → Table → Type 0
-OperationHeads seat page o pool locks = (found : Option ℕ) → StandsAt page found o pool → LacksKey found o →
+OperationHeads seat page o pool locks = (found : Option ℕ) → HoldsLength page found o pool → LacksKey found o →
     GoesToPage seat page found o pool locks

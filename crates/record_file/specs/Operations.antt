@@ -52,8 +52,8 @@ IsKeyed hash o = hash (operation_key o) ≡ operation_pseudokey o
 
 -- ---- what it asks of its caller
 
--- as many bytes may be lent to it: to an insert, in its second try, as many as at the end of its first; to a replace, as
--- to one whose search locks pages to write them
+-- as many bytes may be lent to it: to an insert, in its second try, as many as at the end of its first; to a replace,
+-- as to one whose search locks pages to write them
 abbrev pub MayBeLent : ℕ → RecordOperation → Type 0
 MayBeLent bytes (Insert i) = IsLent bytes i.stage
 MayBeLent bytes (Replace r) = SuitsKind deeds.Replace r.search.kind

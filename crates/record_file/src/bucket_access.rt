@@ -1,14 +1,14 @@
 //! One record found or written within the bucket of its key.
 //!
-//! What is done at the page that answers promises what `step` does there: so `step` is a match on
-//! the stages, and each deed is proved by itself.
+//! `step` does each deed itself at the page that answers, since each function on the way of a step
+//! copies what that tells.
 
-ghost use Rattle.std.specs.Prelude.{◌≡◌, ◌-◌, ℕ, List, IfSome, IsSome, Some, None, true};
+ghost use Rattle.std.specs.Prelude.{◌≡◌, IfSome, IsSome, true};
 ghost use Rattle.page_locks.specs.declared.lock.LockName.{LockName};
 ghost use Rattle.split_merge.specs.stale_search.SearchRuns.{HasNoLock};
 ghost use Rattle.split_merge.specs.stale_search.Searches.{IsShared};
 ghost use Rattle.split_merge.specs.stale_search.declared.place.SearchPlace.{SearchPlace};
-ghost use Rattle.record_file.specs.Words.{IsSeat, row_of, IsReady, EndsRow, Moved, Release, Selective, without_lock};
+ghost use Rattle.record_file.specs.Words.{IsSeat, row_of, IsReady, EndsRow, Moved, Release, without_lock};
 ghost use Rattle.record_file.specs.BucketAccesses.{SuitsKind, begun_access, bucket_locks, ended_in, found_of, has_ended, has_room, is_due, kind_for};
 ghost use Rattle.record_file.specs.BucketRuns.{BucketHeads, FindsStraight, bucket_at};
 ghost use Rattle.record_file.specs.BucketSteps.{MakesBucket};
@@ -129,12 +129,54 @@ impl BucketAccess {
             pool.old pool.new locks.old locks.new }
     {
         match self.stage {
-            BucketStage::Searching => match self.found() {
-                None => self.search.step(pool, locks, seat),
-                Some((page, found)) => self.act(deed, pool, locks, seat, bytes, page, found),
+            BucketStage::Searching => {}
+            BucketStage::Written(page, due) => return self.give_back(locks, seat, page, due),
+            BucketStage::Ended(_) => return Progress::Ended,
+        }
+        let Some((page, found)) = self.found() else {
+            return self.search.step(pool, locks, seat);
+        };
+        match (deed, found) {
+            (Deed::Put, None) => {
+                let used = match read_bucket(pool, page) {
+                    Ok(sight) => sight.used,
+                    Err(fault) => return Progress::Fault(fault),
+                };
+                // without room for it a second try is due
+                if !has_room(used, bytes.len()) {
+                    return self.give_back(locks, seat, page, true);
+                }
+                match put_record(pool, page, &self.key, bytes) {
+                    Ok(()) => {
+                        self.stage = BucketStage::Written(page, false);
+                        Progress::Moved(Kind::WriteRecord)
+                    }
+                    Err(fault) => Progress::Fault(fault),
+                }
+            }
+            (Deed::Replace, Some(_)) => match replace_front(pool, page, &self.key, bytes) {
+                Ok(()) => {
+                    self.stage = BucketStage::Written(page, false);
+                    Progress::Moved(Kind::WriteRecord)
+                }
+                Err(fault) => Progress::Fault(fault),
             },
-            BucketStage::Written(page, due) => self.give_back(locks, seat, page, due),
-            BucketStage::Ended(_) => Progress::Ended,
+            (Deed::Remove, Some(len)) => {
+                let sight = match read_bucket(pool, page) {
+                    Ok(sight) => sight,
+                    Err(fault) => return Progress::Fault(fault),
+                };
+                match remove_record(pool, page, &self.key) {
+                    Ok(()) => {
+                        let due = is_due(sight.depth, sight.used, len);
+                        self.stage = BucketStage::Written(page, due);
+                        Progress::Moved(Kind::WriteRecord)
+                    }
+                    Err(fault) => Progress::Fault(fault),
+                }
+            }
+            // a find, a put where the key stands, a replace or a removal where it does not
+            (_, _) => self.give_back(locks, seat, page, false),
         }
     }
 
@@ -168,137 +210,6 @@ impl BucketAccess {
         ensures { self.new ≡ bucket_at (SearchPlace.Found page found) self.old }
     {
         self.search.arrive(page, found);
-    }
-
-    /// The record is written on the page that answered, or that page is given back.
-    fn act<D: PageDevice>(
-        &mut self,
-        deed: Deed,
-        pool: &mut Pool<D>,
-        locks: &mut LockTable,
-        seat: u8,
-        bytes: &[u8],
-        page: u32,
-        found: Option<usize>,
-    ) -> Progress<FileFault>
-        requires stage { self.old.stage ≡ BucketStage.Searching }
-        requires found { found_of self.old ≡ Some (page, found) }
-        requires seat { IsSeat locks.old seat }
-        requires ready { IsReady pool.old }
-        requires row { EndsRow (bucket_locks self.old) 2 (row_of locks.old seat) }
-        requires kind { SuitsKind deed self.old.search.kind }
-        ensures { MakesBucket deed seat bytes.now result self.old self.new
-            pool.old pool.new locks.old locks.new }
-    {
-        match deed {
-            Deed::Find => self.give_back(locks, seat, page, false),
-            Deed::Put => match found {
-                None => self.put(pool, locks, seat, bytes, page),
-                Some(_) => self.give_back(locks, seat, page, false),
-            },
-            Deed::Replace => match found {
-                None => self.give_back(locks, seat, page, false),
-                Some(len) => self.replace(pool, locks, seat, bytes, page, len),
-            },
-            Deed::Remove => match found {
-                None => self.give_back(locks, seat, page, false),
-                Some(len) => self.remove(pool, locks, seat, page, len),
-            },
-        }
-    }
-
-    /// The record is put where the bucket has room for it. Else the page is given back, and a second
-    /// try is due.
-    fn put<D: PageDevice>(
-        &mut self,
-        pool: &mut Pool<D>,
-        locks: &mut LockTable,
-        seat: u8,
-        value: &[u8],
-        page: u32,
-    ) -> Progress<FileFault>
-        requires stage { self.old.stage ≡ BucketStage.Searching }
-        requires found { found_of self.old ≡ Some (page, None) }
-        requires seat { IsSeat locks.old seat }
-        requires ready { IsReady pool.old }
-        requires row { EndsRow (bucket_locks self.old) 2 (row_of locks.old seat) }
-        requires kind { self.old.search.kind ≡ Selective }
-        ensures { MakesBucket Deed.Put seat value.now result self.old self.new
-            pool.old pool.new locks.old locks.new }
-    {
-        let used = match read_bucket(pool, page) {
-            Ok(sight) => sight.used,
-            Err(fault) => return Progress::Fault(fault),
-        };
-        if !has_room(used, value.len()) {
-            return self.give_back(locks, seat, page, true);
-        }
-        match put_record(pool, page, &self.key, value) {
-            Ok(()) => {
-                self.stage = BucketStage::Written(page, false);
-                Progress::Moved(Kind::WriteRecord)
-            }
-            Err(fault) => Progress::Fault(fault),
-        }
-    }
-
-    /// The first bytes of the value are replaced.
-    fn replace<D: PageDevice>(
-        &mut self,
-        pool: &mut Pool<D>,
-        locks: &LockTable,
-        seat: u8,
-        front: &[u8],
-        page: u32,
-        len: usize,
-    ) -> Progress<FileFault>
-        requires stage { self.old.stage ≡ BucketStage.Searching }
-        requires found { found_of self.old ≡ Some (page, Some len) }
-        requires seat { IsSeat locks.now seat }
-        requires ready { IsReady pool.old }
-        requires row { EndsRow (bucket_locks self.old) 2 (row_of locks.now seat) }
-        requires kind { self.old.search.kind ≡ Selective }
-        ensures { MakesBucket Deed.Replace seat front.now result self.old self.new
-            pool.old pool.new locks.now locks.now }
-    {
-        match replace_front(pool, page, &self.key, front) {
-            Ok(()) => {
-                self.stage = BucketStage::Written(page, false);
-                Progress::Moved(Kind::WriteRecord)
-            }
-            Err(fault) => Progress::Fault(fault),
-        }
-    }
-
-    /// The record, whose value has this length, is taken out. A merge is due behind it, or none.
-    fn remove<D: PageDevice>(
-        &mut self,
-        pool: &mut Pool<D>,
-        locks: &LockTable,
-        seat: u8,
-        page: u32,
-        len: usize,
-    ) -> Progress<FileFault>
-        requires stage { self.old.stage ≡ BucketStage.Searching }
-        requires found { found_of self.old ≡ Some (page, Some len) }
-        requires seat { IsSeat locks.now seat }
-        requires ready { IsReady pool.old }
-        requires row { EndsRow (bucket_locks self.old) 2 (row_of locks.now seat) }
-        requires kind { self.old.search.kind ≡ Selective }
-        ensures { (bytes : List ℕ) → MakesBucket Deed.Remove seat bytes result self.old self.new
-            pool.old pool.new locks.now locks.now }
-    {
-        let sight = match read_bucket(pool, page) {
-            Ok(sight) => sight,
-            Err(fault) => return Progress::Fault(fault),
-        };
-        match remove_record(pool, page, &self.key) {
-            Ok(()) => {
-                self.stage = BucketStage::Written(page, is_due(sight.depth, sight.used, len));
-                Progress::Moved(Kind::WriteRecord)
-            }
-            Err(fault) => Progress::Fault(fault),
-        }
     }
 
     /// The page is given back, with more due behind it or nothing.

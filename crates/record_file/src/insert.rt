@@ -132,8 +132,8 @@ impl Insert {
         }
     }
 
-    /// The page to which a first try goes straight that has not begun, where that page has no record
-    /// of the key. Nothing is done. A second try tells none.
+    /// The page to which a first try that has not begun goes straight, if that page has no record of
+    /// the key: whether it has one is not looked at. Nothing is done. A second try tells none.
     pub fn heads_for<D: PageDevice>(
         &self,
         pool: &mut Pool<D>,

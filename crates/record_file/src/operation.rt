@@ -100,8 +100,9 @@ impl RecordOperation {
         }
     }
 
-    /// The page to which a write goes straight that has not begun, an insert where that page has no
-    /// record of the key. Nothing is done. A find tells none, nor does an insert in its second try.
+    /// The page to which a write that has not begun goes straight, an insert if that page has no
+    /// record of the key, which is not looked at. Nothing is done. A find tells none, nor does an
+    /// insert in its second try.
     pub fn heads_for<D: PageDevice>(
         &self,
         pool: &mut Pool<D>,

@@ -4,7 +4,7 @@ ghost use Rattle.std.specs.Prelude.{◌≡◌, IfSome, None, true, false};
 ghost use Rattle.record_file.specs.AccessWords.{EndsRow, IsReady, IsSeat, row_of};
 ghost use Rattle.record_file.specs.Accesses.{access_locks};
 ghost use Rattle.record_file.specs.AccessRuns.{ReachesAtOnce, TakesAhead};
-ghost use Rattle.record_file.specs.OperationRuns.{LacksKey, StandsAt};
+ghost use Rattle.record_file.specs.OperationRuns.{LacksKey, HoldsLength};
 ghost use Rattle.record_file.specs.Readings.{HasFrontSet, IsReplace};
 
 use crate::access::Access;
@@ -52,7 +52,7 @@ impl Access {
     /// written there. Of the key, the length of the value there is told.
     fn take_ahead<D: PageDevice>(&mut self, pool: &Pool<D>, page: u32) -> Option<Option<usize>>
         requires ready { IsReady pool.now }
-        ensures stands { IfSome result (λ found. StandsAt page found self.old.operation pool.now) }
+        ensures stands { IfSome result (λ found. HoldsLength page found self.old.operation pool.now) }
         ensures lacks { IfSome result (λ found. LacksKey found self.old.operation) }
         ensures made { IfSome result (λ found.
             TakesAhead page found pool.now self.old self.new) }

@@ -1,7 +1,7 @@
 -- What its operation is told of its way, and what is taken of the page there, are its own way. Where nothing can be
 -- taken the page is given back.
 use Rattle.std.proofs.Common.{◌≡◌, refl, sym, ap, ◌∙◌, subst}
-use Rattle.record_file.specs.OperationRuns.{OperationHeads, StandsAt, operation_at}
+use Rattle.record_file.specs.OperationRuns.{OperationHeads, HoldsLength, operation_at}
 use Rattle.record_file.specs.stale_search.SearchRuns.{HasNoLock}
 use Rattle.record_file.specs.stale_search.declared.place.SearchPlace.TheVariants.{Found}
 use Rattle.record_file.proofs.AheadLemmas.{given_back}
@@ -33,7 +33,7 @@ returns-clause-made g c = λ done.
     let heads = subst (λ (v : AccessView). OperationHeads c.args.seat page v.operation c.args.pool.now
     c.args.locks.now) c.self.view_is c.in-Some.ensures.heads in
     let goes = heads found
-    (subst (λ (p : PoolState). StandsAt page found old.operation p) c.heads_for.ensures.pool told.stands) told.lacks in
+    (subst (λ (p : PoolState). HoldsLength page found old.operation p) c.heads_for.ensures.pool told.stands) told.lacks in
     let arrived : c.stand_at.new.self ≡ operation_at (Found page found) old.operation =
     c.stand_at.ensures
     ∙ ap (λ (v : AccessView). operation_at (Found page found) v.operation) (c.self-2.view_is ∙ told.made.is) in
