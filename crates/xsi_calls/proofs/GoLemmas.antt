@@ -7,7 +7,7 @@ use Rattle.xsi_calls.proofs.StepLemmas.{asked}
 use Rattle.xsi_calls.specs.Stages.{Stage, Undecided, Paying, Releasing}
 use Rattle.xsi_calls.specs.Words.{Blocked, Call, Caller, Ended, Fault, Moved, PoolState, Progress, RecordKey, Table, Trials, UndecidedCall, store_of, undecided_left}
 use Rattle.xsi_calls.specs.Machine.{CallView, IsReading, STEPS_FROM_DECIDE, call_locks, is_undecided, locks_at}
-use Rattle.xsi_calls.specs.Undecided.{locks_in}
+use Rattle.xsi_calls.specs.Undecided.{locks_in, undecided_locks}
 use Rattle.xsi_calls.specs.UndecidedWords.{QuestionsView, is_done, questions_locks}
 use Rattle.xsi_calls.specs.QuestionSteps.{MakesQuestions}
 use Rattle.xsi_calls.specs.CallSteps.{MakesCall, is_end}
@@ -98,15 +98,21 @@ goes_from hash seat stopped caller call u u' stage now view undecided did pool p
 
 -- ---- while nothing is inserted on trial
 
--- the row of its seat is that of its questions
+-- the row of its seat is that of what it asks or tries
+pub undecided_row : (caller : Caller) (call : Call) (u : UndecidedCall) (stage : Stage)
+    (now : CallView) → with_stage caller call u stage ≡ now → is_undecided now.stage ≡ true →
+    call_locks now ≡ undecided_locks u
+undecided_row caller call u stage now view undecided =
+    sym (ap call_locks view)
+    ∙ ap (locks_at u) (at_undecided stage
+    (subst (λ (m : CallView). is_undecided m.stage ≡ true) (sym view) undecided))
+
+-- that of its questions
 pub asks_row : (caller : Caller) (call : Call) (u : UndecidedCall) (stage : Stage)
     (now : CallView) → with_stage caller call u stage ≡ now → is_undecided now.stage ≡ true →
     u.trials ≡ None → call_locks now ≡ questions_locks u.questions
 asks_row caller call u stage now view undecided none =
-    sym (ap call_locks view)
-    ∙ ap (locks_at u) (at_undecided stage
-    (subst (λ (m : CallView). is_undecided m.stage ≡ true) (sym view) undecided))
-    ∙ ap (locks_in u.questions) none
+    undecided_row caller call u stage now view undecided ∙ ap (locks_in u.questions) none
 
 -- a question makes its step
 pub asked_from : (hash : RecordKey → ℕ) (seat : ℕ) (stopped : Bool) (caller : Caller)

@@ -1,5 +1,5 @@
 -- What a call does, by what of it is under way in its room.
-use Rattle.std.proofs.Common.{◌≡◌, refl, sym, ap, ◌∙◌, subst, ℕ, Bool, true, false, not, Option, None}
+use Rattle.std.proofs.Common.{◌≡◌, sym, ap, ◌∙◌, subst, ℕ, Bool, true, false, Option, None}
 use Rattle.xsi_calls.specs.declared.conclusion.Conclusion.{Conclusion}
 use Rattle.xsi_calls.specs.declared.part.Part.{Part}
 use Rattle.xsi_calls.specs.declared.part.Part.TheVariants as parts
@@ -12,154 +12,179 @@ use Rattle.xsi_calls.specs.declared.writes.CallWrites.{CallWrites}
 use Rattle.xsi_calls.specs.CallSteps.{ComesTo, MakesCall, MakesRelease}
 use Rattle.xsi_calls.specs.Concluding.{conclusion_by}
 use Rattle.xsi_calls.specs.Deciding.{IsDecidedIn}
-use Rattle.xsi_calls.specs.Machine.{CallView, IsOneCall, call_locks, is_paying, is_undecided}
-use Rattle.xsi_calls.specs.Parts.{IsOneMachine, IsToPay, asked_with, payment_under, paying, question_under, trials_under, undecided_with}
+use Rattle.xsi_calls.specs.Machine.{CallView, call_locks, is_paying, is_undecided}
+use Rattle.xsi_calls.specs.Parts.{IsOneMachine, IsToPay, asked_with, conclusion_under, decision_by, payment_under, paying, question_under, tried_under, trials_for, undecided_with}
 use Rattle.xsi_calls.specs.PaymentStages as stages
 use Rattle.xsi_calls.specs.PaymentWords.{Due}
 use Rattle.xsi_calls.specs.QuestionSteps.{MakesQuestions}
-use Rattle.xsi_calls.specs.Questions.{QuestionsView, is_done, questions_locks}
-use Rattle.xsi_calls.specs.Stages.{Stage, Paying, stage_at}
+use Rattle.xsi_calls.specs.Questions.{is_done, questions_locks}
+use Rattle.xsi_calls.specs.Stages.{Stage, stage_at}
 use Rattle.xsi_calls.specs.UndecidedSteps.{MakesUndecided}
 use Rattle.xsi_calls.specs.WriteRuns.{ReachesBySearch}
-use Rattle.xsi_calls.specs.Words.{AreNames, AsksAtOnce, Call, Caller, CanDecide, Change, Ended, IsSeat, IsUndecided, PaymentStage, Plan, PoolState, Progress, ReachesAtOnce, RecordKey, Records, Settled, State, Table, Trials, UndecidedCall, begun_payment, its_plan, row_of, trials_of}
+use Rattle.xsi_calls.specs.Words.{AreNames, AsksAtOnce, Call, Caller, CanDecide, Change, Ended, IsSeat, IsUndecided, Plan, PoolState, Progress, ReachesAtOnce, RecordKey, Records, Settled, State, Table, Trials, UndecidedCall, begun_payment, its_plan, row_of, trials_of}
 use Rattle.xsi_calls.proofs.AtOnceLemmas.{asks_from}
 use Rattle.xsi_calls.proofs.CallReachLemmas.{pays_at_once, tries_from}
 use Rattle.xsi_calls.proofs.GoLemmas.{asked_from, asks_row, goes_from, with_stage}
 use Rattle.xsi_calls.proofs.Names.{FileFault}
 use Rattle.xsi_calls.proofs.PaymentReachLemmas.{payment_reaches}
 use Rattle.xsi_calls.proofs.PhaseLemmas.{it_pays, paying_still, undecided_same}
-use Rattle.xsi_calls.proofs.RoomLemmas.{asks_nothing, none_to_decide, only_paid, pays_it, tries_nothing}
+use Rattle.xsi_calls.proofs.RoomLemmas.{asks_nothing, has_come_to, none_to_decide, only_paid, pays_it, tries_nothing}
 
-abbrev pub machine : Caller → Call → Questions → Part → Phase → Conclusion → CallView
-machine caller call q part phase conclusion =
-    with_stage caller call (undecided_with q part) (stage_at phase (payment_under part) conclusion)
+abbrev pub machine : Caller → Call → Questions → Part → Phase → CallView
+machine caller call q part phase =
+    with_stage caller call (undecided_with call q part) (stage_at phase (payment_under part) (conclusion_under part))
 
 -- ---- its Decide
 
 -- what it pays from then on has the room
 pub comes_to : (hash : RecordKey → ℕ) (call : Call) (stopped : Bool) (q : Questions) (part part2 : Part)
-    (settled : Option Settled) (due : Due) (conclusion : Conclusion) → CanDecide call (undecided_with q part) →
-    part2 ≡ paying (begun_payment hash settled due) → due ≡ (trials_of (undecided_with q part)).due →
-    conclusion ≡ conclusion_by settled →
+    (settled : Option Settled) (due : Due) → CanDecide call (undecided_with call q part) →
+    part2 ≡ paying (begun_payment hash settled due) (conclusion_by settled) →
+    due ≡ (trials_of (undecided_with call q part)).due →
     ((seat : ℕ) (s : State) (records : Records) (pool : PoolState) (locks : Table) (change : Change) →
-    IsUndecided hash seat call s (undecided_with q part) records pool locks change → s.stopped ≡ stopped →
-    IsDecidedIn hash seat call s (asked_with q (question_under part)) settled (trials_of (undecided_with q part)) records
+    IsUndecided hash seat call s (undecided_with call q part) records pool locks change → s.stopped ≡ stopped →
+    IsDecidedIn hash seat call s (asked_with q (question_under part)) settled (trials_of
+    (undecided_with call q part)) records
     pool locks change) →
-    ComesTo hash call stopped conclusion (undecided_with q part) (undecided_with q part2) (payment_under part2)
-comes_to hash call stopped q part part2 settled due conclusion can is rests comes decides = record {
+    ComesTo hash call stopped (conclusion_under part2) (undecided_with call q part) (undecided_with call q part2)
+    (payment_under part2)
+comes_to hash call stopped q part part2 settled due can is rests decides = record {
   settled = settled;
   decided = decides;
   questions = ap (λ (o : Option Question). asked_with q o) (ap question_under is
-      ∙ asks_nothing (begun_payment hash settled due) ∙ sym (none_to_decide call q part can));
-  untried = ap trials_under is ∙ tries_nothing (begun_payment hash settled due);
-  comes = comes;
-  pays = ap payment_under is ∙ pays_it (begun_payment hash settled due) ∙ ap (begun_payment hash settled) rests;
+      ∙ asks_nothing (begun_payment hash settled due) (conclusion_by settled) ∙ sym (none_to_decide call q part can));
+  untried = ap (λ (p : Part). trials_for (decision_by call q.inquiry) (tried_under p)) is
+      ∙ ap (trials_for (decision_by call q.inquiry))
+      (tries_nothing (begun_payment hash settled due) (conclusion_by settled));
+  comes = ap conclusion_under is ∙ has_come_to hash settled due;
+  pays = ap payment_under is ∙ pays_it (begun_payment hash settled due) (conclusion_by settled)
+      ∙ ap (begun_payment hash settled) rests;
 }
 
 module _ (hash : RecordKey → ℕ) (seat : ℕ) (stopped : Bool) (caller : Caller) (call : Call) (q : Questions)
-    (part : Part) (phase : Phase) (conclusion : Conclusion) (now : CallView)
-    (view : machine caller call q part phase conclusion ≡ now) where
+    (part : Part) (phase : Phase) (now : CallView) (view : machine caller call q part phase ≡ now) where
   abbrev u : UndecidedCall
-  u = undecided_with q part
+  u = undecided_with call q part
+
+  -- what it has come to
+  abbrev c : Conclusion
+  c = conclusion_under part
 
   abbrev stage : Stage
-  stage = stage_at phase (payment_under part) conclusion
+  stage = stage_at phase (payment_under part) (conclusion_under part)
 
   -- ---- before its Decide
 
   module _ (undecided : is_undecided now.stage ≡ true) where
-    pub undecided_here : is_undecided (stage_at phase (payment_under part) conclusion) ≡ true
+    pub undecided_here : is_undecided (stage_at phase (payment_under part) c) ≡ true
     undecided_here = subst (λ (m : CallView). is_undecided m.stage ≡ true) (sym view) undecided
 
-    same_stage : (part2 : Part) → stage_at phase (payment_under part) conclusion
-        ≡ stage_at phase (payment_under part2) conclusion
-    same_stage part2 = undecided_same phase (payment_under part) (payment_under part2) conclusion undecided_here
+    same_stage : (part2 : Part) → stage_at phase (payment_under part) c
+        ≡ stage_at phase (payment_under part2) (conclusion_under part2)
+    same_stage part2 =
+        undecided_same phase (payment_under part) (payment_under part2) c (conclusion_under part2) undecided_here
 
-    pub asking_row : trials_under part ≡ None → call_locks now ≡ questions_locks (asked_with q (question_under part))
-    asking_row = asks_row caller call u stage now view undecided
+    pub asking_row : tried_under part ≡ None → call_locks now ≡ questions_locks (asked_with q (question_under part))
+    asking_row none =
+        asks_row caller call u stage now view undecided (ap (trials_for (decision_by call q.inquiry)) none)
 
     module _ (q2 : Questions) (part2 : Part) where
       -- a question makes its step
-      pub asks_there : (trials_under part ≡ None) × (is_done call (asked_with q (question_under part)) ≡ false) →
-          trials_under part2 ≡ None → (did : Progress FileFault) (pool pool' : PoolState) (locks locks' : Table) →
+      pub asks_there : (tried_under part ≡ None) × (is_done call (asked_with q (question_under part)) ≡ false) →
+          tried_under part2 ≡ None → (did : Progress FileFault) (pool pool' : PoolState) (locks locks' : Table) →
           MakesQuestions hash seat call did (asked_with q (question_under part))
           (asked_with q2 (question_under part2)) pool pool' locks locks' →
-          MakesCall hash seat stopped did now (machine caller call q2 part2 phase conclusion) pool pool' locks locks'
+          MakesCall hash seat stopped did now (machine caller call q2 part2 phase) pool pool' locks locks'
       asks_there asks untried did pool pool' locks locks' made =
           subst (λ (x : Stage). MakesCall hash seat stopped did now
-          (with_stage caller call (undecided_with q2 part2) x) pool pool' locks locks') (same_stage part2)
+          (with_stage caller call (undecided_with call q2 part2) x) pool pool' locks locks') (same_stage part2)
           (subst (λ (o : Option Trials). MakesCall hash seat stopped did now (with_stage caller call
           (record { questions = asked_with q2 (question_under part2); trials = o }) stage) pool pool' locks locks')
-          (asks.0 ∙ sym untried)
+          (none_here ∙ sym (ap (trials_for (decision_by call q2.inquiry)) untried))
           (asked_from hash seat stopped caller call u (asked_with q2 (question_under part2)) stage now view undecided
-          did pool pool' locks locks' asks made))
+          did pool pool' locks locks' (none_here, asks.1) made))
+        where
+          none_here : u.trials ≡ None
+          none_here = ap (trials_for (decision_by call q.inquiry)) asks.0
 
       -- a trial
       pub tries_there : (did : Progress FileFault) (pool pool' : PoolState) (locks locks' : Table) →
-          (did ≡ Ended → ⊥) → MakesUndecided hash seat call did u (undecided_with q2 part2) pool pool' locks locks' →
-          MakesCall hash seat stopped did now (machine caller call q2 part2 phase conclusion) pool pool' locks locks'
+          (did ≡ Ended → ⊥) →
+          MakesUndecided hash seat call did u (undecided_with call q2 part2) pool pool' locks locks' →
+          MakesCall hash seat stopped did now (machine caller call q2 part2 phase) pool pool' locks locks'
       tries_there did pool pool' locks locks' more made =
           subst (λ (x : Stage). MakesCall hash seat stopped did now
-          (with_stage caller call (undecided_with q2 part2) x) pool pool' locks locks') (same_stage part2)
-          (goes_from hash seat stopped caller call u (undecided_with q2 part2) stage now view undecided did pool pool'
-          locks locks' more made)
+          (with_stage caller call (undecided_with call q2 part2) x) pool pool' locks locks') (same_stage part2)
+          (goes_from hash seat stopped caller call u (undecided_with call q2 part2) stage now view undecided did pool
+          pool' locks locks' more made)
 
       -- a trial that goes to its page
       pub tries_at_once : (pool : PoolState) (locks locks' : Table) →
-          ReachesAtOnce (MakesUndecided hash seat call) seat u (undecided_with q2 part2) pool locks locks' →
-          ReachesAtOnce (MakesCall hash seat stopped) seat now (machine caller call q2 part2 phase conclusion) pool
+          ReachesAtOnce (MakesUndecided hash seat call) seat u (undecided_with call q2 part2) pool locks locks' →
+          ReachesAtOnce (MakesCall hash seat stopped) seat now (machine caller call q2 part2 phase) pool
           locks locks'
       tries_at_once pool locks locks' goes =
           subst (λ (x : Stage). ReachesAtOnce (MakesCall hash seat stopped) seat now
-          (with_stage caller call (undecided_with q2 part2) x) pool locks locks') (same_stage part2)
-          (tries_from hash seat stopped caller call stage now u (undecided_with q2 part2) view undecided pool locks
+          (with_stage caller call (undecided_with call q2 part2) x) pool locks locks') (same_stage part2)
+          (tries_from hash seat stopped caller call stage now u (undecided_with call q2 part2) view undecided pool locks
           locks' goes)
 
     -- a question that is asked in one go
-    pub asks_at_once_there : (q2 : Questions) → question_under part ≡ None → trials_under part ≡ None →
+    pub asks_at_once_there : (q2 : Questions) → question_under part ≡ None → tried_under part ≡ None →
         (pool : PoolState) (locks : Table) →
         AsksAtOnce (MakesQuestions hash seat call) seat (asked_with q None) (asked_with q2 None) pool locks →
-        AsksAtOnce (MakesCall hash seat stopped) seat now (machine caller call q2 part phase conclusion) pool locks
+        AsksAtOnce (MakesCall hash seat stopped) seat now (machine caller call q2 part phase) pool locks
     asks_at_once_there q2 none untried pool locks goes =
-        asks_from hash seat caller call u (asked_with q2 (question_under part)) pool locks
+        subst (λ (o : Option Trials). AsksAtOnce (MakesCall hash seat stopped) seat now (with_stage caller call
+        (record { questions = asked_with q2 (question_under part); trials = o }) stage) pool locks)
+        (ap (trials_for (decision_by call q.inquiry)) untried
+        ∙ sym (ap (trials_for (decision_by call q2.inquiry)) untried))
+        (asks_from hash seat caller call u (asked_with q2 (question_under part)) pool locks
         (subst (λ (o : Option Question). AsksAtOnce (MakesQuestions hash seat call) seat (asked_with q o)
-        (asked_with q2 o) pool locks) (sym none) goes) untried stage now view undecided stopped
+        (asked_with q2 o) pool locks) (sym none) goes) (ap (trials_for (decision_by call q.inquiry)) untried) stage now
+        view undecided stopped)
 
   -- ---- while it pays
 
-  module _ (pays : is_paying now.stage ≡ true) (one : IsOneMachine (machine caller call q part phase conclusion) phase
+  module _ (pays : is_paying now.stage ≡ true) (one : IsOneMachine (machine caller call q part phase) phase
       part) where
-    pays_here : is_paying (stage_at phase (payment_under part) conclusion) ≡ true
+    pays_here : is_paying (stage_at phase (payment_under part) c) ≡ true
     pays_here = subst (λ (m : CallView). is_paying m.stage ≡ true) (sym view) pays
 
     pub to_pay : IsToPay part
-    to_pay = one.pays (it_pays phase (payment_under part) conclusion pays_here)
+    to_pay = one.pays (it_pays phase (payment_under part) c pays_here)
 
     -- nothing else has come into its room
-    same_undecided : (part2 : Part) → IsToPay part2 → undecided_with q part ≡ undecided_with q part2
-    same_undecided part2 pays2 = only_paid q part to_pay ∙ sym (only_paid q part2 pays2)
+    same_undecided : (part2 : Part) → IsToPay part2 → undecided_with call q part ≡ undecided_with call q part2
+    same_undecided part2 pays2 = only_paid call q part to_pay ∙ sym (only_paid call q part2 pays2)
 
-    pub pays_there : (part2 : Part) → IsToPay part2 → (did : Progress FileFault) (pool pool' : PoolState)
-        (locks locks' : Table) → MakesCall hash seat stopped did now
-        (with_stage caller call u (stage_at phase (payment_under part2) conclusion)) pool pool' locks locks' →
-        MakesCall hash seat stopped did now (machine caller call q part2 phase conclusion) pool pool' locks locks'
-    pays_there part2 pays2 did pool pool' locks locks' made =
-        subst (λ (x : UndecidedCall). MakesCall hash seat stopped did now
-        (with_stage caller call x (stage_at phase (payment_under part2) conclusion)) pool pool' locks locks')
-        (same_undecided part2 pays2) made
+    pub pays_there : (part2 : Part) → IsToPay part2 → c ≡ conclusion_under part2 → (did : Progress FileFault)
+        (pool pool' : PoolState) (locks locks' : Table) → MakesCall hash seat stopped did now
+        (with_stage caller call u (stage_at phase (payment_under part2) c)) pool pool' locks locks' →
+        MakesCall hash seat stopped did now (machine caller call q part2 phase) pool pool' locks locks'
+    pays_there part2 pays2 same did pool pool' locks locks' made =
+        subst (λ (y : Conclusion). MakesCall hash seat stopped did now
+        (with_stage caller call (undecided_with call q part2) (stage_at phase (payment_under part2) y)) pool pool' locks
+        locks') same
+        (subst (λ (x : UndecidedCall). MakesCall hash seat stopped did now
+        (with_stage caller call x (stage_at phase (payment_under part2) c)) pool pool' locks locks')
+        (same_undecided part2 pays2) made)
 
-    pub releases_there : (part2 : Part) → IsToPay part2 → (did : Progress FileFault) (m : CallView)
-        (locks locks' : Table) → MakesRelease seat did (machine caller call q part2 phases.Releasing conclusion) m locks
-        locks' → MakesRelease seat did (with_stage caller call u
-        (stage_at phases.Releasing (payment_under part2) conclusion)) m locks locks'
-    releases_there part2 pays2 did m locks locks' made =
+    pub releases_there : (part2 : Part) → IsToPay part2 → c ≡ conclusion_under part2 → (did : Progress FileFault)
+        (m : CallView) (locks locks' : Table) →
+        MakesRelease seat did (machine caller call q part2 phases.Releasing) m locks locks' →
+        MakesRelease seat did (with_stage caller call u (stage_at phases.Releasing (payment_under part2) c)) m locks
+        locks'
+    releases_there part2 pays2 same did m locks locks' made =
         subst (λ (x : UndecidedCall). MakesRelease seat did (with_stage caller call x
-        (stage_at phases.Releasing (payment_under part2) conclusion)) m locks locks')
-        (sym (same_undecided part2 pays2)) made
+        (stage_at phases.Releasing (payment_under part2) c)) m locks locks')
+        (sym (same_undecided part2 pays2))
+        (subst (λ (y : Conclusion). MakesRelease seat did (with_stage caller call (undecided_with call q part2)
+        (stage_at phases.Releasing (payment_under part2) y)) m locks locks') (sym same) made)
 
-    -- the decision of writes that are paid is gone
-    pub no_decision : (place : TrialsPlace) → part ≡ parts.Writes place → place.decision ≡ None
-    no_decision place is = subst IsToPay is to_pay
+    -- writes that are paid are no trials
+    pub no_trials : (place : TrialsPlace) → part ≡ parts.Writes place → place.on_trial ≡ false
+    no_trials place is = subst IsToPay is to_pay
 
     -- a write that goes to its page
     pub writes_at_once : (place : TrialsPlace) → part ≡ parts.Writes place → (w : CallWrites) →
@@ -167,15 +192,16 @@ module _ (hash : RecordKey → ℕ) (seat : ℕ) (stopped : Bool) (caller : Call
         (locks locks' : Table) → IsSeat locks seat → row_of locks seat ≡ call_locks now →
         ReachesBySearch hash seat x place.writes w pool locks locks' →
         ReachesAtOnce (MakesCall hash seat stopped) seat now (machine caller call q
-        (parts.Writes (record { writes = w; decision = place.decision })) phase conclusion) pool locks locks'
+        (parts.Writes (record place { writes = w })) phase) pool locks locks'
     writes_at_once place is w names x plan pool locks locks' seated row goes =
         subst (λ (y : UndecidedCall). ReachesAtOnce (MakesCall hash seat stopped) seat now
-        (with_stage caller call y (stage_at phase (stages.Writing w) conclusion)) pool locks locks')
-        (same_undecided (parts.Writes (record { writes = w; decision = place.decision })) (no_decision place is))
+        (with_stage caller call y (stage_at phase (stages.Writing w) place.conclusion)) pool locks locks')
+        (same_undecided (parts.Writes (record place { writes = w })) (no_trials place is))
         (subst (λ (y : Stage). ReachesAtOnce (MakesCall hash seat stopped) seat now (with_stage caller call u y) pool
-        locks locks') (sym (paying_still phase (payment_under part) (stages.Writing w) conclusion pays_here))
-        (pays_at_once hash seat stopped caller call stage now u view (payment_under part) (stages.Writing w) conclusion
-        (paying_still phase (payment_under part) (payment_under part) conclusion pays_here) names pool locks locks'
+        locks locks') (sym (paying_still phase (payment_under part) (stages.Writing w) c pays_here)
+        ∙ ap (stage_at phase (stages.Writing w)) (ap conclusion_under is))
+        (pays_at_once hash seat stopped caller call stage now u view (payment_under part) (stages.Writing w) c
+        (paying_still phase (payment_under part) (payment_under part) c pays_here) names pool locks locks'
         seated row
         (payment_reaches hash seat (its_plan call u.questions) (payment_under part) place.writes w
         (ap payment_under is) pool locks locks'

@@ -7,12 +7,12 @@ use Rattle.xsi_calls.specs.Machine.{is_paying, is_undecided}
 use Rattle.xsi_calls.specs.Stages.{Paying, Undecided, stage_at}
 use Rattle.xsi_calls.specs.Words.{PaymentStage}
 
--- before its Decide, whatever the place of its payment holds
-pub undecided_still : (phase : Phase) (v v' : PaymentStage) (c : Conclusion) →
-    is_undecided (stage_at phase v c) ≡ true → stage_at phase v' c ≡ Undecided
-undecided_still phases.Undecided v v' c is = refl
-undecided_still phases.Paying v v' c is = absurd cc
-undecided_still phases.Releasing v v' c is = absurd cc
+-- before its Decide, whatever the places of its payment and its conclusion hold
+pub undecided_still : (phase : Phase) (v v' : PaymentStage) (c c' : Conclusion) →
+    is_undecided (stage_at phase v c) ≡ true → stage_at phase v' c' ≡ Undecided
+undecided_still phases.Undecided v v' c c' is = refl
+undecided_still phases.Paying v v' c c' is = absurd cc
+undecided_still phases.Releasing v v' c c' is = absurd cc
 
 pub paying_still : (phase : Phase) (v v' : PaymentStage) (c : Conclusion) → is_paying (stage_at phase v c) ≡ true →
     stage_at phase v' c ≡ Paying v' c
@@ -21,11 +21,11 @@ paying_still phases.Paying v v' c is = refl
 paying_still phases.Releasing v v' c is = absurd cc
 
 -- before its Decide its place is the same whatever its room holds
-pub undecided_same : (phase : Phase) (v v' : PaymentStage) (c : Conclusion) →
-    is_undecided (stage_at phase v c) ≡ true → stage_at phase v c ≡ stage_at phase v' c
-undecided_same phases.Undecided v v' c is = refl
-undecided_same phases.Paying v v' c is = absurd cc
-undecided_same phases.Releasing v v' c is = absurd cc
+pub undecided_same : (phase : Phase) (v v' : PaymentStage) (c c' : Conclusion) →
+    is_undecided (stage_at phase v c) ≡ true → stage_at phase v c ≡ stage_at phase v' c'
+undecided_same phases.Undecided v v' c c' is = refl
+undecided_same phases.Paying v v' c c' is = absurd cc
+undecided_same phases.Releasing v v' c c' is = absurd cc
 
 pub it_pays : (phase : Phase) (v : PaymentStage) (c : Conclusion) → is_paying (stage_at phase v c) ≡ true →
     phase ≡ phases.Paying

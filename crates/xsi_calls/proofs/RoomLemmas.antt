@@ -1,23 +1,28 @@
 -- What of a call is under way in its room.
-use Rattle.std.proofs.Common.{◌≡◌, refl, ap, ◌∙◌, subst, Bool, true, false, Option, Some, None, IsSome}
-use Rattle.std.specs.Option.{is_some}
-use Rattle.xsi_inquiry.specs.declared.decision.Decision.{Decision}
+use Rattle.std.proofs.Common.{◌≡◌, refl, ap, ◌∙◌, subst, ℕ, Bool, true, false, Option, Some, None, IsSome}
+use Rattle.call_decisions.specs.declared.settled.Settled.TheVariants as settlements
+use Rattle.xsi_inquiry.specs.declared.verdict.Verdict.TheVariants as verdicts
+use Rattle.xsi_calls.specs.declared.conclusion.Conclusion.{Conclusion}
+use Rattle.xsi_calls.specs.declared.conclusion.Conclusion.TheVariants as conclusions
+use Rattle.xsi_calls.specs.Concluding.{conclusion_by}
+use Rattle.xsi_calls.specs.PaymentWords.{Due, RecordKey, Settled, Work, begun_sweep}
+use Rattle.xsi_calls.specs.Payments.{begun_behind, begun_payment}
 use Rattle.xsi_calls.specs.declared.part.Part.{Part}
 use Rattle.xsi_calls.specs.declared.part.Part.TheVariants as parts
 use Rattle.xsi_calls.specs.declared.question.Question.{Question}
 use Rattle.xsi_calls.specs.declared.questions.Questions.{Questions}
 use Rattle.xsi_calls.specs.declared.trials.TrialsPlace.{TrialsPlace}
-use Rattle.xsi_calls.specs.Parts.{IsToPay, asked_with, payment_under, paying, question_under, trials_at, trials_by, trials_under, undecided_with}
+use Rattle.xsi_calls.specs.Parts.{IsToPay, asked_with, conclusion_under, decision_by, payment_under, paying, question_under, tried_by, tried_in, tried_under, trials_for, undecided_with}
 use Rattle.xsi_calls.specs.PaymentStages as stages
-use Rattle.xsi_calls.specs.Undecided.{CanDecide, Trials, UndecidedCall}
-use Rattle.xsi_calls.specs.UndecidedWords.{Call, is_done}
+use Rattle.xsi_calls.specs.Undecided.{CanDecide, trials_in}
+use Rattle.xsi_calls.specs.UndecidedWords.{Call, Decision, is_done}
 use Rattle.xsi_calls.specs.declared.writes.CallWrites.{CallWrites}
 use Rattle.xsi_calls.specs.Words.{PaymentStage}
 
 -- ---- no question
 
 -- once all is asked
-pub all_asked : (call : Call) (q : Questions) (part : Part) → (trials_under part ≡ None →
+pub all_asked : (call : Call) (q : Questions) (part : Part) → (tried_under part ≡ None →
     is_done call (asked_with q (question_under part)) ≡ true) → question_under part ≡ None
 all_asked call q (parts.Asks None) done = refl
 all_asked call q (parts.Asks (Some question)) done = let more : false ≡ true = done refl in absurd cc
@@ -25,85 +30,98 @@ all_asked call q (parts.Writes place) done = refl
 all_asked call q (parts.Sweeps sweep) done = refl
 
 -- where the call can decide
-pub none_to_decide : (call : Call) (q : Questions) (part : Part) → CanDecide call (undecided_with q part) →
+pub none_to_decide : (call : Call) (q : Questions) (part : Part) → CanDecide call (undecided_with call q part) →
     question_under part ≡ None
 none_to_decide call q (parts.Asks None) can = refl
 none_to_decide call q (parts.Asks (Some question)) can = let more : false ≡ true = can.0 in absurd cc
 none_to_decide call q (parts.Writes place) can = refl
 none_to_decide call q (parts.Sweeps sweep) can = refl
 
--- while trials are under way
-pub none_tried : (part : Part) → is_some (trials_under part) ≡ true → question_under part ≡ None
-none_tried (parts.Asks question) some = let never : false ≡ true = some in absurd cc
-none_tried (parts.Writes place) some = refl
-none_tried (parts.Sweeps sweep) some = refl
-
 -- the call is then its questions alone
-pub bare_undecided : (call : Call) (q : Questions) (part : Part) → trials_under part ≡ None →
-    (trials_under part ≡ None → is_done call (asked_with q (question_under part)) ≡ true) →
-    undecided_with q part ≡ record { questions = asked_with q None; trials = None }
+pub bare_undecided : (call : Call) (q : Questions) (part : Part) → tried_under part ≡ None →
+    (tried_under part ≡ None → is_done call (asked_with q (question_under part)) ≡ true) →
+    undecided_with call q part ≡ record { questions = asked_with q None; trials = None }
 bare_undecided call q part untried done =
-    ap (λ (o : Option Question). record { questions = asked_with q o; trials = trials_under part })
-    (all_asked call q part done)
-    ∙ ap (λ (o : Option Trials). record { questions = asked_with q None; trials = o }) untried
+    ap (λ (o : Option Question). record {
+      questions = asked_with q o;
+      trials = trials_for (decision_by call q.inquiry) (tried_under part);
+    }) (all_asked call q part done)
+    ∙ ap (λ (o : Option CallWrites). record {
+      questions = asked_with q None;
+      trials = trials_for (decision_by call q.inquiry) o;
+    }) untried
 
-pub still_done : (call : Call) (q : Questions) (part : Part) → trials_under part ≡ None →
-    (trials_under part ≡ None → is_done call (asked_with q (question_under part)) ≡ true) →
+pub still_done : (call : Call) (q : Questions) (part : Part) → tried_under part ≡ None →
+    (tried_under part ≡ None → is_done call (asked_with q (question_under part)) ≡ true) →
     is_done call (asked_with q None) ≡ true
 still_done call q part untried done =
     subst (λ (o : Option Question). is_done call (asked_with q o) ≡ true) (all_asked call q part done) (done untried)
 
 -- ---- trials
 
-made_by : (w : CallWrites) (o : Option Decision) → IsSome (trials_by w o) → (d : Decision) × (o ≡ Some d)
-made_by w None some = absurd cc
-made_by w (Some d) some = (d, refl)
+-- with their decision they are those that are inserted
+pub tried_of : (d : Decision) (o : Option CallWrites) → trials_in (trials_for d o) ≡ tried_in o
+tried_of d None = refl
+tried_of d (Some w) = refl
 
--- they have begun where their decision is there
-pub as_decided : (w : CallWrites) (o : Option Decision) → is_some o ≡ is_some (trials_by w o)
-as_decided w None = refl
-as_decided w (Some d) = refl
-
--- they are made for a decision
-pub made_at : (place : TrialsPlace) → IsSome (trials_at place) → (d : Decision) × (place.decision ≡ Some d)
-made_at place some = made_by place.writes place.decision some
+tried_so : (w : CallWrites) (on_trial : Bool) → IsSome (tried_by w on_trial) → on_trial ≡ true
+tried_so w false some = absurd cc
+tried_so w true some = refl
 
 -- which is so of the call that has them
-pub trying_in : (q : Questions) (part : Part) (place : TrialsPlace) → part ≡ parts.Writes place →
-    IsSome (trials_under part) → (d : Decision) × (place.decision ≡ Some d) × (undecided_with q part ≡ record {
+pub trying_in : (call : Call) (q : Questions) (part : Part) (place : TrialsPlace) → part ≡ parts.Writes place →
+    IsSome (tried_under part) → (place.on_trial ≡ true) × (undecided_with call q part ≡ record {
       questions = asked_with q None;
-      trials = Some (record { writes = place.writes; decision = d });
+      trials = Some (record { writes = place.writes; decision = decision_by call q.inquiry });
     })
-trying_in q part place is some =
-    let (d, made_for) = made_at place (subst (λ (p : Part). IsSome (trials_under p)) is some) in (
-      d,
-      made_for,
-      ap (undecided_with q) is ∙ ap (λ (o : Option Decision).
-          record { questions = asked_with q None; trials = trials_by place.writes o }) made_for,
+trying_in call q part place is some =
+    let on_trial = tried_so place.writes place.on_trial
+    (subst (λ (p : Part). IsSome (tried_under p)) is some) in (
+      on_trial,
+      ap (undecided_with call q) is ∙ ap (λ (b : Bool). record {
+        questions = asked_with q None;
+        trials = trials_for (decision_by call q.inquiry) (tried_by place.writes b);
+      }) on_trial,
     )
 
 -- ---- the payment
 
-pub is_to_pay : (v : PaymentStage) → IsToPay (paying v)
-is_to_pay (stages.Sweeping sweep) = tt
-is_to_pay (stages.Writing w) = refl
+pub is_to_pay : (v : PaymentStage) (c : Conclusion) → IsToPay (paying v c)
+is_to_pay (stages.Sweeping sweep) c = tt
+is_to_pay (stages.Writing w) c = refl
 
-pub asks_nothing : (v : PaymentStage) → question_under (paying v) ≡ None
-asks_nothing (stages.Sweeping sweep) = refl
-asks_nothing (stages.Writing w) = refl
+pub asks_nothing : (v : PaymentStage) (c : Conclusion) → question_under (paying v c) ≡ None
+asks_nothing (stages.Sweeping sweep) c = refl
+asks_nothing (stages.Writing w) c = refl
 
-pub tries_nothing : (v : PaymentStage) → trials_under (paying v) ≡ None
-tries_nothing (stages.Sweeping sweep) = refl
-tries_nothing (stages.Writing w) = refl
+pub tries_nothing : (v : PaymentStage) (c : Conclusion) → tried_under (paying v c) ≡ None
+tries_nothing (stages.Sweeping sweep) c = refl
+tries_nothing (stages.Writing w) c = refl
 
-pub pays_it : (v : PaymentStage) → payment_under (paying v) ≡ v
-pays_it (stages.Sweeping sweep) = refl
-pays_it (stages.Writing w) = refl
+pub pays_it : (v : PaymentStage) (c : Conclusion) → payment_under (paying v c) ≡ v
+pays_it (stages.Sweeping sweep) c = refl
+pays_it (stages.Writing w) c = refl
+
+-- it has what the call has come to: only a Remove that is Done sweeps
+behind_sweep : (o : Option Work) (due : Due) → conclusion_under (paying (begun_behind o due)
+    (conclusions.Answers verdicts.Done)) ≡ conclusions.Answers verdicts.Done
+behind_sweep None due = refl
+behind_sweep (Some w) due = refl
+
+pub has_come_to : (hash : RecordKey → ℕ) (settled : Option Settled) (due : Due) →
+    conclusion_under (paying (begun_payment hash settled due) (conclusion_by settled)) ≡ conclusion_by settled
+has_come_to hash None due = refl
+has_come_to hash (Some (settlements.Answers verdict)) due = refl
+has_come_to hash (Some (settlements.Sweeps sweep)) due = behind_sweep (begun_sweep hash sweep) due
+has_come_to hash (Some settlements.Waits) due = refl
 
 -- no question is under way, and nothing is on trial
-pub only_paid : (q : Questions) (part : Part) → IsToPay part →
-    undecided_with q part ≡ record { questions = asked_with q None; trials = None }
-only_paid q (parts.Asks question) pays = absurd pays
-only_paid q (parts.Writes place) pays =
-    ap (λ (o : Option Decision). record { questions = asked_with q None; trials = trials_by place.writes o }) pays
-only_paid q (parts.Sweeps sweep) pays = refl
+pub only_paid : (call : Call) (q : Questions) (part : Part) → IsToPay part →
+    undecided_with call q part ≡ record { questions = asked_with q None; trials = None }
+only_paid call q (parts.Asks question) pays = absurd pays
+only_paid call q (parts.Writes place) pays =
+    ap (λ (b : Bool). record {
+      questions = asked_with q None;
+      trials = trials_for (decision_by call q.inquiry) (tried_by place.writes b);
+    }) pays
+only_paid call q (parts.Sweeps sweep) pays = refl

@@ -82,7 +82,11 @@ module _ (hash : RecordKey → ℕ) (seat : ℕ) (call : Call) (q : QuestionsVie
         reads = λ none. (made.means s change a.faces fine).reads;
         elsewhere = λ key free. refl;
         owed = λ key. refl;
-        behind = record { right = (made.means s change a.faces fine).right; knows = (made.means s change a.faces fine).knows };
+        behind = record {
+          right = (made.means s change a.faces fine).right;
+          knows =
+              (made.means s change a.faces fine).knows;
+        };
         full = λ before full. absurd (true≢false (sym full));
       };
     }

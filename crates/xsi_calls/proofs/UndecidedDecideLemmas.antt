@@ -1,5 +1,5 @@
 -- What a call has come to at its Decide.
-use Rattle.std.proofs.Common.{◌≡◌, refl, sym, ap, ◌∙◌, subst, ℕ, Bool, true, List, [], Option, Some, None, Ok, IsSome, if◌then◌else◌, take}
+use Rattle.std.proofs.Common.{◌≡◌, refl, sym, ap, ◌∙◌, subst, ℕ, Bool, true, false, List, [], Option, Some, None, Ok, IsSome, if◌then◌else◌, take}
 use Rattle.std.specs.List.{Contains}
 use Rattle.std.specs.Option.{is_some}
 use Rattle.std.specs.Prelude.{option_map, slice_get}
@@ -8,13 +8,15 @@ use Rattle.xsi_calls.specs.declared.deed.Deed.TheVariants as deeds
 use Rattle.xsi_calls.specs.Views.{is_full_at}
 use Rattle.xsi_calls.specs.declared.due.Due.TheVariants.{Undoing, Writing}
 use Rattle.xsi_calls.specs.WriteWords.{AccessView}
-use Rattle.xsi_calls.specs.Undecided.{Trials, its_plan, untried}
+use Rattle.xsi_calls.specs.declared.writes.CallWrites.{CallWrites}
+use Rattle.xsi_calls.specs.Parts.{tried_in, trials_for}
+use Rattle.xsi_calls.specs.Undecided.{CanDecideIn, Trials, its_plan, trials_in, untried}
 use Rattle.xsi_calls.proofs.UndecidedNames.{all_stand, settles, tries_rightly, write_under_names, agrees_itself}
-use Rattle.xsi_calls.specs.UndecidedWords.{AreAlike, AreNames, Call, Change, Decision, Due, Exclusive, Full, IsOver, IsRight, Lock, LockName, Means, Plan, PoolState, QuestionsView, Record, RecordKey, Records, State, Table, Trying, caller_of, guard_of, inserted, is_done, is_full, kind_of, locked_of, names_in, next_deed, record_of, settled_by}
-use Rattle.xsi_calls.specs.Knowing.{IsAsking, IsOnTrial, IsTrying, standing}
+use Rattle.xsi_calls.specs.UndecidedWords.{AreAlike, AreNames, Call, Change, Decision, Due, Exclusive, Full, IsFiled, IsOver, IsRight, KnowsOf, Lock, LockName, Means, Plan, PoolState, QuestionsView, Record, RecordKey, Records, State, Table, Trying, asked_of, caller_of, guard_of, inserted, is_done, is_full, kind_of, locked_of, names_in, next_deed, record_of, settled_by}
+use Rattle.xsi_calls.specs.Knowing.{IsAsking, IsDecision, IsOnTrial, IsTrying, IsUndecidedIn, standing}
 use Rattle.xsi_calls.specs.Deciding.{IsDecidedIn, IsSettled, settled_in}
 use Rattle.xsi_calls.proofs.HeldLemmas.{is_among, no_first}
-use Rattle.xsi_calls.proofs.ReadyLemmas.{carries, may_write}
+use Rattle.xsi_calls.proofs.ReadyLemmas.{carries, may_write, none_asked, right_here}
 use Rattle.xsi_calls.proofs.SweepLemmas.{sweeps_change}
 
 module _ (hash : RecordKey → ℕ) (seat : ℕ) (call : Call) (s : State) (q : QuestionsView) (records : Records)
@@ -110,3 +112,38 @@ module _ (hash : RecordKey → ℕ) (seat : ℕ) (call : Call) (s : State) (q : 
             (record { standing = n; full = due; rests = over.rests; carries = is.carries })
         by (Undoing n) due = absurd (subst IsOnTrial due is.on_trial)
         by (Writing n) due = absurd (subst IsOnTrial due is.on_trial)
+
+  -- ---- either way
+
+  pub asks_no_more : (o : Option Trials) → IsUndecidedIn hash seat call s q o records pool locks change →
+      CanDecideIn call q o → asked_of call q.inquiry ≡ None
+  asks_no_more None a can = none_asked call q can.0
+  asks_no_more (Some t) is over = is.asked
+
+  -- it was told what is so
+  pub is_told : (o : Option Trials) → IsUndecidedIn hash seat call s q o records pool locks change →
+      IsFiled s × KnowsOf call q.inquiry q.room s
+  is_told None a = (a.faces.agrees.filed, a.faces.knows s a.faces.agrees.filed (agrees_itself call _ s))
+  is_told (Some t) is = (is.filed, is.knows s is.filed (agrees_itself call _ s))
+
+  module _ (decision : Decision) where
+    pub lacks_room : (o : Option CallWrites) →
+        IsUndecidedIn hash seat call s q (trials_for decision o) records pool locks change →
+        CanDecideIn call q (trials_for decision o) → is_full (tried_in o) ≡ true →
+        IsDecidedIn hash seat call s q None (trials_in (trials_for decision o)) records pool locks change
+    lacks_room None a can full = let never : false ≡ true = full in absurd cc
+    lacks_room (Some w) is over full =
+        subst (λ (b : Bool). IsDecidedIn hash seat call s q (if b then None else Some (settled_by stopped decision)) w
+        records pool locks change) full (decides_tried (record { writes = w; decision = decision }) is over)
+
+    pub comes_to_it : (o : Option CallWrites) →
+        IsUndecidedIn hash seat call s q (trials_for decision o) records pool locks change →
+        CanDecideIn call q (trials_for decision o) → AreNames q.names → is_full (tried_in o) ≡ false →
+        decided_of call q.inquiry ≡ Ok decision → IsDecision call q decision → IsSettled hash seat call s q
+        (settled_by stopped decision) (trials_in (trials_for decision o)) records pool locks change
+    comes_to_it None a can names room value decides =
+        decides_untried a names can.0 can.1 decision value
+        (right_here hash seat call s q records pool locks change a decision decides)
+    comes_to_it (Some w) is over names room value decides =
+        subst (λ (b : Bool). IsDecidedIn hash seat call s q (if b then None else Some (settled_by stopped decision)) w
+        records pool locks change) room (decides_tried (record { writes = w; decision = decision }) is over)

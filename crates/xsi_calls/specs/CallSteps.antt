@@ -1,5 +1,5 @@
 -- What a step of a call does. docs/STEPS.md, "Calls".
-use Rattle.std.specs.Prelude.{ℕ, ◌≡◌, ◌↔◌, true, false, not, Bool, Option, Some, None, IsSome, Result, Ok, Err, if◌then◌else◌, ⊤}
+use Rattle.std.specs.Prelude.{ℕ, ◌≡◌, ◌↔◌, true, false, not, Bool, Option, Some, None, IsSome, if◌then◌else◌, ⊤}
 use Rattle.file_pages.specs.declared.fault.FileFault.{FileFault}
 use Rattle.step_rules.specs.declared.kind.Kind.TheVariants.{Decide}
 use Rattle.xsi_remove.specs.Words.{StepHasCause}
@@ -119,11 +119,6 @@ pub record HasNoSystem (hash : RecordKey → ℕ) (call : Call) (stopped : Bool)
       IsUndecided hash seat call s old records pool locks change → s.stopped ≡ stopped → ⊥
   pub questions : new.questions ≡ old.questions
   pub untried : new.trials ≡ None
-
-abbrev pub Decides : {E : Type 0} → (RecordKey → ℕ) → Call → Bool → Result Conclusion E →
-    (old new : UndecidedCall) → PaymentStage → Type 0
-Decides hash call stopped (Ok conclusion) old new payment = ComesTo hash call stopped conclusion old new payment
-Decides hash call stopped (Err e) old new payment = HasNoSystem hash call stopped old new
 
 abbrev pub is_end : {F : Type 0} → Progress F → Bool
 is_end (Moved kind) = false

@@ -31,6 +31,7 @@ pub mod UndecidedSteps
 pub mod Deciding
 pub mod UndecidedLaws
 pub mod Words
+pub mod Beginning
 pub mod Below
 pub mod Stages
 pub mod Concluding

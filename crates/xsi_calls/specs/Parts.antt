@@ -1,6 +1,11 @@
 -- What of a call is under way has one room, and the call is seen by what stands there. docs/STEPS.md, "Calls".
-use Rattle.std.specs.Prelude.{◌≡◌, Option, Some, None, ⊤}
+use Rattle.std.specs.Prelude.{◌≡◌, Bool, true, false, Option, Some, None, Result, Ok, Err, ⊤}
+use Rattle.call_decisions.specs.Anything.{decided_of}
 use Rattle.xsi_inquiry.specs.declared.decision.Decision.{Decision}
+use Rattle.xsi_inquiry.specs.declared.decision.Decision.TheVariants.{PutOff}
+use Rattle.xsi_inquiry.specs.declared.verdict.Verdict.TheVariants as verdicts
+use Rattle.xsi_calls.specs.declared.conclusion.Conclusion.{Conclusion}
+use Rattle.xsi_calls.specs.declared.conclusion.Conclusion.TheVariants as conclusions
 use Rattle.xsi_calls.specs.declared.part.Part.{Part}
 use Rattle.xsi_calls.specs.declared.part.Part.TheVariants as parts
 use Rattle.xsi_calls.specs.declared.phase.Phase.{Phase}
@@ -14,7 +19,8 @@ use Rattle.xsi_calls.specs.Payments.{unwritten}
 use Rattle.xsi_calls.specs.PaymentStages as stages
 use Rattle.xsi_calls.specs.Questions.{QuestionsView}
 use Rattle.xsi_calls.specs.Undecided.{Trials, UndecidedCall, untried}
-use Rattle.xsi_calls.specs.Words.{PaymentStage}
+use Rattle.xsi_calls.specs.UndecidedWords.{AnyInquiry, NotASystem}
+use Rattle.xsi_calls.specs.Words.{Call, PaymentStage}
 
 -- ---- a question
 
@@ -35,22 +41,44 @@ question_under (parts.Sweeps sweep) = None
 
 -- ---- trials
 
--- they have begun where their decision is made
-abbrev pub trials_by : CallWrites → Option Decision → Option Trials
-trials_by w None = None
-trials_by w (Some decision) = Some (record { writes = w; decision = decision })
+-- what is inserted on trial, once that has begun
+abbrev pub tried_by : CallWrites → Bool → Option CallWrites
+tried_by w false = None
+tried_by w true = Some w
 
-abbrev pub trials_at : TrialsPlace → Option Trials
-trials_at place = trials_by place.writes place.decision
+abbrev pub tried_at : TrialsPlace → Option CallWrites
+tried_at place = tried_by place.writes place.on_trial
 
-abbrev pub trials_under : Part → Option Trials
-trials_under (parts.Asks question) = None
-trials_under (parts.Writes place) = trials_at place
-trials_under (parts.Sweeps sweep) = None
+abbrev pub tried_under : Part → Option CallWrites
+tried_under (parts.Asks question) = None
+tried_under (parts.Writes place) = tried_at place
+tried_under (parts.Sweeps sweep) = None
+
+abbrev pub tried_in : Option CallWrites → CallWrites
+tried_in None = untried
+tried_in (Some w) = w
+
+-- what it tries for is what its inquiry decides: trials begin only where that decides something
+abbrev pub decision_in : Result Decision NotASystem → Decision
+decision_in (Ok decision) = decision
+decision_in (Err e) = PutOff
+
+abbrev pub decision_by : Call → AnyInquiry → Decision
+decision_by call i = decision_in (decided_of call i)
+
+abbrev pub trials_for : Decision → Option CallWrites → Option Trials
+trials_for decision None = None
+trials_for decision (Some w) = Some (record { writes = w; decision = decision })
+
+abbrev pub trials_under : Call → Questions → Part → Option Trials
+trials_under call q part = trials_for (decision_by call q.inquiry) (tried_under part)
 
 -- the call up to its Decide
-abbrev pub undecided_with : Questions → Part → UndecidedCall
-undecided_with q part = record { questions = asked_with q (question_under part); trials = trials_under part }
+abbrev pub undecided_with : Call → Questions → Part → UndecidedCall
+undecided_with call q part = record {
+  questions = asked_with q (question_under part);
+  trials = trials_under call q part;
+}
 
 -- ---- the payment
 
@@ -60,14 +88,20 @@ payment_under (parts.Asks question) = stages.Writing unwritten
 payment_under (parts.Writes place) = stages.Writing place.writes
 payment_under (parts.Sweeps sweep) = stages.Sweeping sweep
 
-abbrev pub paying : PaymentStage → Part
-paying (stages.Sweeping sweep) = parts.Sweeps sweep
-paying (stages.Writing w) = parts.Writes (record { writes = w; decision = None })
+abbrev pub paying : PaymentStage → Conclusion → Part
+paying (stages.Sweeping sweep) conclusion = parts.Sweeps sweep
+paying (stages.Writing w) conclusion = parts.Writes (record { writes = w; on_trial = false; conclusion = conclusion })
+
+-- what the call has come to: a Remove that sweeps is Done, and that of a question says nothing
+abbrev pub conclusion_under : Part → Conclusion
+conclusion_under (parts.Asks question) = conclusions.Waits
+conclusion_under (parts.Writes place) = place.conclusion
+conclusion_under (parts.Sweeps sweep) = conclusions.Answers verdicts.Done
 
 -- it is there, and nothing is on trial
 abbrev pub IsToPay : Part → Type 0
 IsToPay (parts.Asks question) = ⊥
-IsToPay (parts.Writes place) = place.decision ≡ None
+IsToPay (parts.Writes place) = place.on_trial ≡ false
 IsToPay (parts.Sweeps sweep) = ⊤
 
 -- ---- what is always so

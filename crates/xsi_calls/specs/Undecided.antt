@@ -5,7 +5,7 @@ use Rattle.xsi_inquiry.specs.declared.write.TheConstants.{MAX_TRIALS}
 use Rattle.xsi_inquiry.specs.Telling.{most_asked}
 use Rattle.xsi_calls.specs.UndecidedWords.{Call, Decision, IsBare, IsOver, Known, Lock, MOST_STEPS, Owes, Plan, QuestionsView, RecordKey, Store, Trying, Turn, Writes, is_done, is_full, left_of, owes, plan_of, questions_facts, questions_left, questions_locks, questions_turn, writes_facts, writes_left_in, writes_locks, writes_turn}
 
--- what it inserts on trial, and the decision for which it does, which is made once, before the first trial
+-- what it inserts on trial, and the decision for which it does, which its inquiry tells
 pub record Trials : Type 0 where
   pub writes : CallWrites
   pub decision : Decision

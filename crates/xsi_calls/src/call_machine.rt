@@ -1,12 +1,12 @@
 //! The machine.
 
-ghost use Rattle.std.specs.Prelude.{◌≡◌, Bool, IsOk, IsSome, None, Some, true, false};
+ghost use Rattle.std.specs.Prelude.{◌≡◌, Bool, IsOk, IsSome, None, OnErr, OnOk, Some, true, false};
 ghost use Rattle.std.specs.Option.{is_some};
 ghost use Rattle.xsi_calls.specs.declared.conclusion.Conclusion.TheVariants.{Waits};
 ghost use Rattle.xsi_calls.specs.Words.{CanDecide, IsReady, HasRoom, IsSeat, row_of};
-ghost use Rattle.xsi_calls.specs.Parts.{IsToPay, payment_under, undecided_with};
+ghost use Rattle.xsi_calls.specs.Parts.{IsToPay, conclusion_under, payment_under, undecided_with};
 ghost use Rattle.xsi_calls.specs.Machine.{Begins, IsOver, answer_of_call, call_locks, conclusion_of, finds_of, is_paying, is_undecided};
-ghost use Rattle.xsi_calls.specs.CallSteps.{Decides, MakesCall, MakesRelease, is_end};
+ghost use Rattle.xsi_calls.specs.CallSteps.{ComesTo, HasNoSystem, MakesCall, MakesRelease, is_end};
 
 mod skipping;
 
@@ -26,7 +26,7 @@ use queue_model::{Answer, Call, Caller};
 use std::marker::Model;
 use std::mem::size_of;
 use step_rules::{Kind, Progress};
-use xsi_inquiry::{NotASystem, Room};
+use xsi_inquiry::{NotASystem, Room, Verdict};
 
 /// A call of a seat as one machine. It is lent pool, lock table, pseudokeys and the stop mark at
 /// each step, and owns the room for its answer: no step takes memory.
@@ -37,14 +37,13 @@ pub struct CallMachine {
     call: Call,
     questions: Questions,
     part: Part,
-    conclusion: Conclusion,
 }
 
-const _: () = prove!(size_of::<CallMachine>() <= 2100);
+const _: () = prove!(size_of::<CallMachine>() <= 2000);
 
 impl Model for CallMachine {
     ghost use Rattle.xsi_calls.specs.Machine.{CallView};
-    ghost use Rattle.xsi_calls.specs.Parts.{IsOneMachine, payment_under, undecided_with};
+    ghost use Rattle.xsi_calls.specs.Parts.{IsOneMachine, conclusion_under, payment_under, undecided_with};
     ghost use Rattle.xsi_calls.specs.Stages.{stage_at};
 
     ghost Value = { CallView };
@@ -52,15 +51,15 @@ impl Model for CallMachine {
     ghost view = { λ m. record {
       caller = m.caller;
       call = m.call;
-      undecided = undecided_with m.questions m.part;
-      stage = stage_at m.phase (payment_under m.part) m.conclusion;
+      undecided = undecided_with m.call m.questions m.part;
+      stage = stage_at m.phase (payment_under m.part) (conclusion_under m.part);
     } };
 
     ghost invariant = { λ m. IsOneMachine (record {
       caller = m.caller;
       call = m.call;
-      undecided = undecided_with m.questions m.part;
-      stage = stage_at m.phase (payment_under m.part) m.conclusion;
+      undecided = undecided_with m.call m.questions m.part;
+      stage = stage_at m.phase (payment_under m.part) (conclusion_under m.part);
     }) m.phase m.part };
 }
 
@@ -79,7 +78,6 @@ impl CallMachine {
             call,
             questions,
             part: Part::new(),
-            conclusion: Conclusion::Waits,
         }
     }
 
@@ -129,7 +127,7 @@ impl CallMachine {
     {
         match self.phase {
             Phase::Undecided => None,
-            Phase::Paying | Phase::Releasing => Some(self.conclusion),
+            Phase::Paying | Phase::Releasing => Some(self.part.conclusion()),
         }
     }
 
@@ -144,7 +142,7 @@ impl CallMachine {
     pub fn is_answered(&self) -> bool
         ensures { result ≡ is_some (answer_of_call self.now) }
     {
-        self.has_concluded() && matches!(self.conclusion, Conclusion::Answers(_))
+        self.has_concluded() && matches!(self.part.conclusion(), Conclusion::Answers(_))
     }
 
     /// The searches that it has begun before its Decide since it last began, those of its trials
@@ -183,7 +181,10 @@ impl CallMachine {
     }
 
     /// One step: of what it asks and tries, then its Decide, then of what it owes, and last a name
-    /// that is given back. It has ended where nothing is owed and no name is held.
+    /// that is given back. It owes the sweep, or else the writes, which begin in the step after that
+    /// by which the sweep has ended. A sweep that has failed is refused as `Failed`, and nothing is
+    /// written after it. Behind the last write a name is given back in the same step. It has ended
+    /// where nothing is owed and no name is held.
     pub fn step<D: PageDevice, K: PseudoKey>(
         &mut self,
         pool: &mut Pool<D>,
@@ -199,28 +200,77 @@ impl CallMachine {
             pool.old pool.new locks.old locks.new }
     {
         if self.is_undecided() {
-            if self.questions.still_asks(&self.part, &self.call) {
+            if self.part.is_asking() {
+                return match &mut self.part {
+                    Part::Asks(question) => {
+                        self.questions
+                            .go_on(question, pool, locks, keys, seat, &self.call)
+                    }
+                    Part::Writes(_) | Part::Sweeps(_) => unreachable!(),
+                };
+            }
+            if !self.part.is_trying() && !self.questions.has_asked(&self.call) {
                 return self
                     .questions
-                    .step(&mut self.part, pool, locks, keys, seat, &self.call);
+                    .turn(&mut self.part, pool, locks, keys, seat, &self.call);
             }
-            let did = self
-                .part
-                .try_on(&mut self.questions, pool, locks, keys, seat, &self.call);
+            let Ok(tries) = self.part.begin_first(&self.questions, &self.call) else {
+                return Progress::Fault(FileFault::Failed);
+            };
+            let did = if tries {
+                self.questions.keep_order();
+                let plan = PlanOf::new(&self.call, self.questions.inquiry());
+                let did = match &mut self.part {
+                    Part::Writes(place) => place.writes.step(&plan, pool, locks, keys, seat),
+                    Part::Asks(_) | Part::Sweeps(_) => unreachable!(),
+                };
+                self.questions.count(did, locks, seat);
+                did
+            } else {
+                Progress::Ended
+            };
             if !is_end(did) {
                 return did;
             }
             self.questions.keep_order();
-            let Ok(conclusion) = decide(&self.questions, &mut self.part, &self.call, keys, stopped)
-            else {
+            let Ok(()) = decide(&self.questions, &mut self.part, &self.call, keys, stopped) else {
                 return Progress::Fault(FileFault::Failed);
             };
-            self.conclusion = conclusion;
             self.phase = Phase::Paying;
             return Progress::Moved(Kind::Decide);
         }
         if self.is_paying() {
-            return self.pay(pool, locks, keys, seat);
+            self.questions.keep_order();
+            let plan = PlanOf::new(&self.call, self.questions.inquiry());
+            match &mut self.part {
+                Part::Asks(_) => unreachable!(),
+                Part::Sweeps(sweep) => {
+                    if sweep.is_over() {
+                        return Progress::Fault(FileFault::Failed);
+                    }
+                    let did = sweep.step(pool, locks, keys, seat);
+                    if !is_move(did) {
+                        return did;
+                    }
+                    if !sweep.is_over() {
+                        return did;
+                    }
+                    self.part = Part::Writes(TrialsPlace {
+                        writes: unwritten(),
+                        on_trial: false,
+                        conclusion: Conclusion::Answers(Verdict::Done),
+                    });
+                    return did;
+                }
+                Part::Writes(place) => {
+                    let did = place.writes.step(&plan, pool, locks, keys, seat);
+                    if !is_end(did) {
+                        return did;
+                    }
+                }
+            }
+            self.phase = Phase::Releasing;
+            return self.release(locks, seat);
         }
         self.release(locks, seat)
     }
@@ -237,55 +287,6 @@ impl CallMachine {
         ensures { result ≡ is_paying self.now.stage }
     {
         matches!(self.phase, Phase::Paying)
-    }
-
-    /// One step of what it owes: of the sweep, or else of the writes, which begin in the step after
-    /// that by which the sweep has ended. A sweep that has failed is refused as `Failed`, and nothing
-    /// is written after it. Behind the last write it gives its names back.
-    fn pay<D: PageDevice, K: PseudoKey>(
-        &mut self,
-        pool: &mut Pool<D>,
-        locks: &mut LockTable,
-        keys: &K,
-        seat: u8,
-    ) -> Progress<FileFault>
-        requires seat { IsSeat locks.old seat }
-        requires ready { IsReady pool.old }
-        requires row { row_of locks.old seat ≡ call_locks self.old }
-        requires pays { is_paying self.old.stage ≡ true }
-        ensures { (stopped : Bool) → MakesCall (K.of_key keys.now) seat stopped result
-            self.old self.new pool.old pool.new locks.old locks.new }
-    {
-        self.questions.keep_order();
-        let plan = PlanOf::new(&self.call, self.questions.inquiry());
-        match &mut self.part {
-            Part::Asks(_) => unreachable!(),
-            Part::Sweeps(sweep) => {
-                if sweep.is_over() {
-                    return Progress::Fault(FileFault::Failed);
-                }
-                let did = sweep.step(pool, locks, keys, seat);
-                if !is_move(did) {
-                    return did;
-                }
-                if !sweep.is_over() {
-                    return did;
-                }
-                self.part = Part::Writes(TrialsPlace {
-                    writes: unwritten(),
-                    decision: None,
-                });
-                return did;
-            }
-            Part::Writes(place) => {
-                let did = place.writes.step(&plan, pool, locks, keys, seat);
-                if !is_end(did) {
-                    return did;
-                }
-            }
-        }
-        self.phase = Phase::Releasing;
-        self.release(locks, seat)
     }
 
     /// The name that was taken last is given back.
@@ -309,16 +310,19 @@ fn decide<K: PseudoKey>(
     call: &Call,
     keys: &K,
     stopped: bool,
-) -> Result<Conclusion, NotASystem>
-    requires { CanDecide call.now (undecided_with questions.now part.old) }
-    ensures decides { Decides (K.of_key keys.now) call.now stopped result
-        (undecided_with questions.now part.old) (undecided_with questions.now part.new)
-        (payment_under part.new) }
+) -> Result<(), NotASystem>
+    requires { CanDecide call.now (undecided_with call.now questions.now part.old) }
+    ensures comes { OnOk result (ComesTo (K.of_key keys.now) call.now stopped
+        (conclusion_under part.new) (undecided_with call.now questions.now part.old)
+        (undecided_with call.now questions.now part.new) (payment_under part.new)) }
+    ensures fails { OnErr result (HasNoSystem (K.of_key keys.now) call.now stopped
+        (undecided_with call.now questions.now part.old)
+        (undecided_with call.now questions.now part.new)) }
     ensures pays { IsOk result → IsToPay part.new }
 {
     let decided = part.decide(questions, call, stopped)?;
     part.begin_payment(decided.settled, decided.due, keys);
-    Ok(Conclusion::of(decided.settled))
+    Ok(())
 }
 
 /// Whether it has ended.

@@ -1,11 +1,13 @@
 //! The room of what of a call is under way.
 
-ghost use Rattle.std.specs.Prelude.{◌≡◌, None, Some};
+ghost use Rattle.std.specs.Prelude.{◌≡◌, None, Some, false, true};
 ghost use Rattle.std.specs.Option.{is_some};
-ghost use Rattle.xsi_calls.specs.Parts.{paying, question_under, trials_under};
+ghost use Rattle.xsi_calls.specs.Parts.{conclusion_under, paying, question_under, tried_under};
+ghost use Rattle.xsi_calls.specs.Concluding.{conclusion_by};
 ghost use Rattle.xsi_calls.specs.Payments.{begun_payment, decided};
 ghost use Rattle.xsi_calls.specs.Undecided.{untried};
 
+use crate::conclusion::Conclusion;
 use crate::due::Due;
 use crate::payment::{decide_at, decided, sweep_of};
 use crate::question::QuestionPlace;
@@ -13,7 +15,7 @@ use crate::trials::TrialsPlace;
 use crate::writes::CallWrites;
 use bucket_page::PseudoKey;
 use call_decisions::Settled;
-use xsi_inquiry::Decision;
+use xsi_inquiry::Verdict;
 use xsi_remove::SweepTurns;
 
 /// What of a call is under way. Each part has an access of its own, and they come one after the
@@ -33,11 +35,12 @@ impl Part {
     /// Nothing is under way.
     pub(crate) fn new() -> Part
         ensures question { question_under result ≡ None }
-        ensures untried { trials_under result ≡ None }
+        ensures untried { tried_under result ≡ None }
     {
         Part::Writes(TrialsPlace {
             writes: CallWrites::new(),
-            decision: None,
+            on_trial: false,
+            conclusion: Conclusion::Waits,
         })
     }
 
@@ -53,22 +56,33 @@ impl Part {
 
     /// Whether trials have begun.
     pub(crate) fn is_trying(&self) -> bool
-        ensures { result ≡ is_some (trials_under self.now) }
+        ensures { result ≡ is_some (tried_under self.now) }
     {
         match self {
-            Part::Writes(place) => place.decision.is_some(),
+            Part::Writes(place) => place.on_trial,
             Part::Asks(_) | Part::Sweeps(_) => false,
+        }
+    }
+
+    /// What the call has come to, once it has decided. A Remove that sweeps is Done.
+    pub(crate) fn conclusion(&self) -> Conclusion
+        ensures { result ≡ conclusion_under self.now }
+    {
+        match self {
+            Part::Writes(place) => place.conclusion,
+            Part::Sweeps(_) => Conclusion::Answers(Verdict::Done),
+            Part::Asks(_) => Conclusion::Waits,
         }
     }
 
     /// Nothing is asked or tried any more.
     pub(crate) fn rest(&mut self)
         ensures question { question_under self.new ≡ None }
-        ensures untried { trials_under self.new ≡ None }
+        ensures untried { tried_under self.new ≡ None }
     {
         match self {
             Part::Asks(question) => question.close(),
-            Part::Writes(place) => place.decision = None,
+            Part::Writes(place) => place.on_trial = false,
             Part::Sweeps(_) => {}
         }
     }
@@ -82,19 +96,24 @@ impl Part {
         }
     }
 
-    /// Trials begin, for this decision, in the place of the last writes where these have the room.
-    pub(crate) fn begin_trials(&mut self, decision: Decision)
-        ensures { self.new ≡ Part.Writes (record { writes = untried; decision = Some decision }) }
+    /// Trials begin, in the place of the last writes where these have the room.
+    pub(crate) fn begin_trials(&mut self)
+        ensures { self.new ≡ Part.Writes (record {
+          writes = untried;
+          on_trial = true;
+          conclusion = conclusion_under self.new;
+        }) }
     {
         match self {
             Part::Writes(place) => {
                 place.writes.renew();
-                place.decision = Some(decision);
+                place.on_trial = true;
             }
             Part::Asks(_) | Part::Sweeps(_) => {
                 *self = Part::Writes(TrialsPlace {
                     writes: CallWrites::new(),
-                    decision: Some(decision),
+                    on_trial: true,
+                    conclusion: Conclusion::Waits,
                 });
             }
         }
@@ -108,33 +127,40 @@ impl Part {
         due: Due,
         keys: &K,
     )
-        ensures { self.new ≡ paying (begun_payment (K.of_key keys.now) settled due) }
+        ensures { self.new
+            ≡ paying (begun_payment (K.of_key keys.now) settled due) (conclusion_by settled) }
     {
         let Some(sweep) = sweep_of(settled) else {
-            self.begin_writes(due);
+            self.begin_writes(due, Conclusion::of(settled));
             return;
         };
         if sweep.first.is_none() {
-            self.begin_writes(due);
+            self.begin_writes(due, Conclusion::of(settled));
             return;
         }
         *self = Part::Sweeps(SweepTurns::begin(sweep, keys));
     }
 
     /// The payment begins with the writes, in the place of the last ones where these are at rest.
-    fn begin_writes(&mut self, due: Due)
-        ensures { self.new ≡ Part.Writes (record { writes = decided due; decision = None }) }
+    fn begin_writes(&mut self, due: Due, conclusion: Conclusion)
+        ensures { self.new ≡ Part.Writes (record {
+          writes = decided due;
+          on_trial = false;
+          conclusion = conclusion;
+        }) }
     {
         if let Part::Writes(place) = self {
             if !place.writes.is_under_way() {
                 decide_at(&mut place.writes, due);
-                place.decision = None;
+                place.on_trial = false;
+                place.conclusion = conclusion;
                 return;
             }
         }
         *self = Part::Writes(TrialsPlace {
             writes: decided(due),
-            decision: None,
+            on_trial: false,
+            conclusion,
         });
     }
 }

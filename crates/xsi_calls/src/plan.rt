@@ -93,7 +93,9 @@ impl<'a> PlanOf<'a> {
         }
     }
 
-    /// What is due once that deed has written: of writes, from the slot on that has the next one.
+    /// What is due once that deed has written: of writes, from the slot on that has the next one. It
+    /// stands in the step that has written, since the plan is two references.
+    #[inline(always)]
     pub(crate) fn behind(&self, due: Due) -> Due
         ensures { IsBehind self.now due result }
     {

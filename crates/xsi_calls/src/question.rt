@@ -14,7 +14,7 @@ use queue_records::counter_key;
 use record_file::Access;
 use std::marker::Model;
 use step_rules::{Kind, Progress};
-use xsi_inquiry::{NotASystem, Room};
+use xsi_inquiry::{Inquiry, NotASystem, Room};
 
 /// A question under way: the access that reads its key, and whether the inquiry was told the
 /// answer.
@@ -106,7 +106,10 @@ pub(crate) fn listen(
     let Some(found) = question.access.found() else {
         return Ok(());
     };
-    let heard = hear(inquiry, room, call, found);
+    let Some(wanted) = inquiry.wants(call) else {
+        return Err(NotASystem);
+    };
+    let heard = hear(inquiry, room, call, wanted, found);
     question.told = true;
     heard
 }

@@ -7,7 +7,7 @@ ghost use Rattle.xsi_inquiry.specs.Telling.{most_asked};
 ghost use Rattle.xsi_calls.specs.QuestionWords.{AreNames, IsReady, IsSeat, Ready, State, caller_of, left_of, name_turn, names_for, row_of, with_row};
 ghost use Rattle.xsi_calls.specs.Answering.{key_asked};
 ghost use Rattle.xsi_calls.specs.Counting.{finds_behind};
-ghost use Rattle.xsi_calls.specs.Parts.{asked_with, question_under, trials_under};
+ghost use Rattle.xsi_calls.specs.Parts.{asked_with, question_under, tried_under};
 ghost use Rattle.xsi_calls.specs.Questions.{IsBare, KnowsNear, changes, has_asked, is_done, is_ready, questions_locks};
 ghost use Rattle.xsi_calls.specs.QuestionSteps.{MakesQuestions, is_blocked};
 
@@ -136,19 +136,6 @@ impl Questions {
         self.names.keep_order();
     }
 
-    /// Whether it still asks: nothing is inserted on trial, and not all is asked.
-    pub(crate) fn still_asks(&self, part: &Part, call: &Call) -> bool
-        ensures asks { result ≡ true → (trials_under part.now ≡ None)
-            × (is_done call.now (asked_with self.now (question_under part.now)) ≡ false) }
-        ensures asked { result ≡ false → trials_under part.now ≡ None →
-            is_done call.now (asked_with self.now (question_under part.now)) ≡ true }
-    {
-        if part.is_trying() {
-            return false;
-        }
-        !self.is_done(part, call)
-    }
-
     /// Whether nothing is left to ask, and what is inserted on trial or written stands under names
     /// that are held.
     pub(crate) fn is_done(&self, part: &Part, call: &Call) -> bool
@@ -161,7 +148,7 @@ impl Questions {
     }
 
     /// Whether the inquiry asks nothing more, and the names are there where it changes the file.
-    fn has_asked(&self, call: &Call) -> bool
+    pub(crate) fn has_asked(&self, call: &Call) -> bool
         ensures { result ≡ has_asked call.now (asked_with self.now None) }
     {
         if self.inquiry.wants(call).is_some() {
@@ -200,39 +187,9 @@ impl Questions {
         self.names.give_back(locks, seat)
     }
 
-    /// One step of the question under way, or else of those that come next.
-    pub(crate) fn step<D: PageDevice, K: PseudoKey>(
-        &mut self,
-        part: &mut Part,
-        pool: &mut Pool<D>,
-        locks: &mut LockTable,
-        keys: &K,
-        seat: u8,
-        call: &Call,
-    ) -> Progress<FileFault>
-        requires seat { IsSeat locks.old seat }
-        requires ready { IsReady pool.old }
-        requires untried { trials_under part.old ≡ None }
-        requires row { row_of locks.old seat
-            ≡ questions_locks (asked_with self.old (question_under part.old)) }
-        ensures made { MakesQuestions (K.of_key keys.now) seat call.now result
-            (asked_with self.old (question_under part.old))
-            (asked_with self.new (question_under part.new))
-            pool.old pool.new locks.old locks.new }
-        ensures untried { trials_under part.new ≡ None }
-    {
-        if !part.is_asking() {
-            return self.turn(part, pool, locks, keys, seat, call);
-        }
-        match part {
-            Part::Asks(question) => self.go_on(question, pool, locks, keys, seat, call),
-            Part::Writes(_) | Part::Sweeps(_) => unreachable!(),
-        }
-    }
-
-    /// One step where no question is under way: a name is taken or given back, or the record is read
-    /// that the inquiry asks for.
-    fn turn<D: PageDevice, K: PseudoKey>(
+    /// One step where no question is under way and not all is asked: a name is taken or given back,
+    /// or the record is read that the inquiry asks for.
+    pub(crate) fn turn<D: PageDevice, K: PseudoKey>(
         &mut self,
         part: &mut Part,
         pool: &mut Pool<D>,
@@ -244,17 +201,15 @@ impl Questions {
         requires seat { IsSeat locks.old seat }
         requires ready { IsReady pool.old }
         requires none { question_under part.old ≡ None }
-        requires untried { trials_under part.old ≡ None }
+        requires untried { tried_under part.old ≡ None }
+        requires asks { has_asked call.now (asked_with self.old None) ≡ false }
         requires row { row_of locks.old seat ≡ self.old.names }
         ensures made { MakesQuestions (K.of_key keys.now) seat call.now result
             (asked_with self.old (question_under part.old))
             (asked_with self.new (question_under part.new))
             pool.old pool.new locks.old locks.new }
-        ensures untried { trials_under part.new ≡ None }
+        ensures untried { tried_under part.new ≡ None }
     {
-        if self.has_asked(call) {
-            return Progress::Ended;
-        }
         self.names.keep_order();
         match self.names.turn(call, &self.inquiry) {
             NameTurn::Take(lock) => self.names.take(locks, seat, lock),
@@ -303,7 +258,7 @@ impl Questions {
     }
 
     /// One step of the question under way.
-    fn go_on<D: PageDevice, K: PseudoKey>(
+    pub(crate) fn go_on<D: PageDevice, K: PseudoKey>(
         &mut self,
         question: &mut QuestionPlace,
         pool: &mut Pool<D>,

@@ -94,7 +94,9 @@ impl CallWrites {
     }
 
     /// One step: the next access begins where none is under way, makes its step, and is let go where
-    /// it has ended. The whole has ended where nothing is left to do: all trials stand, or one has no
+    /// it has ended. Where it writes, its deed is paid. One that has ended before is refused: it is
+    /// still there only after a fault, or where it has not written, which can't be so of the records
+    /// of a system. The whole has ended where nothing is left to do: all trials stand, or one has no
     /// room; or after the decision all is undone, or written.
     pub fn step<D: PageDevice, K: PseudoKey>(
         &mut self,
@@ -111,13 +113,22 @@ impl CallWrites {
             pool.old pool.new locks.old locks.new }
     {
         match self.set_out(plan, keys) {
-            Err(fault) => Progress::Fault(fault),
-            Ok(false) => Progress::Ended,
-            Ok(true) => {
-                let did = self.go_on(plan, pool, locks, keys, seat);
-                self.settle(did)
-            }
+            Err(fault) => return Progress::Fault(fault),
+            Ok(false) => return Progress::Ended,
+            Ok(true) => {}
         }
+        let Some(access) = self.access.get_mut() else {
+            return Progress::Ended;
+        };
+        if access.has_ended() {
+            return Progress::Fault(FileFault::Failed);
+        }
+        let owed = !access.has_written();
+        let did = access.step(pool, locks, keys, seat);
+        if owed && access.has_written() {
+            self.due = plan.behind(self.due);
+        }
+        self.settle(did)
     }
 
     /// Begins the next access where none is under way. Whether one is then.
@@ -149,38 +160,6 @@ impl CallWrites {
         }
         deed.begin(self.access.open(), keys);
         Ok(true)
-    }
-
-    /// One step of the access under way. Where it writes, its deed is paid. One that has ended is
-    /// refused: it is still there only after a fault, or where it has not written, which can't be
-    /// so of the records of a system.
-    fn go_on<D: PageDevice, K: PseudoKey>(
-        &mut self,
-        plan: &PlanOf<'_>,
-        pool: &mut Pool<D>,
-        locks: &mut LockTable,
-        keys: &K,
-        seat: u8,
-    ) -> Progress<FileFault>
-        requires seat { IsSeat locks.old seat }
-        requires ready { IsReady pool.old }
-        requires row { EndsRow (writes_locks self.old) 3 (row_of locks.old seat) }
-        requires there { self.old.access ≢ None }
-        ensures { MakesDeed (K.of_key keys.now) seat plan.now result self.old self.new
-            pool.old pool.new locks.old locks.new }
-    {
-        let Some(access) = self.access.get_mut() else {
-            return Progress::Ended;
-        };
-        if access.has_ended() {
-            return Progress::Fault(FileFault::Failed);
-        }
-        let owed = !access.has_written();
-        let did = access.step(pool, locks, keys, seat);
-        if owed && access.has_written() {
-            self.due = plan.behind(self.due);
-        }
-        did
     }
 
     /// Lets an access go that has given its locks back.

@@ -21,7 +21,7 @@ impl Questions {
     /// All steps of the next question, in one go, while none is under way: where the names that it
     /// needs are held, its find goes straight to a page, which is in a frame as all pages on its way are,
     /// and what stands there is a record of its key, or none does. The record is heard from that
-    /// frame: no access begins for it. Else nothing is done, and it is left to `turn`.
+    /// frame: no access begins for it. Else nothing is done, and it is left to the steps of the call.
     pub(crate) fn skip<D: PageDevice, K: PseudoKey>(
         &mut self,
         pool: &mut Pool<D>,
@@ -54,7 +54,7 @@ impl Questions {
         let Some(found) = record_ahead(pool, page, &key) else {
             return false;
         };
-        let Ok(()) = hear(&mut self.inquiry, &mut self.room, call, found) else {
+        let Ok(()) = hear(&mut self.inquiry, &mut self.room, call, wanted, found) else {
             return false;
         };
         self.finds = self.finds.saturating_add(1);

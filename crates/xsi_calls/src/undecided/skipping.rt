@@ -4,7 +4,7 @@ ghost use Rattle.std.specs.Prelude.{◌≡◌, IsSome, None, false, true};
 ghost use Rattle.xsi_calls.specs.QuestionRuns.{ReachesAtOnce};
 ghost use Rattle.xsi_calls.specs.UndecidedWords.{IsReady, IsSeat, is_done, row_of};
 ghost use Rattle.xsi_calls.specs.Undecided.{undecided_locks};
-ghost use Rattle.xsi_calls.specs.Parts.{asked_with, question_under, trials_under, undecided_with};
+ghost use Rattle.xsi_calls.specs.Parts.{asked_with, question_under, tried_under, undecided_with};
 ghost use Rattle.xsi_calls.specs.UndecidedSteps.{MakesUndecided};
 
 use crate::part::Part;
@@ -21,8 +21,8 @@ use xsi_inquiry::Inquiry;
 impl Part {
     /// All steps up to the Look of the next record that it inserts on trial, in one go, where all
     /// is asked and it can go to its page so (`CallWrites::reach`). Else nothing is done, and it is
-    /// left to `try_on`.
-    pub fn reach<D: PageDevice, K: PseudoKey>(
+    /// left to the steps of the call.
+    pub(crate) fn reach<D: PageDevice, K: PseudoKey>(
         &mut self,
         questions: &mut Questions,
         pool: &mut Pool<D>,
@@ -34,14 +34,14 @@ impl Part {
         requires seat { IsSeat locks.old seat }
         requires ready { IsReady pool.old }
         requires row { row_of locks.old seat
-            ≡ undecided_locks (undecided_with questions.old self.old) }
+            ≡ undecided_locks (undecided_with call.now questions.old self.old) }
         ensures pool { pool.new ≡ pool.old }
         ensures made { result ≡ true → ReachesAtOnce
             (MakesUndecided (K.of_key keys.now) seat call.now) seat
-            (undecided_with questions.old self.old) (undecided_with questions.new self.new)
-            pool.old locks.old locks.new }
-        ensures spares { result ≡ false → (undecided_with questions.new self.new
-            ≡ undecided_with questions.old self.old) × (locks.new ≡ locks.old) }
+            (undecided_with call.now questions.old self.old)
+            (undecided_with call.now questions.new self.new) pool.old locks.old locks.new }
+        ensures spares { result ≡ false → (undecided_with call.now questions.new self.new
+            ≡ undecided_with call.now questions.old self.old) × (locks.new ≡ locks.old) }
     {
         if self.is_trying() {
             return self.reach_next(questions, pool, locks, keys, seat, call);
@@ -69,15 +69,15 @@ impl Part {
         requires seat { IsSeat locks.old seat }
         requires ready { IsReady pool.old }
         requires row { row_of locks.old seat
-            ≡ undecided_locks (undecided_with questions.old self.old) }
-        requires under_way { IsSome (trials_under self.old) }
+            ≡ undecided_locks (undecided_with call.now questions.old self.old) }
+        requires under_way { IsSome (tried_under self.old) }
         ensures pool { pool.new ≡ pool.old }
         ensures made { result ≡ true → ReachesAtOnce
             (MakesUndecided (K.of_key keys.now) seat call.now) seat
-            (undecided_with questions.old self.old) (undecided_with questions.new self.new)
-            pool.old locks.old locks.new }
-        ensures spares { result ≡ false → (undecided_with questions.new self.new
-            ≡ undecided_with questions.old self.old) × (locks.new ≡ locks.old) }
+            (undecided_with call.now questions.old self.old)
+            (undecided_with call.now questions.new self.new) pool.old locks.old locks.new }
+        ensures spares { result ≡ false → (undecided_with call.now questions.new self.new
+            ≡ undecided_with call.now questions.old self.old) × (locks.new ≡ locks.old) }
     {
         questions.keep_order();
         let plan = PlanOf::new(call, questions.inquiry());
@@ -107,26 +107,26 @@ impl Part {
         requires seat { IsSeat locks.old seat }
         requires ready { IsReady pool.old }
         requires row { row_of locks.old seat
-            ≡ undecided_locks (undecided_with questions.old self.old) }
-        requires untried { trials_under self.old ≡ None }
+            ≡ undecided_locks (undecided_with call.now questions.old self.old) }
+        requires untried { tried_under self.old ≡ None }
         requires asked { is_done call.now (asked_with questions.old (question_under self.old))
             ≡ true }
         ensures pool { pool.new ≡ pool.old }
         ensures made { result ≡ true → ReachesAtOnce
             (MakesUndecided (K.of_key keys.now) seat call.now) seat
-            (undecided_with questions.old self.old) (undecided_with questions.new self.new)
-            pool.old locks.old locks.new }
-        ensures spares { result ≡ false → (undecided_with questions.new self.new
-            ≡ undecided_with questions.old self.old) × (locks.new ≡ locks.old) }
+            (undecided_with call.now questions.old self.old)
+            (undecided_with call.now questions.new self.new) pool.old locks.old locks.new }
+        ensures spares { result ≡ false → (undecided_with call.now questions.new self.new
+            ≡ undecided_with call.now questions.old self.old) × (locks.new ≡ locks.old) }
     {
         if !questions.inquiry().inserts(call) {
             return false;
         }
         questions.keep_order();
-        let Ok(decision) = decide(call, questions.inquiry()) else {
+        let Ok(_decision) = decide(call, questions.inquiry()) else {
             return false;
         };
-        self.begin_trials(decision);
+        self.begin_trials();
         if !self.reach_next(questions, pool, locks, keys, seat, call) {
             self.rest();
             return false;

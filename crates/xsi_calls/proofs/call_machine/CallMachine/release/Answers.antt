@@ -12,15 +12,15 @@ use Rattle.xsi_calls.proofs.call_machine.CallMachine.release.Goals as goal
 pub returns : goal.returns
 returns c =
     let i = c.self.inside in
-    let inside = machine i.caller i.call i.questions i.part i.phase i.conclusion in
+    let inside = machine i.caller i.call i.questions i.part i.phase in
     let e = c.give_back.ensures in
     subst (λ (m : CallView). MakesRelease c.args.seat c.give_back.result m (machine c.self.inside.caller
-    c.self.inside.call c.give_back.new.self c.self.inside.part c.self.inside.phase c.self.inside.conclusion)
+    c.self.inside.call c.give_back.new.self c.self.inside.part c.self.inside.phase)
     c.args.locks.now c.give_back.new.locks) c.self.view_is
     (releases c.args.seat inside
     (subst (λ (m : CallView). is_undecided m.stage ≡ false) (sym c.self.view_is) c.requires.undecided)
     (subst (λ (m : CallView). is_paying m.stage ≡ false) (sym c.self.view_is) c.requires.paid)
     c.args.locks.now c.requires.seat
     (subst (λ (m : CallView). row_of c.args.locks.now c.args.seat ≡ call_locks m) (sym c.self.view_is) c.requires.row)
-    c.give_back.result (undecided_with c.give_back.new.self i.part) c.give_back.new.locks e.gives
-    (ap (λ (x : Questions). undecided_with x c.self.inside.part) e.others) e.row e.step)
+    c.give_back.result (undecided_with i.call c.give_back.new.self i.part) c.give_back.new.locks e.gives
+    (ap (λ (x : Questions). undecided_with c.self.inside.call x c.self.inside.part) e.others) e.row e.step)

@@ -11,7 +11,7 @@ skip-requires-clause-row g c =
     let i = c.self.inside in
     c.requires.row
     ∙ asking_row (g.K.PseudoKey.of_key c.args.keys.now) c.args.seat false i.caller i.call i.questions i.part i.phase
-    i.conclusion c.args.self.now c.self.view_is (sym c.is_undecided.ensures ∙ c.if-not-is_undecided.false)
+    c.args.self.now c.self.view_is (sym c.is_undecided.ensures ∙ c.if-not-is_undecided.false)
     (none_of _ (sym c.is_trying.ensures ∙ c.if-is_trying.false))
     ∙ ap (λ (o : Option Question). locks_behind o c.self.inside.questions.names)
     (none_of _ (sym c.is_asking.ensures ∙ c.if-is_asking.false))
@@ -20,7 +20,7 @@ pub returns-clause-made : goal.returns-clause-made
 returns-clause-made g c = λ made stopped.
     let i = c.self.inside in
     asks_at_once_there (g.K.PseudoKey.of_key c.args.keys.now) c.args.seat stopped i.caller i.call i.questions i.part
-    i.phase i.conclusion c.args.self.now c.self.view_is (sym c.is_undecided.ensures ∙ c.if-not-is_undecided.false)
+    i.phase c.args.self.now c.self.view_is (sym c.is_undecided.ensures ∙ c.if-not-is_undecided.false)
     c.skip.new.self (none_of _ (sym c.is_asking.ensures ∙ c.if-is_asking.false))
     (none_of _ (sym c.is_trying.ensures ∙ c.if-is_trying.false)) c.args.pool.now c.args.locks.now
     (c.skip.ensures.made made)

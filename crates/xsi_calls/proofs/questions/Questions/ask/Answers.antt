@@ -1,5 +1,5 @@
 -- The first step of the question that is asked next.
-use Rattle.std.proofs.Common.{sym, ap, ◌∙◌, subst, false, Option, Some, None}
+use Rattle.std.proofs.Common.{sym, ap, ◌∙◌, subst, false, Option, Some}
 use Rattle.xsi_calls.specs.declared.question.Question.{Question}
 use Rattle.xsi_calls.specs.Parts.{asked_with}
 use Rattle.xsi_calls.specs.QuestionSteps.{MakesQuestions}

@@ -14,7 +14,8 @@ invariant_of-question g c =
     c.args.self.now.inquiry c.args.self.now.room c.args.self.now.names c.args.self.now.finds
     c.keep_order.ensures c.step-did.result c.args.pool.now
     c.step-did.new.pool c.args.locks.now c.step-did.new.locks c.listen-heard.new.inquiry
-    c.listen-heard.new.room c.listen-heard.result c.question.inside.question c.step-did.new.self c.listen-heard.new.question
+    c.listen-heard.new.room c.listen-heard.result c.question.inside.question c.step-did.new.self
+    c.listen-heard.new.question
     c.goes_on-question-inside.result c.step-did.ensures c.listen-heard.ensures
     c.goes_on-question-inside.ensures c.question.inside.is_asking some c.question.invariant row
 
@@ -27,7 +28,8 @@ invariant_of-question-2 g c =
     c.args.self.now.inquiry c.args.self.now.room c.args.self.now.names c.args.self.now.finds
     c.keep_order.ensures c.step-did.result c.args.pool.now
     c.step-did.new.pool c.args.locks.now c.step-did.new.locks c.listen-heard.new.inquiry
-    c.listen-heard.new.room c.listen-heard.result c.question.inside.question c.step-did.new.self c.listen-heard.new.question
+    c.listen-heard.new.room c.listen-heard.result c.question.inside.question c.step-did.new.self
+    c.listen-heard.new.question
     c.goes_on-question-inside.result c.step-did.ensures c.listen-heard.ensures
     c.goes_on-question-inside.ensures c.question.inside.is_asking some c.question.invariant row
 
@@ -40,7 +42,8 @@ finds_behind-self-requires g c =
     c.args.self.now.inquiry c.args.self.now.room c.args.self.now.names c.args.self.now.finds
     c.keep_order.ensures c.step-did.result c.args.pool.now
     c.step-did.new.pool c.args.locks.now c.step-did.new.locks c.listen-heard.new.inquiry
-    c.listen-heard.new.room c.listen-heard.result c.question.inside.question c.step-did.new.self c.listen-heard.new.question
+    c.listen-heard.new.room c.listen-heard.result c.question.inside.question c.step-did.new.self
+    c.listen-heard.new.question
     c.goes_on-question-inside.result c.step-did.ensures c.listen-heard.ensures
     c.goes_on-question-inside.ensures c.question.inside.is_asking some row c.requires.seat
 
@@ -53,7 +56,8 @@ returns g c =
     c.args.self.now.inquiry c.args.self.now.room c.args.self.now.names c.args.self.now.finds
     c.keep_order.ensures c.step-did.result c.args.pool.now
     c.step-did.new.pool c.args.locks.now c.step-did.new.locks c.listen-heard.new.inquiry
-    c.listen-heard.new.room c.listen-heard.result c.question.inside.question c.step-did.new.self c.listen-heard.new.question
+    c.listen-heard.new.room c.listen-heard.result c.question.inside.question c.step-did.new.self
+    c.listen-heard.new.question
     c.goes_on-question-inside.result c.step-did.ensures c.listen-heard.ensures
     c.goes_on-question-inside.ensures c.requires.seat c.finds_behind-self.result c.finds_behind-self.ensures
     c.question.inside.is_asking some c.question.invariant row)
@@ -67,6 +71,7 @@ returns-in_default g c =
     c.args.self.now.inquiry c.args.self.now.room c.args.self.now.names c.args.self.now.finds
     c.keep_order.ensures c.step-did.result c.args.pool.now
     c.step-did.new.pool c.args.locks.now c.step-did.new.locks c.listen-heard.new.inquiry
-    c.listen-heard.new.room c.listen-heard.result c.question.inside.question c.step-did.new.self c.listen-heard.new.question
+    c.listen-heard.new.room c.listen-heard.result c.question.inside.question c.step-did.new.self
+    c.listen-heard.new.question
     c.goes_on-question-inside.result c.step-did.ensures c.listen-heard.ensures
     c.goes_on-question-inside.ensures c.question.inside.is_asking some c.question.invariant row c.in_default.not-Ok)
