@@ -302,11 +302,6 @@ pub record MakesStep {K : Type 0} (of : K → RecordKey → ℕ) (seat : ℕ) (d
       TakesTurn (of old.keys) seat old.stopped did a (call_at new.seats seat) old.pool new.pool old.locks new.locks
       old.journal new.journal
 
--- what was told is told anew
-pub told_anew : {K : Type 0} (of : K → RecordKey → ℕ) (seat : ℕ) (did told : Step) (old new : KernelState K) →
-    did ≡ told → MakesStep of seat did old new → MakesStep of seat told old new
-told_anew of seat did told old new is made = subst (λ (d : Step). MakesStep of seat d old new) is made
-
 -- the seat's place in the list
 pub slot_here : (seats : Seats) (seat : ℕ) (slot : Option ActiveView) → 1 ≤ seat → seat ≤ length seats →
     slot ≡ slice_index_or seats (seat - 1) slot → slot ≡ call_at seats seat

@@ -122,7 +122,8 @@ impl Active {
     }
 
     /// Whether its seat was told that it waits, and nothing has woken it since. Then it need not look
-    /// at these entries again.
+    /// at these entries again. It stands in whoever steps the seat, since few calls wait.
+    #[inline(always)]
     pub(crate) fn stays_waiting(&mut self, journal: &[Entry]) -> bool
         ensures is { result ≡ stays_waiting self.old.wait self.old.machine.call journal.now }
         ensures waits { result ≡ true →

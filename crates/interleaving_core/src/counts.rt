@@ -64,7 +64,9 @@ impl SearchCounts {
     }
 
     /// A seat has made a step of this kind, by which a search of its own begins, or goes on to
-    /// another page, or neither. Most steps do neither, and leave all counts as they are.
+    /// another page, or neither. Most steps do neither, and leave all counts as they are; so it stands
+    /// in whoever makes the step.
+    #[inline(always)]
     pub fn note(&mut self, seat: u8, kind: Kind, begins: bool, goes_on: bool)
         requires { IsCountedSeat self.old.counts seat }
         ensures { Notes seat kind begins goes_on self.old self.new }

@@ -23,7 +23,7 @@ use crate::counts::SearchCounts;
 use crate::fault::{BeginFault, CloseFault, Failure, OpenFault};
 use crate::opening::{copied, idle_seats, least_frames};
 use crate::places::{due, failure_of, has_call, told_of_failure};
-use crate::searches::{last_page, note};
+use crate::searches::{last_page, note, note_move};
 use crate::seat::Seat;
 use crate::step::Step;
 use bucket_page::PseudoKey;
@@ -35,6 +35,7 @@ use page_locks::{LockTable, MAX_SEATS};
 use queue_model::{Call, Caller, Entry};
 use std::alloc::Global;
 use std::marker::Model;
+use step_rules::Progress;
 use type_chains::a_calls_numbers_fit;
 
 /// The calls that one session decides at most.
@@ -298,6 +299,10 @@ impl<D: PageDevice + Drop, K: PseudoKey + Drop> Kernel<D, K> {
             seat,
         );
         note_entry(&active.machine, &mut active.draft, &mut self.journal, seat);
+        if let Progress::Moved(kind) = did {
+            note_move(&mut self.searches, &self.locks, seat, kind, before);
+            return Step::Moved(kind);
+        }
         let step = at.settle(
             did,
             &mut self.pool,
@@ -309,10 +314,6 @@ impl<D: PageDevice + Drop, K: PseudoKey + Drop> Kernel<D, K> {
         );
         self.failure = failure_of(seat, &step);
         note(&mut self.searches, &self.locks, seat, &step, before);
-        // A move is told anew: what was told would be copied behind stores of another width.
-        if let Step::Moved(kind) = step {
-            return Step::Moved(kind);
-        }
         step
     }
 

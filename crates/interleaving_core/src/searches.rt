@@ -1,6 +1,7 @@
 //! What a step of a seat is to the searches that are counted.
 
 ghost use Rattle.std.specs.Prelude.{◌≡◌};
+ghost use Rattle.interleaving_core.specs.declared.step.Step.TheVariants as steps;
 ghost use Rattle.interleaving_core.specs.Counting.{IsCountedSeat};
 ghost use Rattle.interleaving_core.specs.Searches.{CountsFrom, begins_search, ends_on, goes_on_from};
 ghost use Rattle.interleaving_core.specs.Words.{IsSeat, row_of};
@@ -39,12 +40,26 @@ pub(crate) fn note(
     requires counted { IsCountedSeat searches.old.counts seat }
     ensures { CountsFrom seat step.now before locks.now searches.old searches.new }
 {
-    let Step::Moved(kind) = step else {
-        return;
-    };
-    let begins = begins_search(*kind, locks, seat);
-    let goes_on = goes_on_from(*kind, locks, seat, before);
-    searches.note(seat, *kind, begins, goes_on);
+    if let Step::Moved(kind) = step {
+        note_move(searches, locks, seat, *kind, before);
+    }
+}
+
+/// A move of a seat of this kind is counted, as `note` says.
+pub(crate) fn note_move(
+    searches: &mut SearchCounts,
+    locks: &LockTable,
+    seat: u8,
+    kind: Kind,
+    before: u32,
+)
+    requires seat { IsSeat locks.now seat }
+    requires counted { IsCountedSeat searches.old.counts seat }
+    ensures { CountsFrom seat (steps.Moved kind) before locks.now searches.old searches.new }
+{
+    let begins = begins_search(kind, locks, seat);
+    let goes_on = goes_on_from(kind, locks, seat, before);
+    searches.note(seat, kind, begins, goes_on);
 }
 
 /// Whether a search of this seat begins by a step of this kind.
