@@ -1,7 +1,7 @@
 //! The machine.
 //!
-//! `step` is a match on the places. A hop alone does two things, a look and a grant: it is a
-//! function of its own, which promises what `step` does, at its place, and is proved by itself.
+//! `step` is a match on the places. A hop alone does two things: it looks at the page again, which
+//! may answer by now, and where it does not, the next one is locked in its place.
 
 ghost use Rattle.std.specs.Prelude.{◌≡◌, IfSome, IsSome};
 ghost use Rattle.page_locks.specs.Table.{IsSeat, row_of};
@@ -160,7 +160,27 @@ impl Search {
                 }
                 Err(fault) => Progress::Fault(fault),
             },
-            SearchPlace::Hop(page) => self.hop_from(pool, locks, seat, page),
+            SearchPlace::Hop(page) => match look(pool, page, self.pseudokey, &self.key) {
+                Ok(Sight::Covering(_)) => {
+                    self.place = SearchPlace::Look(page);
+                    Progress::Moved(Kind::Hop)
+                }
+                Ok(Sight::Naming(next)) => {
+                    if next == page {
+                        return Progress::Fault(FileFault::Failed);
+                    }
+                    match locks.try_grant(seat, LockName::Page(next), self.kind) {
+                        Grant::Granted => {
+                            locks.release(seat, LockName::Page(page));
+                            self.place = SearchPlace::Look(next);
+                            self.hops = self.hops.saturating_add(1);
+                            Progress::Moved(Kind::Hop)
+                        }
+                        Grant::Blocked(other) => Progress::Blocked(other),
+                    }
+                }
+                Err(fault) => Progress::Fault(fault),
+            },
             SearchPlace::Found(_, _) => Progress::Ended,
         }
     }
@@ -203,53 +223,5 @@ impl Search {
         ensures { self.new ≡ search_at (SearchPlace.Found page found) self.old }
     {
         self.place = SearchPlace::Found(page, found);
-    }
-
-    /// The page is read again. It answers by now, or the next one is locked in its place.
-    fn hop_from<D: PageDevice>(
-        &mut self,
-        pool: &mut Pool<D>,
-        locks: &mut LockTable,
-        seat: u8,
-        page: u32,
-    ) -> Progress<FileFault>
-        requires place { self.old.place ≡ SearchPlace.Hop page }
-        requires seat { IsSeat locks.old seat }
-        requires ready { IsReady pool.old }
-        requires row { HasRow self.old (row_of locks.old seat) }
-        // whatever the device gives
-        ensures reads { ReadsPages result pool.old pool.new }
-        ensures aim { KeepsAim result pool.old self.old self.new }
-        ensures row { FollowsRow seat (search_locks self.old) (search_locks self.new)
-            locks.old locks.new }
-        // on an honest device, in a sound world
-        ensures progress { Advances seat (search_facts self.old) result (left_in self.old pool.old)
-            (left_in self.new pool.new) pool.old pool.new locks.old }
-        ensures step { MakesStep seat (search_locks self.old) (search_facts self.old)
-            (search_facts self.new) (search_turn self.old) result pool.old pool.new
-            locks.old locks.new }
-        ensures answer { GivesAnswer seat result self.old self.new pool.old locks.old }
-    {
-        match look(pool, page, self.pseudokey, &self.key) {
-            Ok(Sight::Covering(_)) => {
-                self.place = SearchPlace::Look(page);
-                Progress::Moved(Kind::Hop)
-            }
-            Ok(Sight::Naming(next)) => {
-                if next == page {
-                    return Progress::Fault(FileFault::Failed);
-                }
-                match locks.try_grant(seat, LockName::Page(next), self.kind) {
-                    Grant::Granted => {
-                        locks.release(seat, LockName::Page(page));
-                        self.place = SearchPlace::Look(next);
-                        self.hops = self.hops.saturating_add(1);
-                        Progress::Moved(Kind::Hop)
-                    }
-                    Grant::Blocked(other) => Progress::Blocked(other),
-                }
-            }
-            Err(fault) => Progress::Fault(fault),
-        }
     }
 }
