@@ -1,10 +1,9 @@
 -- A step of a split as its turn, once its writes are those of the file.
-use Rattle.std.proofs.Common.{◌≡◌, refl, sym, ap, subst, ◌∙◌, ℕ, ◌+◌, true, List, None, Some, inl}
-use Rattle.split_merge.proofs.Names.{AllKnown, DoesTied, FileFault, HasNoFileLock, HasNoRoom, IsHeld-some, IsSeat, KeepsOthers, Kind, OnlyWrites, Releases, Sees, Step, Store, Table, copy_directory, gone_on, held, kind_keeps, kind_of, layout_is, may_write, none_busy, raise_depth, retarget, row_of, set_counts, split_counts, store_of, turn_keeps, without_lock, world, write_new, write_old}
+use Rattle.std.proofs.Common.{◌≡◌, ◌≢◌, refl, sym, ap, subst, ◌∙◌, ℕ, ◌+◌, true, List, None, Some, inl}
+use Rattle.split_merge.proofs.Names.{AllKnown, DoesTied, FileFault, HasNoFileLock, HasNoRoom, IsHeld-some, IsSeat, KeepsOthers, Kind, OnlyWrites, Releases, Sees, Step, Store, Table, copy_directory, gone_on, held, kind_keeps, kind_of, layout_is, may_write, none_busy, raise_depth, retarget, row_of, set_counts, split_counts, store_of, take_page, turn_keeps, without_lock, world, write_new, write_old}
 use Rattle.step_rules.specs.declared.kind.Kind.TheVariants as kinds_of_step
 use Rattle.split_merge.specs.Words.{RecordKey, GREATEST_DEPTH, Pair, PoolState, World, Change, Range, upper_half_of, page_of, Lock, Selective, Directory, Page, Moved, SplitPlace, TakePage, CopyDirectory, RaiseDepth, WriteNew, WriteOld, Retarget, SetCounts, Done, Full}
 use Rattle.split_merge.specs.Order.{IsPlaced, after_take, after_copy, after_retarget}
-use Rattle.split_merge.specs.Taking.{TakesFirst}
 use Rattle.split_merge.specs.Splits.{SplitView, IsSplit, IsWanted, facts_at, split_facts, split_turn, in_directory, on_bucket}
 use Rattle.split_merge.proofs.FactLemmas.{split_knows_no_way}
 use Rattle.split_merge.proofs.RowLemmas.{directory_in, bucket_on}
@@ -50,12 +49,13 @@ module _ (hash : RecordKey → ℕ) (seat : ℕ) (v : SplitView) (inv : IsSplit 
             (split_facts (record v' { place = after })) (split_knows_no_way after (record v' { place = after }));
       })
 
-  pub took : (new : ℕ) (next : SplitPlace) → Knows TakePage → TakesFirst new pool.images pool'.images →
-      next ≡ after_take v.whole v.depth new → Steps kinds_of_step.TakePage (record v { place = next })
-  took new next sees first is =
-      wrote v TakePage sees kinds_of_step.TakePage _ _ _ next first.is
-      (takes hash seat v inv p asked old sees.sound deepest sees.known first.some_free)
-      (is ∙ ap (after_take v.whole v.depth) first.page_is)
+  pub took : (new : ℕ) (next : SplitPlace) → Knows TakePage → s.header.first_free ≢ 0 → new ≡ s.header.first_free →
+      store_of pool'.images ≡ take_page s → next ≡ after_take v.whole v.depth new →
+      Steps kinds_of_step.TakePage (record v { place = next })
+  took new next sees some_free page_is is next_is =
+      wrote v TakePage sees kinds_of_step.TakePage _ _ _ next is
+      (takes hash seat v inv p asked old sees.sound deepest sees.known some_free)
+      (next_is ∙ ap (after_take v.whole v.depth) page_is)
 
   pub copied : (new page : ℕ) (next : SplitPlace) → Knows (CopyDirectory new page) →
       IsPlaced v.whole v.depth (CopyDirectory new page) → store_of pool'.images ≡ copy_directory page s →

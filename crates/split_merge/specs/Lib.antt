@@ -5,7 +5,6 @@ pub mod Steps
 pub mod Words
 pub mod Entries
 pub mod Order
-pub mod Taking
 pub mod Splits
 pub use Rattle.stale_search.specs as stale_search
 pub use Rattle.stale_search.specs.buffer_pool

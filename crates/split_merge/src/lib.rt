@@ -4,7 +4,6 @@
 #![tactic(auto)]
 
 mod entries;
-mod free_page;
 mod look;
 mod merge;
 mod merge_place;

@@ -66,7 +66,9 @@ impl Merge {
         self.place
     }
 
-    /// One step, by the place.
+    /// One step, by the place. It stands apart, since each step of an access would make room for the
+    /// pages of a merge.
+    #[inline(never)]
     pub fn step<D: PageDevice>(
         &mut self,
         pool: &mut Pool<D>,

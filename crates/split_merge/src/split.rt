@@ -4,7 +4,6 @@ ghost use Rattle.std.specs.Prelude.{◌≡◌, ◌<◌, ◌≤◌, ◌+◌, ◌%
 ghost use Rattle.split_merge.specs.Words.{RECORD_HEAD_BYTES, ROOM_BYTES, Pair, GREATEST_DEPTH, Lock, IsSeat, row_of, with_row, IsReady, WritesPages, Change, is_fault, HasNoFileLock, Sees, Step, world};
 ghost use Rattle.split_merge.specs.Splits.{FullMeans, IsWanted, KeepsAim, Progresses, split_facts, split_locks, split_turn};
 
-use crate::free_page::take_free;
 use crate::order::{after_copy, after_retarget, after_take};
 use crate::place::SplitPlace;
 use crate::wanted::Wanted;
@@ -14,8 +13,8 @@ use page_device::PageDevice;
 use page_locks::{LockName, LockTable};
 use stale_search::buffer_pool::Pool;
 use stale_search::file_pages::{
-    BucketSight, FileFault, copy_directory, count_split, raise_depth, retarget, write_new,
-    write_old,
+    BucketSight, FileFault, copy_directory, count_split, raise_depth, read_header, retarget,
+    take_page, write_new, write_old,
 };
 use std::marker::Model;
 use std::mem::size_of;
@@ -143,18 +142,24 @@ impl Split {
             (world pool.new.images locks.new change) }
     {
         match self.place {
-            SplitPlace::TakePage => match take_free(pool) {
-                Ok(Some(new)) => {
-                    self.place = after_take(self.whole, self.depth, new);
-                    Progress::Moved(Kind::TakePage)
-                }
-                Ok(None) => {
+            SplitPlace::TakePage => {
+                let header = match read_header(pool) {
+                    Ok(header) => header,
+                    Err(fault) => return Progress::Fault(fault),
+                };
+                if header.first_free == 0 {
                     locks.release(seat, LockName::Page(self.page));
                     self.place = SplitPlace::Full;
-                    Progress::Moved(Kind::Release)
+                    return Progress::Moved(Kind::Release);
                 }
-                Err(fault) => Progress::Fault(fault),
-            },
+                match take_page(pool) {
+                    Ok(new) => {
+                        self.place = after_take(self.whole, self.depth, new);
+                        Progress::Moved(Kind::TakePage)
+                    }
+                    Err(fault) => Progress::Fault(fault),
+                }
+            }
             SplitPlace::CopyDirectory(new, page) => match copy_directory(pool, page) {
                 Ok(()) => {
                     self.place = after_copy(self.whole, self.depth, new, page);

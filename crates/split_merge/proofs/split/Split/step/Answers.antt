@@ -1,9 +1,14 @@
 -- Each step, from what its place knows.
-use Rattle.std.proofs.Common.{◌≡◌, sym, ap, subst, ◌∙◌, ℕ, List}
+use Rattle.std.proofs.Common.{◌≡◌, ◌≢◌, refl, sym, ap, subst, ◌∙◌, ℕ, true, List}
+use Rattle.directory.specs.declared.header.Header.{Header}
+use Rattle.hash_file.specs.Changes.{take_page}
 use Rattle.page_locks.specs.Locks.{without}
 use Rattle.page_locks.specs.Table.{Table, row_of, with_row}
 use Rattle.page_locks.proofs.TableLemmas.{row_of-same}
 use Rattle.stale_search.specs.file_pages.Entries.{MayRetarget}
+use Rattle.stale_search.specs.file_pages.Files.{store_of}
+use Rattle.stale_search.specs.file_pages.Headers.{HasFreePage}
+use Rattle.stale_search.proofs.of_file_pages.ReadLemmas.{devices_after}
 use Rattle.stale_search.proofs.of_file_pages.StoreLemmas.{layout_is}
 use Rattle.stale_search.specs.Steps.{world}
 use Rattle.split_merge.specs.Words.{Lock, Page, Range, page_of, Retarget}
@@ -11,6 +16,8 @@ use Rattle.split_merge.specs.Order.{IsPlaced}
 use Rattle.split_merge.specs.Splits.{in_directory}
 use Rattle.split_merge.proofs.PageLemmas.{placed_first, retargets_fall}
 use Rattle.split_merge.proofs.FreeLemmas.{first_free_is_there}
+use Rattle.split_merge.proofs.MergeFreeLemmas.{read_then_written}
+use Rattle.split_merge.proofs.MoveLemmas.{read_only}
 use Rattle.split_merge.proofs.RowLemmas.{bucket_off}
 use Rattle.split_merge.proofs.FaultLemmas.{may_split, taken_is_there, may_retarget, may_count}
 use Rattle.split_merge.proofs.TurnLemmas.{took, copied, has_raised, filled, linked, named, counted, gave_back, no_room}
@@ -29,62 +36,80 @@ invariant_of-self-in-Ok-write_old g c =
           (sym c.upper_half.ensures) (placed_first _ _ c.in-WriteOld.new inv.range inv.shallow inv.placed);
     }
 
-pub returns-in-Ok-Some-clause-step : goal.returns-in-Ok-Some-clause-step
-returns-in-Ok-Some-clause-step g c = λ change p asked before bare row sees _.
-    let sees' = rw (← c.self.view_is, c.in-TakePage.is) at sees in
-    let asked' = rw (← c.self.view_is) at asked in
-    let first = rw c.in-Ok-Some.field-0-is at (c.in-Ok-Some.ensures.ok sees'.honest) in
-    took _ _ _ (rw c.in-TakePage.is at c.self.invariant) p asked' _ _ change _ c.in-Ok-Some.ensures.writes
-    c.in-Ok-Some.new _ sees' first c.after_take-self-inside.ensures.is
+-- ---- the first free page is taken
 
-pub returns-in-Ok-None-clause-row : goal.returns-in-Ok-None-clause-row
-returns-in-Ok-None-clause-row g c = λ before bare row.
+pub returns-then-header-eq0-clause-row : goal.returns-then-header-eq0-clause-row
+returns-then-header-eq0-clause-row g c = λ before bare row.
     let row' = rw (← c.self.view_is, c.in-TakePage.is) at row in
     c.release.ensures ∙ ap (with_row c.args.locks.now c.args.seat)
     (ap (λ (locks : List Lock). without locks (Page c.self.inside.page)) row' ∙ bucket_off before bare
     c.self.inside.page)
 
-pub returns-in-Ok-None-clause-step : goal.returns-in-Ok-None-clause-step
-returns-in-Ok-None-clause-step g c = λ change p asked before bare row sees _.
+pub returns-then-header-eq0-clause-step : goal.returns-then-header-eq0-clause-step
+returns-then-header-eq0-clause-step g c = λ change p asked before bare row sees _.
     let sees' = rw (← c.self.view_is, c.in-TakePage.is) at sees in
     let asked' = rw (← c.self.view_is) at asked in
     let row' = rw (← c.self.view_is, c.in-TakePage.is) at row in
-    let none = rw c.in-Ok-None.field-0-is at (c.in-Ok-None.ensures.ok sees'.honest) in
+    let reads = c.in-Ok.ensures.reads in
     let back : c.release.new.self ≡ with_row c.args.locks.now c.args.seat (in_directory before) =
     c.release.ensures ∙ ap (with_row c.args.locks.now c.args.seat)
     (ap (λ (locks : List Lock). without locks (Page c.self.inside.page)) row' ∙ bucket_off before bare
     c.self.inside.page) in
-    gave_back _ _ _ (rw c.in-TakePage.is at c.self.invariant) p asked' _ _ change _ c.in-Ok-None.ensures.writes
-    sees' none.is c.release.new.self before bare c.requires.seat row'
+    gave_back _ _ _ (rw c.in-TakePage.is at c.self.invariant) p asked' _ _ change _ (read_only true _ _ reads)
+    sees' (reads.images sees'.honest) c.release.new.self before bare c.requires.seat row'
     (ap (λ (t : Table). row_of t c.args.seat) back ∙ row_of-same c.args.locks.now c.args.seat _ c.requires.seat)
     c.release.ensures
 
-pub returns-in-Ok-None-clause-answer : goal.returns-in-Ok-None-clause-answer
-returns-in-Ok-None-clause-answer g c = λ change p asked sees _.
+pub returns-then-header-eq0-clause-answer : goal.returns-then-header-eq0-clause-answer
+returns-then-header-eq0-clause-answer g c = λ change p asked sees _.
     let sees' = rw (← c.self.view_is, c.in-TakePage.is) at sees in
     let asked' = rw (← c.self.view_is) at asked in
-    let none = rw c.in-Ok-None.field-0-is at (c.in-Ok-None.ensures.ok sees'.honest) in
+    let reads = c.in-Ok.ensures.reads in
+    let none = ap (λ (h : Header). h.first_free) (sym (c.in-Ok.ensures.ok sees'.honest)) ∙ c.if-header-eq0.true in
     rw (← c.self.view_is, c.in-TakePage.is)
-    (no_room _ _ _ (rw c.in-TakePage.is at c.self.invariant) p asked' _ _ change _ c.in-Ok-None.ensures.writes
-    sees' none.is c.release.new.self none.none_free)
+    (no_room _ _ _ (rw c.in-TakePage.is at c.self.invariant) p asked' _ _ change _ (read_only true _ _ reads)
+    sees' (reads.images sees'.honest) c.release.new.self none)
 
-pub returns-in-Err-clause-progress : goal.returns-in-Err-clause-progress
-returns-in-Err-clause-progress g c = λ change sees.
+pub returns-in-Ok-take_page-clause-step : goal.returns-in-Ok-take_page-clause-step
+returns-in-Ok-take_page-clause-step g c = λ change p asked before bare row sees _.
     let sees' = rw (← c.self.view_is, c.in-TakePage.is) at sees in
+    let asked' = rw (← c.self.view_is) at asked in
+    let reads = c.in-Ok.ensures.reads in
+    let honest = reads.honest ∙ sees'.honest in
+    let same = reads.images sees'.honest in
+    took _ _ _ (rw c.in-TakePage.is at c.self.invariant) p asked' _ _ change _
+    (read_then_written true _ _ _ reads c.in-Ok-take_page.ensures.writes) c.in-Ok-take_page.new _ sees'
+    (subst (λ (h : Header). h.first_free ≢ 0) (c.in-Ok.ensures.ok sees'.honest) c.if-header-eq0.false)
+    (c.in-Ok-take_page.ensures.page honest
+    ∙ ap (λ (images : List (List ℕ)). (store_of images).header.first_free) same)
+    (c.in-Ok-take_page.ensures.ok honest ∙ ap (λ (images : List (List ℕ)). take_page (store_of images)) same)
+    c.after_take-self-inside.ensures.is
+
+pub returns-in-Err-take_page-clause-progress : goal.returns-in-Err-take_page-clause-progress
+returns-in-Err-take_page-clause-progress g c = λ change sees.
+    let sees' = rw (← c.self.view_is, c.in-TakePage.is) at sees in
+    let reads = c.in-Ok.ensures.reads in
+    let honest = reads.honest ∙ sees'.honest in
+    let same = reads.images sees'.honest in
+    let free = first_free_is_there _ _ (rw sees'.known.0.1 at sees'.sound.file)
+    (ap (λ l. l.root) (layout_is c.args.pool.now.images))
+    (subst (λ (h : Header). h.first_free ≢ 0) (c.in-Ok.ensures.ok sees'.honest) c.if-header-eq0.false) in
     record {
-      devices = c.in-Err.ensures.fault sees'.honest sees'.file
-          (first_free_is_there _ _ (rw sees'.known.0.1 at sees'.sound.file)
-          (ap (λ l. l.root) (layout_is c.args.pool.now.images)));
-      images = c.in-Err.ensures.err sees'.honest;
+      devices = devices_after reads.later (c.in-Err-take_page.ensures.fault honest
+          (reads.file sees'.honest refl sees'.file)
+          (subst (λ (images : List (List ℕ)). HasFreePage (store_of images)) (sym same) free));
+      images = c.in-Err-take_page.ensures.err honest ∙ same;
     }
 
-pub returns-in-Ok-clause-step : goal.returns-in-Ok-clause-step
-returns-in-Ok-clause-step g c = λ change p asked before bare row sees _.
+-- ---- the steps behind it
+
+pub returns-in-Ok-copy_directory-clause-step : goal.returns-in-Ok-copy_directory-clause-step
+returns-in-Ok-copy_directory-clause-step g c = λ change p asked before bare row sees _.
     let sees' = rw (← c.self.view_is, c.in-CopyDirectory.is) at sees in
     let asked' = rw (← c.self.view_is) at asked in
     let inv = rw c.in-CopyDirectory.is at c.self.invariant in
-    copied _ _ _ inv p asked' _ _ change _ c.in-Ok.ensures.writes _ _ _ sees' inv.placed
-    (c.in-Ok.ensures.ok sees'.honest) c.after_copy-self-inside.ensures.is
+    copied _ _ _ inv p asked' _ _ change _ c.in-Ok-copy_directory.ensures.writes _ _ _ sees' inv.placed
+    (c.in-Ok-copy_directory.ensures.ok sees'.honest) c.after_copy-self-inside.ensures.is
 
 pub returns-in-Ok-raise_depth-clause-step : goal.returns-in-Ok-raise_depth-clause-step
 returns-in-Ok-raise_depth-clause-step g c = λ change p asked before bare row sees _.
