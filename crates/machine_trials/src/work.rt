@@ -17,7 +17,7 @@ use file_pages::FileFault;
 use page_device::PageDevice;
 use page_locks::{LockKind, LockTable};
 use queue_records::Record;
-use record_file::{Access, Deed, RecordOperation, Tried};
+use record_file::{Access, Deed, InsertStage, RecordOperation, Tried};
 use stale_search::{Search, SearchPlace};
 use step_rules::Progress;
 use xsi_inquiry::Write;
@@ -166,8 +166,19 @@ fn step_operation<D: PageDevice, K: PseudoKey>(
 {
     match operation {
         RecordOperation::Find(find) => find.step(Deed::Find, pool, locks, seat, value),
-        RecordOperation::Insert(insert) => insert.step(pool, locks, keys, seat, value),
+        RecordOperation::Insert(insert) => match &mut insert.stage {
+            InsertStage::First(first, _) => {
+                let did = first.step(Deed::Put, pool, locks, seat, value);
+                insert.stage.note(did, insert.key, insert.pseudokey, value);
+                did
+            }
+            InsertStage::Second(second) => second.step(pool, locks, keys, seat, value),
+        },
         RecordOperation::Replace(replace) => replace.step(Deed::Replace, pool, locks, seat, value),
-        RecordOperation::Delete(delete) => delete.step(pool, locks, seat),
+        RecordOperation::Delete(delete) => match delete.removal.ended() {
+            None => delete.removal.step(Deed::Remove, pool, locks, seat, value),
+            Some(true) => delete.merge.step(pool, locks, seat),
+            Some(false) => Progress::Ended,
+        },
     }
 }

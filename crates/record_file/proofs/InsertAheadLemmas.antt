@@ -1,5 +1,5 @@
 -- A first try that goes straight to a page without a record of its key: each of its moves is one of the insert.
-use Rattle.std.proofs.Common.{◌≡◌, refl, sym, ap, ◌∙◌, subst, ℕ, length, Option, None, Some, IfSome, IsSome}
+use Rattle.std.proofs.Common.{◌≡◌, refl, sym, ap, ◌∙◌, subst, ℕ, length, Option, None}
 use Rattle.std.specs.Option.{option_map}
 use Rattle.bucket_page.specs.Records.{lookup}
 use Rattle.hash_file.specs.Store.{records_at}
@@ -65,15 +65,13 @@ module _ (seat : ℕ) (key : RecordKey) (k : ℕ) where
           moves;
     }
 
-    pub insert_heads : (pool : PoolState) (locks : Table) (there : Option ℕ) → (IsSome there → t.stage ≡ Searching) →
-        (IsSome there → HasNoLock (bucket_locks t)) →
-        IfSome there (λ (page : ℕ). BucketHeads seat page t pool locks) →
-        IfSome there (λ (page : ℕ). OperationHeads seat page (Insert (trying t)) pool locks)
-    insert_heads pool locks None searches none heads = tt
-    insert_heads pool locks (Some page) searches none heads = λ found stands lacks.
+    pub insert_heads : (pool : PoolState) (locks : Table) (page : ℕ) → t.stage ≡ Searching →
+        HasNoLock (bucket_locks t) → BucketHeads seat page t pool locks →
+        OperationHeads seat page (Insert (trying t)) pool locks
+    insert_heads pool locks page searches none heads = λ found stands lacks.
         let here : None ≡ option_map length (lookup t.search.key (records_at (store_of pool.images) page)) =
         sym lacks ∙ stands ∙ ap (λ (of : RecordKey). option_map length
         (lookup of (records_at (store_of pool.images) page)))
         (sym inv.key_is) in
         subst (λ (f : Option ℕ). GoesToPage seat page f (Insert (trying t)) pool locks) (sym lacks)
-        (insert_goes pool locks page (searches refl) (none refl) (heads deeds.Put None inv.kind_is here))
+        (insert_goes pool locks page searches none (heads deeds.Put None inv.kind_is here))

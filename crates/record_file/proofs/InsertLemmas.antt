@@ -69,6 +69,15 @@ nears_to : (did : Progress FileFault) (left left' : ℕ) (pool pool' : PoolState
 nears_to did left left' pool pool' none near =
     subst (λ (n : ℕ). NearsOrSpares did (left + SECOND_STEPS) (n + SECOND_STEPS) pool pool') none near
 
+-- a second try that has just begun
+abbrev pub second_of : RecordKey → ℕ → List ℕ → SecondTryView
+second_of key k value = record {
+  key = key;
+  pseudokey = k;
+  bytes = length value;
+  place = Approaching (record { pseudokey = k; place = GrantDirectory });
+}
+
 module _ (hash : RecordKey → ℕ) (seat : ℕ) (key : RecordKey) (k : ℕ) (value : List ℕ) (pool pool' : PoolState)
     (locks locks' : Table) (did : Progress FileFault) where
   abbrev pub insert_at : InsertStage → InsertView
@@ -90,6 +99,17 @@ module _ (hash : RecordKey → ℕ) (seat : ℕ) (key : RecordKey) (k : ℕ) (va
 
   module _ (t t' : BucketView) (said : Option Tried) (inv : IsFirstAt key k t said)
       (made : MakesBucket deeds.Put seat value did t t' pool pool' locks locks') where
+    -- it is still a first try at this key, where what it came to fits
+    pub first_stays : (said' : Option Tried) → (said' ≡ None → is_there (found_of t') ≡ false) →
+        (said' ≡ None → has_ended t'.stage ≡ false) → IsFirstAt key k t' said'
+    first_stays said' unseen going = record {
+      key_is = made.aim.key ∙ inv.key_is;
+      pseudokey_is = made.aim.pseudokey ∙ inv.pseudokey_is;
+      kind_is = made.aim.kind ∙ inv.kind_is;
+      unseen = unseen;
+      going = going;
+    }
+
     keyed_first : hash key ≡ k → hash t.search.key ≡ t.search.pseudokey
     keyed_first keyed = ap hash inv.key_is ∙ keyed ∙ sym inv.pseudokey_is
 
@@ -159,16 +179,8 @@ module _ (hash : RecordKey → ℕ) (seat : ℕ) (key : RecordKey) (k : ℕ) (va
           (world pool.images locks change)) inv.key_is
           (made.answer hash change (keyed_first keyed) sees fine).0)))
 
-      abbrev pub second_of : SecondTryView
-      second_of = record {
-        key = key;
-        pseudokey = k;
-        bytes = length value;
-        place = Approaching (record { pseudokey = k; place = GrantDirectory });
-      }
-
       -- it gave up, and the second try begins
-      pub passes_on : has_ended t'.stage ≡ true → Inserts (First t said) (Second second_of)
+      pub passes_on : has_ended t'.stage ≡ true → Inserts (First t said) (Second (second_of key k value))
       passes_on over =
           let is = (ended_is t'.stage over).1 in
           record {

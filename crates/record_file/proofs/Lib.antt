@@ -31,6 +31,7 @@ pub mod OperationNames
 pub mod KindLemmas
 pub mod InsertAheadLemmas
 pub mod RemovalLemmas
+pub mod MergeLemmas
 pub mod OperationCallerLemmas
 pub mod LengthLemmas
 pub mod OperationAimLemmas
@@ -51,6 +52,7 @@ pub mod TakingLemmas
 pub mod OperationLemmas
 pub mod AccessAheadLemmas
 pub mod FindAheadLemmas
+pub mod HeadLemmas
 pub mod ReachLemmas
 pub use Rattle.step_rules.proofs as of_step_rules
 pub use Rattle.split_merge.proofs as of_split_merge

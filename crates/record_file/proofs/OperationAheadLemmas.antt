@@ -1,6 +1,6 @@
 -- Each move of the machine of a kind is one of the operation: of a find that is made in one go, and of a write on the
 -- way to its page.
-use Rattle.std.proofs.Common.{◌≡◌, refl, sym, ap, ◌∙◌, subst, ℕ, Option, Some, None, IfSome, IsSome}
+use Rattle.std.proofs.Common.{◌≡◌, refl, sym, ap, ◌∙◌, subst, ℕ, Option, None}
 use Rattle.std.proofs.lemmas.Bool.{true≢false}
 use Rattle.record_file.specs.split_merge.Places.{MergeView}
 use Rattle.record_file.specs.stale_search.SearchRuns.{At, HasNoLock, at, standing}
@@ -53,18 +53,14 @@ module _ (seat : ℕ) where
       replace_makes hash seat bytes (Moved kind) old.pool new.pool old.locks new.locks old.machine new.machine
       (moves bytes)
 
-  pub replace_heads : (pool : PoolState) (locks : Table) (r : BucketView) (there : Option ℕ) →
-      SuitsKind deeds.Replace r.search.kind → (IsSome there → r.stage ≡ Searching) →
-      (IsSome there → HasNoLock (bucket_locks r)) →
-      IfSome there (λ (page : ℕ). BucketHeads seat page r pool locks) →
-      IfSome there (λ (page : ℕ). OperationHeads seat page (Replace r) pool locks)
-  replace_heads pool locks r None suits searches none heads = tt
-  replace_heads pool locks r (Some page) suits searches none heads = λ found stands lacks. record {
-    bare = none refl;
-    holds = holds_selective r page found (searches refl) suits;
+  pub replace_heads : (pool : PoolState) (locks : Table) (r : BucketView) (page : ℕ) →
+      SuitsKind deeds.Replace r.search.kind → r.stage ≡ Searching → HasNoLock (bucket_locks r) →
+      BucketHeads seat page r pool locks → OperationHeads seat page (Replace r) pool locks
+  replace_heads pool locks r page suits searches none heads = λ found stands lacks. record {
+    bare = none;
+    holds = holds_selective r page found searches suits;
     lacks = tt;
-    goes_on = λ over.
-        true≢false (sym over ∙ ap (λ (stage : BucketStage). has_ended stage) (searches refl));
+    goes_on = λ over. true≢false (sym over ∙ ap (λ (stage : BucketStage). has_ended stage) searches);
     moves = lifted (BucketStep deeds.Replace seat) (OperationStep seat) replace_of move_of_replace (at r pool locks)
         (bucket_way seat page found (at r pool locks)) (heads deeds.Replace found suits stands);
   }
@@ -104,16 +100,13 @@ module _ (seat : ℕ) where
           moves;
     }
 
-    pub delete_heads : (pool : PoolState) (locks : Table) (r : BucketView) (there : Option ℕ) →
-        SuitsKind deeds.Remove r.search.kind → (IsSome there → r.stage ≡ Searching) →
-        (IsSome there → HasNoLock (bucket_locks r)) →
-        IfSome there (λ (page : ℕ). BucketHeads seat page r pool locks) →
-        IfSome there (λ (page : ℕ). OperationHeads seat page (Delete (removing r)) pool locks)
-    delete_heads pool locks r None suits searches none heads = tt
-    delete_heads pool locks r (Some page) suits searches none heads = λ found stands lacks.
-        let is = as_searching r (searches refl) in
+    pub delete_heads : (pool : PoolState) (locks : Table) (r : BucketView) (page : ℕ) →
+        SuitsKind deeds.Remove r.search.kind → r.stage ≡ Searching → HasNoLock (bucket_locks r) →
+        BucketHeads seat page r pool locks → OperationHeads seat page (Delete (removing r)) pool locks
+    delete_heads pool locks r page suits searches none heads = λ found stands lacks.
+        let is = as_searching r searches in
         subst (λ (b : BucketView). GoesToPage seat page found (Delete (removing b)) pool locks) (sym is)
         (removes_straight pool locks r.search page found suits
-        (subst (λ (b : BucketView). HasNoLock (bucket_locks b)) is (none refl))
+        (subst (λ (b : BucketView). HasNoLock (bucket_locks b)) is none)
         (subst (λ (b : BucketView). MovesAlong (BucketStep deeds.Remove seat) (at b pool locks)
         (bucket_way seat page found (at b pool locks))) is (heads deeds.Remove found suits stands)))

@@ -1,18 +1,16 @@
--- A delete in its removal, which passes on to the merge, and in its merge.
-use Rattle.std.proofs.Common.{◌≡◌, refl, sym, ap, ◌∙◌, subst, ℕ, ◌+◌, ◌≤◌, Bool, true, false, List, [], Option, Some, None, is_some, ◌⊎◌, inl, inr, arith}
+-- A delete in its removal, which passes on to the merge.
+use Rattle.std.proofs.Common.{◌≡◌, refl, sym, ap, ◌∙◌, ℕ, ◌+◌, ◌≤◌, true, false, List, [], Some, None, is_some, ◌⊎◌, inl, inr, arith}
 use Rattle.std.proofs.lemmas.Bool.{true≢false}
-use Rattle.split_merge.specs.Places.{MergeView, is_done, locks_at as merge_locks_at, merge_locks}
-use Rattle.split_merge.specs.Facts.{facts_at as merge_facts_at, left_at as merge_left_at, merge_facts, merge_turn, steps_left as merge_left}
+use Rattle.split_merge.specs.Places.{MergeView, locks_at as merge_locks_at, merge_locks}
+use Rattle.split_merge.specs.Facts.{facts_at as merge_facts_at, left_at as merge_left_at, merge_facts, steps_left as merge_left}
 use Rattle.split_merge.specs.declared.merge_place.MergePlace.{MergePlace}
 use Rattle.split_merge.specs.stale_search.declared.place.ApproachPlace.{ApproachPlace}
 use Rattle.split_merge.specs.stale_search.Approaches.{approach_facts_at, approach_locks_at}
 use Rattle.split_merge.specs.buffer_pool.Pool.{PoolState}
 use Rattle.split_merge.specs.file_pages.declared.fault.FileFault.{FileFault}
-use Rattle.record_file.specs.Words.{RecordKey, Remove, Table, Lock, Change, Store, Progress, Moved, Blocked, Fault, Ended, World, Known, Turn, SearchView, Nears, Step}
-use Rattle.step_rules.specs.Turns.{Ask}
-use Rattle.record_file.specs.Deletes.{IsBegun, IsOver, delete_facts, delete_turn, part}
-use Rattle.record_file.specs.BucketAccesses.{BucketView, ask_in, bucket_facts, ended_in, has_ended, facts_in, left_in, locks_in}
-use Rattle.record_file.specs.BucketSteps.{TurnsAwayIn}
+use Rattle.record_file.specs.Words.{Lock, Store, Progress, Moved, Blocked, Fault, Ended, SearchView, Nears}
+use Rattle.record_file.specs.Deletes.{IsBegun, IsOver, part}
+use Rattle.record_file.specs.BucketAccesses.{ended_in, has_ended, facts_in, left_in, locks_in}
 use Rattle.record_file.specs.declared.bucket_access.BucketStage.{BucketStage}
 use Rattle.record_file.specs.declared.bucket_access.Deed.TheVariants as deeds
 use Rattle.record_file.specs.declared.bucket_access.BucketStage.TheVariants.{Searching, Written, Ended as HasEnded}
@@ -22,18 +20,6 @@ module _ {A : Type 0} (removing ended merging : A) where
   in_removal Searching none = refl
   in_removal (Written n due) none = refl
   in_removal (HasEnded due) none = absurd cc
-
-  pub in_merge : (stage : BucketStage) → ended_in stage ≡ Some true → part stage removing ended merging ≡ merging
-  in_merge Searching is = absurd cc
-  in_merge (Written n due) is = absurd cc
-  in_merge (HasEnded true) is = refl
-  in_merge (HasEnded false) is = absurd (let f : false ≡ true = cc in cc)
-
-  pub at_end : (stage : BucketStage) → ended_in stage ≡ Some false → part stage removing ended merging ≡ ended
-  at_end Searching is = absurd cc
-  at_end (Written n due) is = absurd cc
-  at_end (HasEnded true) is = absurd (let f : true ≡ false = cc in cc)
-  at_end (HasEnded false) is = refl
 
 pub still_begun : (stage : BucketStage) (m : MergeView) → (ended_in stage ≡ Some true) ⊎ IsBegun m →
     ended_in stage ≡ None → IsBegun m
@@ -48,13 +34,6 @@ not_over (HasEnded due) place none over = absurd cc
 
 pub not_ended : (stage : BucketStage) → ended_in stage ≡ None → has_ended stage ≡ true → ⊥
 not_ended stage none over = true≢false (sym over ∙ ap is_some none)
-
-pub is_over : (stage : BucketStage) (place : MergePlace) → ended_in stage ≡ Some true →
-    IsOver stage place ≡ (is_done place ≡ true)
-is_over Searching place is = absurd cc
-is_over (Written n due) place is = absurd cc
-is_over (HasEnded true) place is = refl
-is_over (HasEnded false) place is = absurd (let f : false ≡ true = cc in cc)
 
 -- a merge that has not begun holds and knows nothing
 module _ (m : MergeView) (begun : IsBegun m) where
@@ -96,24 +75,6 @@ module _ (m : MergeView) (begun : IsBegun m) where
   passed_left (HasEnded true) search s = omega arith
   passed_left (HasEnded false) search s = omega arith
 
--- the merge makes a step, of which the turn is that of the removed key
-module _ (hash : RecordKey → ℕ) (seat : ℕ) (did : Progress FileFault) (pool pool' : PoolState) (locks locks' : Table)
-    (change : Change) where
-  pub merges_on : (r : BucketView) (m m' : MergeView) → m.key ≡ r.search.key → ended_in r.stage ≡ Some true →
-      Step hash seat (merge_turn m) did (merge_facts m') pool pool' locks locks' change →
-      Step hash seat (delete_turn (record { removal = r; merge = m })) did
-      (delete_facts (record { removal = r; merge = m' })) pool pool' locks locks' change
-  merges_on r m m' key is made =
-      let turn : Option Ask → RecordKey → Turn =
-      λ (ask : Option Ask) (k : RecordKey). record { ask = ask; write = Some (Remove k) } in
-      subst (λ (k : RecordKey). Step hash seat (turn (delete_turn (record { removal = r; merge = m })).ask k) did
-      (delete_facts (record { removal = r; merge = m' })) pool pool' locks locks' change) key
-      (subst (λ (ask : Option Ask). Step hash seat (turn ask m.key) did
-      (delete_facts (record { removal = r; merge = m' })) pool pool' locks locks' change)
-      (sym (in_merge (ask_in r.stage r.search) None (merge_turn m).ask r.stage is))
-      (subst (λ (facts : List Known). Step hash seat (merge_turn m) did facts pool pool' locks locks' change)
-      (sym (in_merge (bucket_facts deeds.Remove r) [] (merge_facts m') r.stage is)) made))
-
 -- fewer steps are fewer still
 pub nears_more : (did : Progress FileFault) (left left' less : ℕ) (pool pool' : PoolState) → less ≤ left' →
     Nears did left left' pool pool' → Nears did left less pool pool'
@@ -121,11 +82,3 @@ nears_more (Moved kind) left left' less pool pool' few h = omega (arith, few, h)
 nears_more (Blocked other) left left' less pool pool' few h = tt
 nears_more (Fault fault) left left' less pool pool' few h = h
 nears_more Ended left left' less pool pool' few h = tt
-
--- once the removal has ended it turns away no more
-pub turned_before : (hash : RecordKey → ℕ) (key : RecordKey) (seat : ℕ) (stage : BucketStage) (due : Bool)
-    (w : World) →
-    ended_in stage ≡ Some due → TurnsAwayIn hash key seat stage stage w
-turned_before hash key seat Searching due w is = absurd cc
-turned_before hash key seat (Written n d) due w is = absurd cc
-turned_before hash key seat (HasEnded d) due w is = tt

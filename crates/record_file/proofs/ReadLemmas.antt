@@ -1,13 +1,10 @@
 -- What is copied of a value that stands on a page.
-use Rattle.std.proofs.Common.{◌≡◌, sym, ap, ◌∙◌, subst, ℕ, ◌<◌, ◌≤◌, true, List, [], ◌++◌, length, take, drop, Option, Some, arith}
+use Rattle.std.proofs.Common.{◌≡◌, sym, ap, ◌∙◌, subst, ℕ, ◌<◌, ◌≤◌, true, List, [], ◌++◌, length, take, drop, Option, None, Some, arith}
 use Rattle.std.proofs.lemmas.List.{length-append, length-take, take-append-drop, take-append-le, take_all, take_at}
-use Rattle.std.proofs.Common.{eqb}
-use Rattle.std.proofs.lemmas.Bool.Decides.{nat_tests}
-use Rattle.std.specs.Option.{option_eq}
 use Rattle.std.specs.Prelude.{unwrap_or}
 use Rattle.directory.specs.declared.layout.TheConstants.{ROOT_PAGE}
 use Rattle.numbers.proofs.NumberLaws.{length-eight, length-four}
-use Rattle.file_pages.specs.Reads.{fronted}
+use Rattle.file_pages.specs.Reads.{IsCopied, fronted}
 use Rattle.file_pages.proofs.StoreLemmas.{pages_are}
 use Rattle.hash_file.specs.Store.{is_bucket, page_at}
 use Rattle.queue_records.proofs.Lengths.{length-counter, length-queue}
@@ -39,7 +36,7 @@ pub some_of : {X : Type 0} (x y : X) → ◌≡◌ {A = Option X} (Some x) (Some
 some_of x y is = cc
 
 -- as much of a value as is asked for is copied, where there is room for it
-pub taken_of : (n : ℕ) (value room : List ℕ) → n ≤ length value → n ≤ length room →
+taken_of : (n : ℕ) (value room : List ℕ) → n ≤ length value → n ≤ length room →
     take n (fronted value room) ≡ take n value
 taken_of n value room within fits =
     let size = length-take (length room) value in
@@ -47,23 +44,20 @@ taken_of n value room within fits =
     ∙ sym (take-append-le n (take (length room) value) (drop (length room) value) (omega (arith, within, fits, size)))
     ∙ ap (take n) (take-append-drop (length room) value)
 
-pub whole_taken : (value room : List ℕ) → length value ≤ length room → take (length value) (fronted value room) ≡ value
+whole_taken : (value room : List ℕ) → length value ≤ length room → take (length value) (fronted value room) ≡ value
 whole_taken value room fits =
     taken_of (length value) value room (omega arith) fits ∙ take_all (length value) value (omega arith)
 
-pub read_whole : (r : Record) (n : ℕ) (value : Option (List ℕ)) (room copied : List ℕ) → value ≡ Some (value_of r) →
-    n ≡ length (value_of r) → length (value_of r) ≤ length room → copied ≡ fronted (unwrap_or value []) room →
-    take n copied ≡ value_of r
-read_whole r n value room copied holds len fits is =
-    ap (λ (m : ℕ). take m copied) len
-    ∙ ap (take (length (value_of r))) (is ∙ ap (λ (v : Option (List ℕ)). fronted (unwrap_or v []) room) holds)
-    ∙ whole_taken (value_of r) room fits
-
-pub same_length : (n : ℕ) (found : Option ℕ) → found ≡ Some n → option_eq eqb found (Some n) ≡ true
-same_length n found is = ap (λ (f : Option ℕ). option_eq eqb f (Some n)) is ∙ itself n
-  where
-    itself : (n : ℕ) → eqb n n ≡ true
-    itself n = grind (arith, nat_tests)
+-- where it is as long as was told, all of it is copied
+pub copied_whole : (n : ℕ) {found : Option ℕ} {value : Option (List ℕ)} {room copied : List ℕ} →
+    IsCopied found value room copied → found ≡ Some n → n ≤ length room → value ≡ Some (take n copied)
+copied_whole n {value = None} copies told fits = absurd (let clash = sym told ∙ copies.found_is in cc)
+copied_whole n {value = Some v} {room = room} {copied = copied} copies told fits =
+    let long = some_of n (length v) (sym told ∙ copies.found_is) in
+    let whole : take n copied ≡ v =
+    ap (λ (m : ℕ). take m copied) long ∙ ap (take (length v)) copies.copied
+    ∙ whole_taken v room (omega (arith, fits, long)) in
+    ap (λ (x : List ℕ). Some x) (sym whole)
 
 few_linked : (links : Links) → linked_bytes links ≤ MESSAGE_BYTES
 few_linked (kinds.Message l) = omega arith
@@ -85,16 +79,17 @@ front_set links r n start front such is len whole set =
     }
 
 -- also where they were set in a copy
-pub front_of : (links : Links) (r : Record) (n : ℕ) (value : Option (List ℕ)) (room copied front behind : List ℕ) →
-    HasSuch links (Some r) → value ≡ Some (value_of r) → n ≡ linked_bytes links → length room ≡ MESSAGE_BYTES →
-    copied ≡ fronted (unwrap_or value []) room → length front ≡ length (take n copied) →
+pub front_of : (links : Links) (r : Record) (n : ℕ) {found : Option ℕ} {value : Option (List ℕ)}
+    {room copied : List ℕ} (front behind : List ℕ) → IsCopied found value room copied → HasSuch links (Some r) →
+    value ≡ Some (value_of r) → n ≡ linked_bytes links → length room ≡ MESSAGE_BYTES →
+    length front ≡ length (take n copied) →
     ((rest : List ℕ) → take n copied ++ rest ≡ value_of r → front ++ rest ≡ value_of (relinked links r)) →
     IsFrontOf links (take n (front ++ behind)) r
-front_of links r n value room copied front behind such holds len size is same set =
+front_of links r n {room = room} {copied = copied} front behind copies such holds len size same set =
     let most = few_linked links in
     let long = links_within links r such in
     let is' : copied ≡ fronted (value_of r) room =
-    is ∙ ap (λ (v : Option (List ℕ)). fronted (unwrap_or v []) room) holds in
+    copies.copied ∙ ap (λ (v : Option (List ℕ)). fronted (unwrap_or v []) room) holds in
     let taken : take n copied ≡ take n (value_of r) =
     ap (take n) is' ∙ taken_of n (value_of r) room (omega (arith, len, long)) (omega (arith, len, most, size)) in
     let count = length-take n (value_of r) in

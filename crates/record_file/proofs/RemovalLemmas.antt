@@ -1,5 +1,5 @@
 -- A removal that goes on: what is promised of its step is so of the delete.
-use Rattle.std.proofs.Common.{◌≡◌, sym, ap, ◌∙◌, subst, ℕ, ◌+◌, true, false, List, [], Option, Some, None, arith}
+use Rattle.std.proofs.Common.{◌≡◌, sym, ap, ◌∙◌, subst, ℕ, ◌+◌, true, false, List, [], Option, Some, None}
 use Rattle.split_merge.specs.Places.{MergeView, merge_locks}
 use Rattle.split_merge.specs.Facts.{merge_facts, merge_turn, steps_left as merge_left}
 use Rattle.split_merge.specs.Steps.{TurnsAwayAt}
@@ -8,7 +8,7 @@ use Rattle.split_merge.specs.file_pages.declared.fault.FileFault.{FileFault}
 use Rattle.split_merge.specs.stale_search.Steps.{FollowsRow}
 use Rattle.split_merge.proofs.of_stale_search.StayLemmas.{Stays-of}
 use Rattle.step_rules.specs.Turns.{Ask}
-use Rattle.record_file.specs.Words.{RecordKey, Remove, Table, Lock, Change, Store, Progress, Known, Turn, Nears, Sees, Step, WritesOrSpares, EndsRow, HasNoFileLock, is_fault, row_of, store_of, with_row, world}
+use Rattle.record_file.specs.Words.{RecordKey, Remove, Table, Lock, Change, Store, Progress, Known, Turn, Nears, Sees, Step, WritesOrSpares, HasNoFileLock, is_fault, row_of, store_of, with_row, world}
 use Rattle.record_file.specs.Machines.{FindsAt}
 use Rattle.record_file.specs.Writers.{Owns}
 use Rattle.record_file.specs.BucketAccesses.{BucketView, ask_in, bucket_facts, bucket_left, bucket_locks, ended_in, found_of}
@@ -22,16 +22,6 @@ use Rattle.record_file.proofs.AnswerLemmas.{nears_on}
 use Rattle.record_file.proofs.KindLemmas.{delete_makes}
 use Rattle.record_file.proofs.PartLemmas.{begun_left, in_removal, nears_more, not_ended, not_over, passed_facts, passed_left, passed_locks}
 
--- the row of its seat ends with the locks of the removal
-pub ends_with_removal : (r : BucketView) (m : MergeView) (row : List Lock) → ended_in r.stage ≡ None →
-    EndsRow (delete_locks (record { removal = r; merge = m })) 3 row → EndsRow (bucket_locks r) 2 row
-ends_with_removal r m row none ends = record {
-  before = ends.before;
-  bare = ends.bare;
-  room = (let room = ends.room in omega (arith, room));
-  is = ends.is ∙ in_removal (bucket_locks r ends.before) ends.before (merge_locks m ends.before) r.stage none;
-}
-
 module _ (r r' : BucketView) (m : MergeView) (none : ended_in r.stage ≡ None) (begun : IsBegun m) (seat : ℕ)
     (bytes : List ℕ) (did : Progress FileFault) (pool pool' : PoolState) (locks locks' : Table)
     (made : MakesBucket deeds.Remove seat bytes did r r' pool pool' locks locks') where
@@ -41,15 +31,15 @@ module _ (r r' : BucketView) (m : MergeView) (none : ended_in r.stage ≡ None) 
   abbrev new : DeleteView
   new = record { removal = r'; merge = m }
 
-  pub removal_writes : WritesOrSpares did pool pool'
+  removal_writes : WritesOrSpares did pool pool'
   removal_writes = fault_spares deeds.Remove did pool pool' made.writes made.cause
 
-  pub removal_row : FollowsRow seat (delete_locks old) (delete_locks new) locks locks'
+  removal_row : FollowsRow seat (delete_locks old) (delete_locks new) locks locks'
   removal_row = λ before bare row.
       made.row before bare (row ∙ in_removal (bucket_locks r before) before (merge_locks m before) r.stage none)
       ∙ ap (with_row locks seat) (passed_locks m begun r'.stage r'.search before)
 
-  pub removal_aim : KeepsDelete did old new
+  removal_aim : KeepsDelete did old new
   removal_aim = record {
     key = made.aim.key;
     pseudokey = made.aim.pseudokey;
@@ -66,7 +56,7 @@ module _ (r r' : BucketView) (m : MergeView) (none : ended_in r.stage ≡ None) 
     sees_removal = subst (λ (facts : List Known). Sees hash seat facts pool locks change)
         (in_removal (bucket_facts deeds.Remove r) [] (merge_facts m) r.stage none) sees
 
-    pub removal_nears :
+    removal_nears :
         Nears did (delete_left old (store_of pool.images)) (delete_left new (store_of pool'.images)) pool pool'
     removal_nears =
         let s : Store = store_of pool.images in
@@ -82,7 +72,7 @@ module _ (r r' : BucketView) (m : MergeView) (none : ended_in r.stage ≡ None) 
         (nears_more did left left' (part r'.stage left' 0 (merge_left m t)) pool pool'
         (passed_left m begun r'.stage r'.search t) near')
 
-    pub removal_steps : (before : List Lock) → HasNoFileLock before → Owns before r.search.key →
+    removal_steps : (before : List Lock) → HasNoFileLock before → Owns before r.search.key →
         row_of locks seat ≡ delete_locks old before → hash r.search.key ≡ r.search.pseudokey → is_fault did ≡ false →
         Step hash seat (delete_turn old) did (delete_facts new) pool pool' locks locks' change
     removal_steps before bare owns row keyed fine =
@@ -96,7 +86,7 @@ module _ (r r' : BucketView) (m : MergeView) (none : ended_in r.stage ≡ None) 
         (subst (λ (facts : List Known). Step hash seat (removing (ask_in r.stage r.search)) did facts pool pool' locks
         locks' change) (passed_facts m begun r'.stage r'.search) done)
 
-    pub removal_tells : hash r.search.key ≡ r.search.pseudokey → is_fault did ≡ false →
+    removal_tells : hash r.search.key ≡ r.search.pseudokey → is_fault did ≡ false →
         FindsAt hash seat did r.search.key (found_of r) (found_of r') (world pool.images locks change)
         × TurnsAwayIn hash r.search.key seat r.stage r'.stage (world pool'.images locks' change)
         × TurnsAwayAt hash seat m m (world pool'.images locks' change)

@@ -1,5 +1,5 @@
 -- What a find and a relink take from the page that answered.
-use Rattle.std.proofs.Common.{◌≡◌, refl, sym, ap, ◌∙◌, subst, ℕ, ◌<◌, ◌≤◌, Bool, true, false, List, length, Option, Some, IfSome, IsTrue, Ok, Err, arith}
+use Rattle.std.proofs.Common.{◌≡◌, refl, sym, ap, ◌∙◌, subst, ℕ, ◌<◌, ◌≤◌, Bool, true, false, List, length, Option, Some, None, IfSome, IsTrue, Ok, Err, arith}
 use Rattle.std.specs.Option.{option_map}
 use Rattle.file_pages.specs.Reads.{OnlyReads}
 use Rattle.file_pages.specs.Fault.{FileHasCause, IsDevicesFault}
@@ -10,6 +10,7 @@ use Rattle.record_file.proofs.AccessAimLemmas.{same_parts}
 use Rattle.record_file.proofs.ReadLemmas.{some_of}
 use Rattle.record_file.proofs.RecordLemmas.{is_such}
 use Rattle.record_file.proofs.SuitLemmas.{value_is_of}
+use Rattle.record_file.specs.OperationWords.{BucketView}
 use Rattle.record_file.specs.AccessWords.{RecordKey, PoolState, IsReady, RecordOperation, operation_found, operation_key, Links, Record, SpellsRecord, HasSuch, linked_bytes, Replace, Relink, Delete, value_of}
 use Rattle.record_file.specs.Purposes.{Purpose, ToFind, ToInsert, ToWrite}
 use Rattle.record_file.specs.Accesses.{AccessView, HasFound, HasValue, IsFrontOf, IsOfKind, IsPrepared, IsToldIn, Serves, answer_in, links_of}
@@ -51,6 +52,19 @@ suits_find (operations.Find f) written links bytes page len is long = long
 suits_find (operations.Insert i) written links bytes page len is long = absurd cc
 suits_find (operations.Replace r) written links bytes page len is long = absurd cc
 suits_find (operations.Delete d) written links bytes page len is long = absurd cc
+
+pub answer_of_find : (o : RecordOperation) (f : BucketView) → o ≡ operations.Find f → answer_in o ≡ operation_found o
+answer_of_find o f is = ap answer_in is ∙ sym (ap operation_found is)
+
+record IsAsLong (found : Option Record) (len : ℕ) : Type 0 where
+  entry : Record
+  is : found ≡ Some entry
+  long : len ≡ length (value_of entry)
+
+record_as_long : (found : Option Record) (len : ℕ) → Some len ≡ option_map length (option_map value_of found) →
+    IsAsLong found len
+record_as_long None len is = absurd cc
+record_as_long (Some r) len is = record { entry = r; is = refl; long = some_of len (length (value_of r)) is }
 
 module _ (o : RecordOperation) (links : Option Links) (old_bytes bytes : List ℕ) (written : Bool) (page len : ℕ)
     (finds : answer_in o ≡ Some (page, Some len)) (pool pool' : PoolState) where
@@ -101,6 +115,40 @@ module _ (o : RecordOperation) (links : Option Links) (old_bytes bytes : List �
           subst (HasFound new) (sym it.is)
               (subst (λ (a : Option (ℕ × Option ℕ)). IsToldIn a (operation_key o) bytes (Some it.entry)) (sym finds)
               spells),
+        );
+  }
+
+  pub value_fails : {X : Type 0} (fault : FileFault) (read : Bool) → OnlyReads read pool pool' →
+      FileHasCause pool pool' fault →
+      ((r : Record) → SeesBucket page pool → value_on pool page (operation_key o) ≡ Some (value_of r) →
+      len ≡ length (value_of r) → SpellsRecord r (operation_key o) (value_of r) → IsDevicesFault pool pool' fault) →
+      Takes {X = X} (Err fault) pool pool' old old
+  value_fails fault read reads cause why = record {
+    reads = record {
+      ready = reads.ready;
+      honest = reads.honest;
+      later = reads.later;
+      stored = reads.stored;
+      images = reads.images;
+      file = λ honest done f. absurd cc;
+    };
+    cause = cause;
+    operation = refl;
+    written = refl;
+    serves = λ p serves. serves;
+    rests = λ none. let both = sym none ∙ at in absurd cc;
+    suits = λ fine. absurd cc;
+    tells = λ p found page' len' here serves shown was.
+        let is = finds_only p o (page, Some len) finds serves.kind in
+        let same = same_parts page page' (Some len) len' (sym at ∙ here) in
+        let sees = subst (λ (n : ℕ). SeesBucket n pool) (sym same.0) shown.sees in
+        let it = record_as_long found len (same.1 ∙ shown.length_is ∙ ap (option_map length) shown.holds) in
+        let value : value_on pool page (operation_key o) ≡ Some (value_of it.entry) =
+        ap (λ (n : ℕ). value_on pool n (operation_key o)) same.0 ∙ shown.holds ∙ ap (option_map value_of) it.is in (
+          subst IsReader (sym is.1) tt,
+          why it.entry sees value it.long
+              (subst (λ (f : Option Record). IfSome f (λ (r : Record). SpellsRecord r (operation_key o) (value_of r)))
+              it.is shown.spelled),
         );
   }
 

@@ -31,6 +31,14 @@ pub record IsDelete (r : BucketView) (m : MergeView) : Type 0 where
   -- the merge waits for the removal
   pub waits : (ended_in r.stage ≡ Some true) ⊎ IsBegun m
 
+-- its removal, which has not ended, and for which the merge waits
+pub record IsRemoval (b : BucketView) (d : DeleteView) : Type 0 where
+  pub is : d.removal ≡ b
+  pub going : ended_in b.stage ≡ None
+  -- its search locks pages to write them
+  pub kind : SuitsKind deeds.Remove b.search.kind
+  pub waits : IsBegun d.merge
+
 -- what is so of the removal, of a delete that has ended with it, and of the merge
 abbrev pub part : {A : Type 0} → BucketStage → (removing ended merging : A) → A
 part (HasEnded true) removing ended merging = merging

@@ -3,7 +3,10 @@ use Rattle.std.specs.Prelude.{ℕ, ◌≡◌, ◌↔◌, false, not, List, lengt
 use Rattle.split_merge.specs.file_pages.declared.fault.FileFault.{FileFault}
 use Rattle.record_file.specs.InsertWords.{RecordKey, pair, PoolState, Table, Lock, Change, Progress, Ended, is_fault, HasNoFileLock, row_of, store_of, OnlyWrites, Owns, FollowsRow, Stays, world, Sees, Step, StepHasCause}
 use Rattle.record_file.specs.SecondSteps.{KeepsSecondTry, NearsOrSpares, SaysAt}
-use Rattle.record_file.specs.Inserts.{InsertView, IsLent, IsOver, insert_facts, insert_left, insert_locks, insert_turn, said_of}
+use Rattle.record_file.specs.BucketAccesses.{BucketView}
+use Rattle.record_file.specs.BucketSteps.{MakesBucket}
+use Rattle.record_file.specs.declared.bucket_access.Deed.TheVariants as deeds
+use Rattle.record_file.specs.Inserts.{InsertView, IsFirstAt, IsInsert, IsLent, IsOver, insert_facts, insert_left, insert_locks, insert_turn, said_of}
 use Rattle.record_file.specs.declared.insert.InsertStage.{InsertStage}
 use Rattle.record_file.specs.declared.insert.InsertStage.TheVariants.{First, Second}
 
@@ -43,3 +46,14 @@ pub record MakesInsert (hash : RecordKey → ℕ) (seat : ℕ) (value : List ℕ
       Sees hash seat (insert_facts old) pool locks change → is_fault did ≡ false →
       SaysAt hash seat did (pair old.key value) (said_of old.stage) (said_of new.stage)
       (world pool.images locks change) (world pool'.images locks' change)
+
+-- where the first try at this key has made this step from what it was, to put this value, what is noted of it makes the
+-- step one of the insert
+abbrev pub Notes : (key : RecordKey) (k : ℕ) → List ℕ → Progress FileFault → (old new : InsertStage) → Type 0
+Notes key k value did (Second t) new = new ≡ Second t
+Notes key k value did (First t' said) new =
+    (hash : RecordKey → ℕ) (seat : ℕ) (t : BucketView) (pool pool' : PoolState) (locks locks' : Table) →
+    IsFirstAt key k t said → MakesBucket deeds.Put seat value did t t' pool pool' locks locks' →
+    IsInsert key k new
+    × MakesInsert hash seat value did (record { key = key; pseudokey = k; stage = First t said })
+    (record { key = key; pseudokey = k; stage = new }) pool pool' locks locks'

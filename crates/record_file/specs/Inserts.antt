@@ -38,6 +38,11 @@ abbrev pub IsInsert : RecordKey → ℕ → InsertStage → Type 0
 IsInsert key k (First t said) = IsFirstAt key k t said
 IsInsert key k (Second t) = IsSecondAt key k t
 
+-- its first try, which has come to nothing yet
+pub record IsTry (b : BucketView) (i : InsertView) : Type 0 where
+  pub stage : i.stage ≡ First b None
+  pub first : IsFirstAt i.key i.pseudokey b None
+
 -- a value of so many bytes may be lent
 abbrev pub IsLent : ℕ → InsertStage → Type 0
 IsLent bytes (First t said) = ⊤

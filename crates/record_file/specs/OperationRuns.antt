@@ -10,8 +10,10 @@ use Rattle.record_file.specs.stale_search.declared.place.SearchPlace.{SearchPlac
 use Rattle.record_file.specs.stale_search.declared.place.SearchPlace.TheVariants.{Found}
 use Rattle.record_file.specs.step_rules.Runs.{MovesAlong, Stop, stop, stops_in}
 use Rattle.record_file.specs.step_rules.declared.kind.Kind.TheVariants as kinds
-use Rattle.record_file.specs.OperationWords.{RecordKey, PoolState, Table, Lock, Selective, Progress, RecordOperation, Find, Insert, Replace, Delete, store_of}
+use Rattle.record_file.specs.OperationWords.{BucketView, RecordKey, PoolState, Table, Lock, Selective, Progress, RecordOperation, Find, Insert, Replace, Delete, store_of}
 use Rattle.record_file.specs.Words.{on_page}
+use Rattle.record_file.specs.Deletes.{IsRemoval}
+use Rattle.record_file.specs.Inserts.{IsTry}
 use Rattle.record_file.specs.declared.insert.InsertStage.{InsertStage}
 use Rattle.record_file.specs.declared.insert.InsertStage.TheVariants.{First, Second}
 use Rattle.record_file.specs.OperationSteps.{MakesOperation}
@@ -56,6 +58,13 @@ operation_stops seat page found old = operation_way seat page found old
     ++ stop kinds.Release (at (operation_done page found old.machine) old.pool old.locks) ∷ []
 
 -- ---- a write
+
+-- the access within a bucket by which a write goes to its page
+abbrev pub IsBucketOf : BucketView → RecordOperation → Type 0
+IsBucketOf b (Find f) = ⊥
+IsBucketOf b (Insert i) = IsTry b i
+IsBucketOf b (Replace r) = r ≡ b
+IsBucketOf b (Delete d) = IsRemoval b d
 
 -- the page has no record of the key of an insert; of others this is not asked
 abbrev pub LacksKey : Option ℕ → RecordOperation → Type 0

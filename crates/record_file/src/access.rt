@@ -1,29 +1,28 @@
 //! The access.
 
-ghost use Rattle.std.specs.Prelude.{◌≡◌, ◌≢◌, ◌≤◌, ◌↔◌, [], Option, None, Some, not, true, false, length};
-ghost use Rattle.queue_records.specs.declared.layout.TheConstants.{MAX_VALUE_BYTES};
+ghost use Rattle.std.specs.Prelude.{◌≡◌, ◌≢◌, ◌↔◌, [], Option, None, Some, not, true, false, length};
 ghost use Rattle.queue_records.specs.Range.{IsInRange};
 ghost use Rattle.xsi_inquiry.specs.Writing.{HasRange};
-ghost use Rattle.record_file.specs.AccessWords.{HasEnded, IsReady, IsSeat, EndsRow, Look, MayBeLent, Moved, Record, RecordKey, Write, operation_found, operation_key, row_of};
+ghost use Rattle.record_file.specs.AccessWords.{HasEnded, IsReady, IsSeat, EndsRow, Look, MayBeLent, Moved, Record, RecordKey, Write, operation_key, row_of};
 ghost use Rattle.record_file.specs.Purposes.{ToFind, ToInsert, ToWrite, is_write};
 ghost use Rattle.record_file.specs.Accesses.{Allows, HasFound, Serves, access_answer, access_locks, begun, has_no_room};
 ghost use Rattle.record_file.specs.AccessSteps.{MakesAccess, Settles};
-ghost use Rattle.record_file.specs.Readings.{IsReplace, Takes};
+ghost use Rattle.record_file.specs.Readings.{Takes};
 
 mod ahead;
 
 use crate::bucket_access::Deed;
 use crate::fitting::links_fit;
+use crate::insert::InsertStage;
 use crate::operation::RecordOperation;
-use crate::reading::{read_front, read_value};
 use crate::step_rules::{Kind, Progress};
 use crate::tried::Tried;
 use bucket_page::{PseudoKey, RecordKey};
-use file_pages::FileFault;
 use file_pages::buffer_pool::Pool;
+use file_pages::{FileFault, copy_value};
 use page_device::PageDevice;
 use page_locks::LockTable;
-use queue_records::{Links, MAX_VALUE_BYTES, MESSAGE_BYTES, Record, Value, counter_key};
+use queue_records::{Links, MAX_VALUE_BYTES, MESSAGE_BYTES, Record, Value, counter_key, relink};
 use std::marker::Model;
 use std::mem::size_of;
 use xsi_inquiry::Write;
@@ -206,8 +205,8 @@ impl Access {
         self.operation.has_ended()
     }
 
-    /// One step of its operation, by the machine of its kind; where a page answers by it, that page
-    /// is read. It stands in whoever steps the access, which would else wait for what it tells to
+    /// One step of its operation, by the machine that is under way; where a page answers by it, that
+    /// page is read. It stands in whoever steps the access, which would else wait for what it tells to
     /// pass through memory.
     #[inline(always)]
     pub fn step<D: PageDevice, K: PseudoKey>(
@@ -229,18 +228,34 @@ impl Access {
                 let did = find.step(Deed::Find, pool, locks, seat, self.value.as_slice());
                 self.settle(answered, did, pool)
             }
-            RecordOperation::Insert(insert) => {
-                let did = insert.step(pool, locks, keys, seat, self.value.as_slice());
-                self.settle(answered, did, pool)
-            }
+            RecordOperation::Insert(insert) => match &mut insert.stage {
+                InsertStage::First(first, _) => {
+                    let value = self.value.as_slice();
+                    let did = first.step(Deed::Put, pool, locks, seat, value);
+                    insert.stage.note(did, insert.key, insert.pseudokey, value);
+                    self.settle(answered, did, pool)
+                }
+                InsertStage::Second(second) => {
+                    let did = second.step(pool, locks, keys, seat, self.value.as_slice());
+                    self.settle(answered, did, pool)
+                }
+            },
             RecordOperation::Replace(replace) => {
                 let did = replace.step(Deed::Replace, pool, locks, seat, self.value.as_slice());
                 self.settle(answered, did, pool)
             }
-            RecordOperation::Delete(delete) => {
-                let did = delete.step(pool, locks, seat);
-                self.settle(answered, did, pool)
-            }
+            RecordOperation::Delete(delete) => match delete.removal.ended() {
+                None => {
+                    let bytes = self.value.as_slice();
+                    let did = delete.removal.step(Deed::Remove, pool, locks, seat, bytes);
+                    self.settle(answered, did, pool)
+                }
+                Some(true) => {
+                    let did = delete.merge.step(pool, locks, seat);
+                    self.settle(answered, did, pool)
+                }
+                Some(false) => self.settle(answered, Progress::Ended, pool),
+            },
         }
     }
 
@@ -272,8 +287,10 @@ impl Access {
         }
     }
 
-    /// Takes from the page that answered what the access is for, where one did. What does not suit
-    /// it is refused.
+    /// Takes from the page that answered what the access is for, where one did: the value that a
+    /// find has found, the front of the value that links are set in. What does not suit it is
+    /// refused. It stands apart, since each step of an access would make room for a value.
+    #[inline(never)]
     fn take<D: PageDevice>(&mut self, pool: &mut Pool<D>) -> Result<(), FileFault>
         requires ready { IsReady pool.old }
         ensures { Takes result pool.old pool.new self.old self.new }
@@ -282,13 +299,39 @@ impl Access {
             return Ok(());
         };
         match &self.operation {
-            RecordOperation::Find(_) => match found {
-                None => Ok(()),
-                Some(len) => self.take_value(pool, page, len),
-            },
+            RecordOperation::Find(_) => {
+                let Some(len) = found else {
+                    return Ok(());
+                };
+                let mut room = [0; MAX_VALUE_BYTES];
+                let copied = copy_value(pool, page, &self.key, &mut room)?;
+                if copied != Some(len) {
+                    return Err(FileFault::Failed);
+                }
+                if len > MAX_VALUE_BYTES {
+                    return Err(FileFault::Failed);
+                }
+                if Record::decode(&self.key, &room[..len]).is_err() {
+                    return Err(FileFault::Failed);
+                }
+                self.value.set(&room[..len]);
+                Ok(())
+            }
             RecordOperation::Insert(_) => Ok(()),
             RecordOperation::Replace(_) => match (self.links, found) {
-                (Some(links), Some(len)) => self.take_front(pool, page, len, &links),
+                (Some(links), Some(len)) => {
+                    let bytes = links.front_bytes();
+                    if len < bytes {
+                        return Err(FileFault::Failed);
+                    }
+                    let mut front = [0; MESSAGE_BYTES];
+                    let Some(_) = copy_value(pool, page, &self.key, &mut front)? else {
+                        return Err(FileFault::Failed);
+                    };
+                    relink(&mut front[..bytes], &links);
+                    self.value.set(&front[..bytes]);
+                    Ok(())
+                }
                 (None, Some(len)) if len == self.value.as_slice().len() => Ok(()),
                 _ => Err(FileFault::Failed),
             },
@@ -299,46 +342,6 @@ impl Access {
                 Ok(())
             }
         }
-    }
-
-    /// Takes the value that a find has found.
-    fn take_value<D: PageDevice>(
-        &mut self,
-        pool: &mut Pool<D>,
-        page: u32,
-        len: usize,
-    ) -> Result<(), FileFault>
-        requires ready { IsReady pool.old }
-        requires finds { access_answer self.old ≡ Some (page, Some len) }
-        ensures { Takes result pool.old pool.new self.old self.new }
-    {
-        let mut room = [0; MAX_VALUE_BYTES];
-        read_value(pool, page, &self.key, len, &mut room)?;
-        self.value.set(&room[..len]);
-        Ok(())
-    }
-
-    /// Takes the front of the value that links are set in, where it is long enough.
-    fn take_front<D: PageDevice>(
-        &mut self,
-        pool: &mut Pool<D>,
-        page: u32,
-        len: usize,
-        links: &Links,
-    ) -> Result<(), FileFault>
-        requires ready { IsReady pool.old }
-        requires answered { operation_found self.old.operation ≡ Some (page, Some len) }
-        requires replaces { IsReplace self.old.operation }
-        requires links { self.old.links ≡ Some links.now }
-        ensures { Takes result pool.old pool.new self.old self.new }
-    {
-        if len < links.front_bytes() {
-            return Err(FileFault::Failed);
-        }
-        let mut front = [0; MESSAGE_BYTES];
-        let bytes = read_front(pool, page, &self.key, links, &mut front)?;
-        self.value.set(&front[..bytes]);
-        Ok(())
     }
 }
 

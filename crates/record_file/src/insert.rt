@@ -1,23 +1,17 @@
 //! A record that is inserted.
 
-ghost use Rattle.std.specs.Prelude.{◌≡◌, ◌↔◌, IfSome, IsSome, None, true, length};
-ghost use Rattle.split_merge.specs.stale_search.SearchRuns.{HasNoLock};
+ghost use Rattle.std.specs.Prelude.{◌≡◌, ◌↔◌, IfSome, IsSome, None, true};
 ghost use Rattle.split_merge.specs.stale_search.declared.place.SearchPlace.{SearchPlace};
 ghost use Rattle.record_file.specs.declared.bucket_access.Deed.{Deed};
-ghost use Rattle.record_file.specs.declared.operation.RecordOperation.{RecordOperation};
 ghost use Rattle.record_file.specs.BucketAccesses.{begun_access};
-ghost use Rattle.record_file.specs.InsertWords.{IsReady, IsSeat, row_of, EndsRow};
-ghost use Rattle.record_file.specs.Inserts.{IsLent, IsOver, insert_locks, is_there, said_of};
-ghost use Rattle.record_file.specs.InsertSteps.{MakesInsert};
-ghost use Rattle.record_file.specs.OperationRuns.{OperationHeads, stage_at};
+ghost use Rattle.record_file.specs.Inserts.{IsOver, IsTry, is_there, said_of};
+ghost use Rattle.record_file.specs.InsertSteps.{Notes};
+ghost use Rattle.record_file.specs.OperationRuns.{stage_at};
 
 use crate::bucket_access::{BucketAccess, Deed};
 use crate::second_try::SecondTry;
 use crate::tried::Tried;
-use bucket_page::{PseudoKey, RecordKey};
-use page_device::PageDevice;
-use page_locks::LockTable;
-use split_merge::buffer_pool::Pool;
+use bucket_page::RecordKey;
 use split_merge::file_pages::FileFault;
 use std::marker::Model;
 use std::mem::size_of;
@@ -32,13 +26,41 @@ pub enum InsertStage {
     Second(SecondTry),
 }
 
+impl InsertStage {
+    /// Notes what a first try at this key has come to by its step. Where it gave up the second one
+    /// begins, which is to put this value, and tells itself what it comes to.
+    pub fn note(&mut self, did: Progress<FileFault>, key: RecordKey, pseudokey: u32, value: &[u8])
+        ensures { Notes key pseudokey value.now did self.old self.new }
+    {
+        let InsertStage::First(first, said) = self else {
+            return;
+        };
+        if said.is_some() {
+            return;
+        }
+        if let Progress::Moved(Kind::WriteRecord) = did {
+            *said = Some(Tried::IsPut);
+            return;
+        }
+        if is_there(first.found()) {
+            *said = Some(Tried::IsThere);
+            return;
+        }
+        if !first.has_ended() {
+            return;
+        }
+        *self = InsertStage::Second(SecondTry::new(key, pseudokey, value.len()));
+    }
+}
+
 /// A record that is inserted: a first try, which locks its bucket alone, and a second one where the
-/// first gave up, which may split the bucket. Where the key has a record nothing is written.
+/// first gave up, which may split the bucket. Where the key has a record nothing is written. Who
+/// drives it steps its try, and notes behind each step of the first what that came to.
 #[derive(Drop)]
 pub struct Insert {
-    key: RecordKey,
-    pseudokey: u32,
-    stage: InsertStage,
+    pub key: RecordKey,
+    pub pseudokey: u32,
+    pub stage: InsertStage,
 }
 
 const _: () = prove!(size_of::<Insert>() <= 300);
@@ -90,71 +112,14 @@ impl Insert {
         }
     }
 
-    /// One step, by the try. The value that is to be put is lent to it, in the second try one as
-    /// long as at the end of the first.
-    pub fn step<D: PageDevice, K: PseudoKey>(
-        &mut self,
-        pool: &mut Pool<D>,
-        locks: &mut LockTable,
-        keys: &K,
-        seat: u8,
-        value: &[u8],
-    ) -> Progress<FileFault>
-        requires seat { IsSeat locks.old seat }
-        requires ready { IsReady pool.old }
-        requires row { EndsRow (insert_locks self.old) 3 (row_of locks.old seat) }
-        requires lent { IsLent (length value.now) self.old.stage }
-        ensures { MakesInsert (K.of_key keys.now) seat value.now result self.old self.new
-            pool.old pool.new locks.old locks.new }
+    /// Its first try, until that has come to something.
+    pub fn first_try(&self) -> Option<&BucketAccess>
+        ensures { IfSome result (λ first. IsTry first.now self.now) }
     {
-        match &mut self.stage {
-            InsertStage::First(first, said) => {
-                let did = first.step(Deed::Put, pool, locks, seat, value);
-                if said.is_some() {
-                    return did;
-                }
-                if let Progress::Moved(Kind::WriteRecord) = did {
-                    *said = Some(Tried::IsPut);
-                    return did;
-                }
-                if is_there(first.found()) {
-                    *said = Some(Tried::IsThere);
-                    return did;
-                }
-                if first.has_ended() {
-                    let second = SecondTry::new(self.key, self.pseudokey, value.len());
-                    self.stage = InsertStage::Second(second);
-                    return did;
-                }
-                did
-            }
-            InsertStage::Second(second) => second.step(pool, locks, keys, seat, value),
+        match &self.stage {
+            InsertStage::First(first, None) => Some(first),
+            _ => None,
         }
-    }
-
-    /// The page to which a first try that has not begun goes straight, if that page has no record of
-    /// the key: whether it has one is not looked at. Nothing is done. A second try tells none.
-    pub fn heads_for<D: PageDevice>(
-        &self,
-        pool: &mut Pool<D>,
-        locks: &LockTable,
-        seat: u8,
-    ) -> Option<u32>
-        requires seat { IsSeat locks.now seat }
-        requires ready { IsReady pool.old }
-        requires row { EndsRow (insert_locks self.now) 3 (row_of locks.now seat) }
-        ensures pool { pool.new ≡ pool.old }
-        ensures bare { IsSome result → HasNoLock (insert_locks self.now) }
-        ensures heads { IfSome result (λ page.
-            OperationHeads seat page (RecordOperation.Insert self.now) pool.old locks.now) }
-    {
-        let InsertStage::First(first, said) = &self.stage else {
-            return None;
-        };
-        if said.is_some() {
-            return None;
-        }
-        first.heads_for(pool, locks, seat)
     }
 
     /// A page that has no record of the key has answered its first try.

@@ -1,20 +1,15 @@
 //! The operation.
 
-ghost use Rattle.std.specs.Prelude.{◌≡◌, ◌↔◌, ℕ, true, IfSome, IsSome};
-ghost use Rattle.record_file.specs.stale_search.SearchRuns.{HasNoLock};
+ghost use Rattle.std.specs.Prelude.{◌≡◌, ◌↔◌, true, IfSome};
 ghost use Rattle.record_file.specs.stale_search.declared.place.SearchPlace.{SearchPlace};
-ghost use Rattle.record_file.specs.OperationWords.{IsReady, IsSeat, row_of, EndsRow};
-ghost use Rattle.record_file.specs.Operations.{FoundAtEnd, HasEnded, MayBeLent, TriedAtEnd, begun_delete, begun_find, begun_insert, begun_replace, operation_found, operation_locks, operation_tried};
-ghost use Rattle.record_file.specs.OperationRuns.{LacksKey, OperationHeads, operation_at};
+ghost use Rattle.record_file.specs.Operations.{FoundAtEnd, HasEnded, TriedAtEnd, begun_delete, begun_find, begun_insert, begun_replace, operation_found, operation_tried};
+ghost use Rattle.record_file.specs.OperationRuns.{IsBucketOf, LacksKey, operation_at};
 
 use crate::bucket_access::{BucketAccess, Deed};
-use crate::buffer_pool::Pool;
 use crate::delete::Delete;
 use crate::insert::Insert;
 use crate::tried::Tried;
 use bucket_page::RecordKey;
-use page_device::PageDevice;
-use page_locks::LockTable;
 use std::mem::size_of;
 
 /// One operation on the record of one key.
@@ -100,29 +95,17 @@ impl RecordOperation {
         }
     }
 
-    /// The page to which a write that has not begun goes straight, an insert if that page has no
-    /// record of the key, which is not looked at. Nothing is done. A find tells none, nor does an
-    /// insert in its second try.
-    pub fn heads_for<D: PageDevice>(
-        &self,
-        pool: &mut Pool<D>,
-        locks: &LockTable,
-        seat: u8,
-    ) -> Option<u32>
-        requires seat { IsSeat locks.now seat }
-        requires ready { IsReady pool.old }
-        requires row { EndsRow (operation_locks self.now) 3 (row_of locks.now seat) }
-        requires lent { (bytes : ℕ) × MayBeLent bytes self.now }
-        ensures pool { pool.new ≡ pool.old }
-        ensures bare { IsSome result → HasNoLock (operation_locks self.now) }
-        ensures heads { IfSome result (λ page.
-            OperationHeads seat page self.now pool.old locks.now) }
+    /// The access within a bucket by which a write goes to its page: of an insert the first try,
+    /// until that has come to something, of a delete the removal, until that has ended. A find has
+    /// none.
+    pub fn bucket(&self) -> Option<&BucketAccess>
+        ensures { IfSome result (λ bucket. IsBucketOf bucket.now self.now) }
     {
         match self {
             RecordOperation::Find(_) => None,
-            RecordOperation::Insert(insert) => insert.heads_for(pool, locks, seat),
-            RecordOperation::Replace(replace) => replace.heads_for(pool, locks, seat),
-            RecordOperation::Delete(delete) => delete.heads_for(pool, locks, seat),
+            RecordOperation::Insert(insert) => insert.first_try(),
+            RecordOperation::Replace(replace) => Some(replace),
+            RecordOperation::Delete(delete) => delete.removing(),
         }
     }
 

@@ -34,7 +34,10 @@ impl Access {
             ReachesAtOnce seat self.old self.new pool.old locks.old locks.new }
         ensures spares { result ≡ false → (self.new ≡ self.old) × (locks.new ≡ locks.old) }
     {
-        let Some(page) = self.operation.heads_for(pool, locks, seat) else {
+        let Some(bucket) = self.operation.bucket() else {
+            return false;
+        };
+        let Some(page) = bucket.heads_for(pool, locks, seat) else {
             return false;
         };
         let Grant::Granted = locks.try_grant(seat, LockName::Page(page), LockKind::Selective) else {
@@ -52,7 +55,8 @@ impl Access {
     /// written there. Of the key, the length of the value there is told.
     fn take_ahead<D: PageDevice>(&mut self, pool: &Pool<D>, page: u32) -> Option<Option<usize>>
         requires ready { IsReady pool.now }
-        ensures stands { IfSome result (λ found. HoldsLength page found self.old.operation pool.now) }
+        ensures stands { IfSome result (λ found.
+            HoldsLength page found self.old.operation pool.now) }
         ensures lacks { IfSome result (λ found. LacksKey found self.old.operation) }
         ensures made { IfSome result (λ found.
             TakesAhead page found pool.now self.old self.new) }
