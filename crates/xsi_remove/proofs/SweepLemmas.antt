@@ -1,5 +1,5 @@
 -- A step of the sweep is one of its access, behind which what follows may have begun.
-use Rattle.std.proofs.Common.{◌≡◌, refl, sym, ap, ◌∙◌, subst, ℕ, ◌+◌, ◌*◌, ◌≤◌, true, false, List, Option, Some, None, Err, inl, inr, arith}
+use Rattle.std.proofs.Common.{◌≡◌, refl, sym, ap, ◌∙◌, subst, ℕ, ◌+◌, ◌*◌, ◌≤◌, true, false, List, Option, Some, None, IsOk, IsErr, Result, Err, inl, inr, arith}
 use Rattle.std.proofs.lemmas.Bool.{true≢false}
 use Rattle.file_pages.specs.declared.fault.FileFault.{FileFault}
 use Rattle.file_pages.specs.declared.fault.FileFault.TheVariants.{Failed}
@@ -8,6 +8,7 @@ use Rattle.record_file.specs.AccessSteps.{MakesAccess, Rests as RestsAccess}
 use Rattle.xsi_remove.proofs.FreshLemmas.{IsFresh, same_in, fresh_led, no_more, nears_with, nears_next, failed_cause, faulted, over_none, fine_of}
 use Rattle.xsi_remove.proofs.DeedLemmas.{IsDriven, driven, faced, hears_well, stepped, tells}
 use Rattle.record_file.proofs.OperationLemmas.{asks_no_write, ended_free, find_writes_none, removes_its}
+use Rattle.xsi_remove.proofs.HearLemmas.{Mishears, StepsHearing, steps_deaf, steps_heard}
 use Rattle.xsi_remove.proofs.LeftLemmas.{swept_key}
 use Rattle.xsi_remove.proofs.NextLemmas.{Follows, follows}
 use Rattle.xsi_remove.specs.declared.work.Deed.{Deed}
@@ -19,12 +20,12 @@ use Rattle.step_rules.specs.Searching.{WalksTo}
 use Rattle.xsi_remove.specs.Deeds.{behind, message_of, next_of, purpose_of}
 use Rattle.xsi_remove.specs.Sweeps.{Faces, IsSweeping, deeds_left, records_left, sweep_left, TURN_STEPS}
 use Rattle.xsi_remove.specs.SweepSteps.{MakesSweep, Rests, SweepsAway}
-use Rattle.xsi_remove.specs.Works.{Drives, DrivesOn, LeadsOn, Mishears, heard_with, is_move}
+use Rattle.xsi_remove.specs.Works.{Hears, LeadsOn, heard_with, is_move}
 use Rattle.xsi_remove.specs.Words.{RecordKey, PoolState, Table, Lock, Change, store_of, Progress, Moved, Blocked, Fault, Ended, Look, is_fault, HasEnded, NearsOrSpares, Step, world, Delete, ToFind, ToWrite, aimed_at, is_write, AccessView, Serves, access_answer, access_facts, access_left, access_turn, Queue, State, is_swept, MessageRead, Remove, key_of_type}
 
 module _ (hash : RecordKey → ℕ) (seat : ℕ) (did : Progress FileFault) (w w' : Work) (pool pool' : PoolState)
     (locks locks' : Table) where
-  module _ (on : DrivesOn hash seat did w w' pool pool' locks locks') where
+  module _ (on : StepsHearing hash seat did w w' pool pool' locks locks') where
     e : MakesAccess hash seat did w.access w'.access pool pool' locks locks'
     e = on.makes
 
@@ -260,61 +261,65 @@ module _ (hash : RecordKey → ℕ) (seat : ℕ) (did : Progress FileFault) (w w
   -- ---- it heard of no Message
 
   makes_deaf : Mishears hash seat did w w' pool pool' locks locks' →
-      MakesSweep hash seat did (Some w) (Some w') pool pool' locks locks'
-  makes_deaf deaf =
-      subst (λ (d : Progress FileFault). MakesSweep hash seat d (Some w) (Some w') pool pool' locks locks')
-      (sym deaf.is) (record {
-        writes = faulted pool pool' deaf.makes.writes;
-        cause = failed_cause pool pool';
-        aim = record {
-          ended = (
-            λ is. absurd (true≢false (ap is_fault is)),
-            λ was. absurd (over_none (Moved Look) refl
-                (deaf.makes.aim.ended.1 was)),
-          );
-          rests = tt;
-          queue = λ id is. ap (λ (x : Work). x.turn.id) deaf.same ∙ is;
-          fewer = let turns = ap (λ (x : Work). x.turns) deaf.same in omega (arith, turns);
-        };
-        row = deaf.makes.row;
-        progress = λ held id count q s change f. absurd (hears_well hash seat (Moved Look) w w'.access pool
-            pool' locks locks' deaf.makes held id count q s change f refl refl deaf.unread deaf.cause);
-        step = λ held id count q s change f fine. absurd cc;
-        sweeps = λ held id count q s change f fine. absurd cc;
-        turns_away = λ held id count q s change f fine. absurd cc;
-      })
+      MakesSweep hash seat (Fault Failed) (Some w) (Some w') pool pool' locks locks'
+  makes_deaf deaf = record {
+    writes = faulted pool pool' deaf.makes.writes;
+    cause = failed_cause pool pool';
+    aim = record {
+      ended = (
+        λ is. absurd (true≢false (ap is_fault is)),
+        λ was. absurd (over_none did (ap is_move deaf.looked) (deaf.makes.aim.ended.1 was)),
+      );
+      rests = tt;
+      queue = λ id is. ap (λ (x : Work). x.turn.id) deaf.same ∙ is;
+      fewer = let turns = ap (λ (x : Work). x.turns) deaf.same in omega (arith, turns);
+    };
+    row = deaf.makes.row;
+    progress = λ held id count q s change f. absurd (hears_well hash seat did w w'.access pool pool' locks locks'
+        deaf.makes held id count q s change f (ap is_fault deaf.looked) deaf.looked deaf.unread deaf.cause);
+    step = λ held id count q s change f fine. absurd cc;
+    sweeps = λ held id count q s change f fine. absurd cc;
+    turns_away = λ held id count q s change f fine. absurd cc;
+  }
 
-  -- ---- as it was driven
+  -- ---- as the turn heard of it
 
-  module _ (v : Option Work) (is : v ≡ Some w) (drives : Drives hash seat did w w' pool pool' locks locks') where
-    pub makes_kept : (is_move did ≡ true → HasEnded w'.access.operation → ⊥) →
-        MakesSweep hash seat did v (Some w') pool pool' locks locks'
-    makes_kept going =
-        subst (λ (x : Option Work). MakesSweep hash seat did x (Some w') pool pool' locks locks') (sym is)
-        (elim drives [
-          | inl on ↦ makes_on on going
-          | inr deaf ↦ makes_deaf deaf
-        ])
+  module _ (v : Option Work) (is : v ≡ Some w) (a : AccessView)
+      (makes : MakesAccess hash seat did w.access a pool pool' locks locks') (with_it : Work)
+      (there : ◌≡◌ {A = Option Work} (Some (record w { access = a })) (Some with_it)) {X E : Type 0}
+      (result : Result X E) (hears : Hears did result with_it w') where
+    hears_it : Hears did result (record w { access = a }) w'
+    hears_it = subst (λ (x : Work). Hears did result x w') (sym (same_in (record w { access = a }) with_it there)) hears
 
-    module _ (moved : is_move did ≡ true) (over : HasEnded w'.access.operation) (answered : (key : RecordKey) →
-        Serves (ToFind key) w'.access → access_answer w'.access ≡ None → ⊥) where
-      heard : DrivesOn hash seat did w w' pool pool' locks locks'
-      heard = elim drives [
-        | inl on ↦ on
-        | inr deaf ↦ absurd (true≢false (sym moved ∙ ap is_move deaf.is))
-      ]
+    pub makes_misheard : IsErr result → MakesSweep hash seat (Fault Failed) v (Some w') pool pool' locks locks'
+    makes_misheard err =
+        subst (λ (x : Option Work). MakesSweep hash seat (Fault Failed) x (Some w') pool pool' locks locks') (sym is)
+        (makes_deaf (steps_deaf hash seat did w w' a pool pool' locks locks' makes result hears_it err))
 
-      pub makes_led : (next : Option Work) → next_of hash w' ≡ Some next →
-          MakesSweep hash seat did v next pool pool' locks locks'
-      makes_led next leads =
-          subst (λ (x : Option Work). MakesSweep hash seat did x next pool pool' locks locks') (sym is)
-          (makes_next heard moved over answered next leads)
+    module _ (ok : IsOk result) where
+      heard : StepsHearing hash seat did w w' pool pool' locks locks'
+      heard = steps_heard hash seat did w w' a pool pool' locks locks' makes result hears_it ok
 
-      pub makes_failed : (w'' : Work) (fault : FileFault) → LeadsOn (Err fault) (next_of hash w') w' w'' →
-          MakesSweep hash seat (Fault fault) v (Some w'') pool pool' locks locks'
-      makes_failed w'' fault leads =
-          subst (λ (x : Option Work). MakesSweep hash seat (Fault fault) x (Some w'') pool pool' locks locks') (sym is)
-          (subst (λ (x : FileFault). MakesSweep hash seat (Fault x) (Some w) (Some w'') pool pool' locks locks')
-          (sym leads.2)
-          (subst (λ (x : Work). MakesSweep hash seat (Fault Failed) (Some w) (Some x) pool pool' locks locks')
-          (sym leads.1) (makes_stop heard moved over answered leads.0)))
+      pub makes_kept : (is_move did ≡ true → HasEnded w'.access.operation → ⊥) →
+          MakesSweep hash seat did v (Some w') pool pool' locks locks'
+      makes_kept going =
+          subst (λ (x : Option Work). MakesSweep hash seat did x (Some w') pool pool' locks locks') (sym is)
+          (makes_on heard going)
+
+      module _ (moved : is_move did ≡ true) (over : HasEnded w'.access.operation) (answered : (key : RecordKey) →
+          Serves (ToFind key) w'.access → access_answer w'.access ≡ None → ⊥) where
+        pub makes_led : (next : Option Work) → next_of hash w' ≡ Some next →
+            MakesSweep hash seat did v next pool pool' locks locks'
+        makes_led next leads =
+            subst (λ (x : Option Work). MakesSweep hash seat did x next pool pool' locks locks') (sym is)
+            (makes_next heard moved over answered next leads)
+
+        pub makes_failed : (w'' : Work) (fault : FileFault) → LeadsOn (Err fault) (next_of hash w') w' w'' →
+            MakesSweep hash seat (Fault fault) v (Some w'') pool pool' locks locks'
+        makes_failed w'' fault leads =
+            subst (λ (x : Option Work). MakesSweep hash seat (Fault fault) x (Some w'') pool pool' locks locks')
+            (sym is)
+            (subst (λ (x : FileFault). MakesSweep hash seat (Fault x) (Some w) (Some w'') pool pool' locks locks')
+            (sym leads.2)
+            (subst (λ (x : Work). MakesSweep hash seat (Fault Failed) (Some w) (Some x) pool pool' locks locks')
+            (sym leads.1) (makes_stop heard moved over answered leads.0)))

@@ -1,12 +1,11 @@
 -- What the parts of a step do to a turn under way. docs/STEPS.md, "Remove".
-use Rattle.std.specs.Prelude.{ℕ, ◌≡◌, ◌≢◌, ◌⊎◌, Bool, true, false, Option, Some, None, IsSome, IsErr, IsOk, Result, Ok, Err}
+use Rattle.std.specs.Prelude.{◌≡◌, ◌≢◌, Bool, true, false, Option, Some, None, IsSome, IsErr, IsOk, Result, Ok, Err}
 use Rattle.file_pages.specs.declared.fault.FileFault.{FileFault}
 use Rattle.file_pages.specs.declared.fault.FileFault.TheVariants.{Failed}
 use Rattle.queue_records.specs.declared.message_entry.MessageEntry.{MessageEntry}
 use Rattle.queue_records.specs.declared.record.Record.TheVariants as records
-use Rattle.record_file.specs.AccessSteps.{MakesAccess}
 use Rattle.xsi_remove.specs.declared.work.Work.{Work}
-use Rattle.xsi_remove.specs.Words.{RecordKey, PoolState, Table, Progress, Moved, Fault, Look, AccessView, HasFound, access_answer, MessageRead, read_of}
+use Rattle.xsi_remove.specs.Words.{Progress, Moved, Look, AccessView, HasFound, access_answer, MessageRead, read_of}
 
 -- the same turn with this access, of whose Message this was read
 abbrev pub heard_with : Option MessageRead → AccessView → Work → Work
@@ -25,33 +24,12 @@ pub record IsNoMessage (a : AccessView) : Type 0 where
   pub answered : access_answer a ≢ None
   pub other : (m : MessageEntry) → HasFound a (Some (records.Message m)) → ⊥
 
--- the turn is told what its access has found, or that is no Message
-pub record Hears {X E : Type 0} (result : Result X E) (old new : Work) : Type 0 where
+-- the turn is told what its access has found by a step, or that is no Message
+pub record Hears {X E : Type 0} (did : Progress FileFault) (result : Result X E) (old new : Work) : Type 0 where
   pub same : new ≡ heard_with new.turn.read old.access old
-  pub hears : IsOk result → HearsBy {F = FileFault} (Moved Look) old.access old.turn.read new.turn.read
-  pub err : IsErr result → (new ≡ old) × (old.turn.read ≡ None)
+  pub hears : IsOk result → HearsBy did old.access old.turn.read new.turn.read
+  pub err : IsErr result → (did ≡ Moved Look) × (new ≡ old) × (old.turn.read ≡ None)
   pub cause : IsErr result → IsNoMessage old.access
-
--- a step of its access, and what the turn heard by it
-pub record DrivesOn (hash : RecordKey → ℕ) (seat : ℕ) (did : Progress FileFault) (old new : Work)
-    (pool pool' : PoolState) (locks locks' : Table) : Type 0 where
-  pub makes : MakesAccess hash seat did old.access new.access pool pool' locks locks'
-  pub same : new ≡ heard_with new.turn.read new.access old
-  pub hears : HearsBy did new.access old.turn.read new.turn.read
-
--- or by which it heard of no Message
-pub record Mishears (hash : RecordKey → ℕ) (seat : ℕ) (did : Progress FileFault) (old new : Work)
-    (pool pool' : PoolState) (locks locks' : Table) : Type 0 where
-  pub makes : MakesAccess hash seat (Moved Look) old.access new.access pool pool' locks locks'
-  pub same : new ≡ heard_with old.turn.read new.access old
-  pub unread : old.turn.read ≡ None
-  pub is : did ≡ Fault Failed
-  pub cause : IsNoMessage new.access
-
-abbrev pub Drives : (RecordKey → ℕ) → ℕ → Progress FileFault → (old new : Work) → (pool pool' : PoolState) →
-    (locks locks' : Table) → Type 0
-Drives hash seat did old new pool pool' locks locks' =
-    DrivesOn hash seat did old new pool pool' locks locks' ⊎ Mishears hash seat did old new pool pool' locks locks'
 
 -- what follows is under way, or there is nothing left, or none can be so
 abbrev pub LeadsOn : Result Bool FileFault → Option (Option Work) → (old new : Work) → Type 0

@@ -61,7 +61,8 @@ impl SweepTurns {
         }
     }
 
-    /// One step of its access, behind which what follows is begun where that has ended.
+    /// One step of its access, of which the turn hears, and behind which what follows is begun
+    /// where that has ended.
     pub fn step<D: PageDevice, K: PseudoKey>(
         &mut self,
         pool: &mut Pool<D>,
@@ -75,10 +76,18 @@ impl SweepTurns {
         ensures { MakesSweep (K.of_key keys.now) seat result self.old self.new
             pool.old pool.new locks.old locks.new }
     {
-        let Some(work) = &mut self.work else {
+        let Some(Work { access, .. }) = &mut self.work else {
             return Progress::Ended;
         };
-        let did = work.drive(pool, locks, keys, seat);
+        let did = access.step(pool, locks, keys, seat);
+        // The pattern lends the access alone: of a field that is lent through a reference to the
+        // turn, what the step makes of it would not be known here.
+        let Some(work) = &mut self.work else {
+            unreachable!();
+        };
+        let Ok(()) = work.hear(did) else {
+            return Progress::Fault(FileFault::Failed);
+        };
         if !is_move(did) {
             return did;
         }

@@ -3,15 +3,12 @@
 ghost use Rattle.std.specs.Prelude.{◌≡◌, ◌≢◌, ◌↔◌, None, Ok, Some, true};
 ghost use Rattle.queue_records.specs.declared.message_entry.MessageEntry.{MessageEntry};
 ghost use Rattle.queue_records.specs.declared.record.Record.TheVariants as records;
-ghost use Rattle.xsi_remove.specs.Words.{Delete, EndsRow, HasEnded, HasFound, IsReady, IsSeat, Look, Moved, RecordKey, Serves, ToFind, ToWrite, access_answer, access_locks, aimed_at, begun, read_of, row_of, turn_next};
+ghost use Rattle.xsi_remove.specs.Words.{Delete, HasEnded, HasFound, Look, Moved, RecordKey, Serves, ToFind, ToWrite, access_answer, aimed_at, begun, read_of, turn_next};
 ghost use Rattle.xsi_remove.specs.Deeds.{behind, behind_message, begun_work, last_type, next_of, purpose_of, turn_behind, with_deed};
-ghost use Rattle.xsi_remove.specs.Works.{Drives, Hears, LeadsOn};
+ghost use Rattle.xsi_remove.specs.Works.{Hears, LeadsOn};
 
 use bucket_page::{PseudoKey, RecordKey};
-use buffer_pool::Pool;
 use file_pages::FileFault;
-use page_device::PageDevice;
-use page_locks::LockTable;
 use queue_records::{message_key, type_key};
 use record_file::Access;
 use step_rules::{Kind, Progress};
@@ -46,7 +43,7 @@ pub(crate) struct Work {
     turn: Turn,
     deed: Deed,
     turns: u16,
-    access: Access,
+    pub(crate) access: Access,
 }
 
 impl Work {
@@ -72,34 +69,13 @@ impl Work {
         self.access.has_ended()
     }
 
-    /// One step of its access. The turn is told what a find has found in the step of the Look.
-    pub(crate) fn drive<D: PageDevice, K: PseudoKey>(
-        &mut self,
-        pool: &mut Pool<D>,
-        locks: &mut LockTable,
-        keys: &K,
-        seat: u8,
-    ) -> Progress<FileFault>
-        requires seat { IsSeat locks.old seat }
-        requires ready { IsReady pool.old }
-        requires row { EndsRow (access_locks self.old.access) 3 (row_of locks.old seat) }
-        ensures { Drives (K.of_key keys.now) seat result self.old self.new pool.old pool.new
-            locks.old locks.new }
+    /// Tells the turn what its find has found, once, where its access has looked at a page.
+    pub(crate) fn hear(&mut self, did: Progress<FileFault>) -> Result<(), NotASystem>
+        ensures { Hears did result self.old self.new }
     {
-        let did = self.access.step(pool, locks, keys, seat);
         if !is_look(did) {
-            return did;
+            return Ok(());
         }
-        match self.hear() {
-            Ok(()) => did,
-            Err(_) => Progress::Fault(FileFault::Failed),
-        }
-    }
-
-    /// Tells the turn what its find has found, once.
-    fn hear(&mut self) -> Result<(), NotASystem>
-        ensures { Hears result self.old self.new }
-    {
         if self.turn.read.is_some() {
             return Ok(());
         }
