@@ -1,5 +1,5 @@
 -- The first step of a question is one of the call.
-use Rattle.std.proofs.Common.{ℕ, ◌≡◌, ◌<◌, Bool, true, false, not, ◌||◌, ◌&&◌, List, [], Some, None, refl, sym, ap, ◌∙◌, subst}
+use Rattle.std.proofs.Common.{ℕ, ◌≡◌, ◌<◌, Bool, true, false, not, ◌||◌, ◌&&◌, List, [], Option, Some, None, refl, sym, ap, ◌∙◌, subst}
 use Rattle.std.proofs.lemmas.Bool.{true≢false}
 use Rattle.std.specs.Option.{is_some}
 use Rattle.file_pages.specs.declared.fault.FileFault.{FileFault}
@@ -7,10 +7,12 @@ use Rattle.xsi_calls.specs.declared.turn.NameTurn.{NameTurn}
 use Rattle.xsi_inquiry.proofs.AgreeLemmas.{agrees_itself}
 use Rattle.xsi_calls.proofs.HeldTurnLemmas.{turns_are_right, turns_come_nearer}
 use Rattle.xsi_calls.specs.declared.question.Question.{Question}
+use Rattle.xsi_calls.specs.declared.questions.Questions.{Questions}
 use Rattle.xsi_calls.specs.QuestionWords.{RecordKey, PoolState, Table, Lock, Change, Store, store_of, with_row, NearsOrSpares, Progress, Moved, Blocked, Fault, Ended, Step, ToFind, begun, AnyInquiry, asked_of, left_of, names_in, names_for, name_turn, names_left, Ready, Call, State, Roomful, Wanted}
 use Rattle.xsi_calls.specs.Answering.{IsAskedUnder, key_asked}
 use Rattle.xsi_calls.specs.Questions.{IsRightQuestion, QuestionsView, asks_more, changes, has_asked, is_ready, questions_facts, questions_left, questions_locks, turn_of_names}
-use Rattle.xsi_calls.specs.QuestionSteps.{Faces, MakesQuestions, Rests, is_blocked}
+use Rattle.xsi_calls.specs.QuestionSteps.{BeginsNext, Faces, MakesQuestions, Rests, is_blocked}
+use Rattle.xsi_calls.specs.Parts.{asked_with}
 use Rattle.xsi_calls.proofs.AskLemmas.{asks_under}
 use Rattle.xsi_calls.proofs.KnowLemmas.{may_read}
 use Rattle.xsi_calls.proofs.LeftLemmas.{asks_leave}
@@ -142,3 +144,40 @@ module _ (hash : RecordKey → ℕ) (seat : ℕ) (call : Call) (i : AnyInquiry) 
               made.aim.rests made');
           means = λ s change f fine. record { right = f.right; knows = f.knows; reads = refl };
         })
+
+-- ---- of the question that has begun in the room
+
+module _ (hash : RecordKey → ℕ) (seat : ℕ) (call : Call) (q q1 : Questions) (same : q1 ≡ q) (o : Option Question)
+    (none : o ≡ None) (question : Option Question) (next : BeginsNext hash call (asked_with q None) question)
+    (locks locks1 : Table) (kept : locks1 ≡ locks) where
+  module _ (did : Progress FileFault) (new : Questions) (question' : Option Question) (pool pool' : PoolState)
+      (locks' : Table) (made : MakesQuestions hash seat call did (asked_with q1 question) (asked_with new question')
+      pool pool' locks1 locks') where
+    abbrev Makes : Questions → Option Question → Option Question → Table → Type 0
+    Makes x o' o2 t =
+        MakesQuestions hash seat call did (asked_with x o') (asked_with new o2) pool pool' t locks'
+
+    abbrev first : Option Question
+    first = Some (record {
+      access = begun (ToFind (key_asked next.wanted)) (hash (key_asked next.wanted));
+      told = false;
+    })
+
+    made_first : Makes q first question' locks
+    made_first =
+        subst (λ (t : Table). Makes q first question' t) kept
+        (subst (λ (x : Questions). Makes x first question' locks1) same
+        (subst (λ (o' : Option Question). Makes q1 o' question' locks1) next.begins made))
+
+    pub makes_next : is_blocked did ≡ false → Makes q o question' locks
+    makes_next free =
+        subst (λ (o' : Option Question). Makes q o' question' locks) (sym none)
+        (first_step hash seat call q.inquiry q.room q.names q.finds next.wanted next.asked next.names
+        (hash (key_asked next.wanted)) refl pool locks did (asked_with new question') pool' locks' made_first free)
+
+    -- where another seat stood in the way none is under way
+    pub leaves_next : is_blocked did ≡ true → Makes q o None locks
+    leaves_next blocked =
+        subst (λ (o' : Option Question). Makes q o' None locks) (sym none)
+        (not_begun hash seat call q.inquiry q.room q.names q.finds next.wanted next.asked next.names
+        (hash (key_asked next.wanted)) refl pool locks did (asked_with new question') pool' locks' made_first blocked)

@@ -2,7 +2,7 @@
 use Rattle.std.proofs.Common.{ℕ, zero, suc, ◌≡◌, ◌+◌, ◌<◌, ◌≤◌, ◌&&◌, Bool, true, false, List, [], ◌∷◌, ◌++◌, Option, Some, None, drop, length, refl, sym, ap, ◌∙◌, arith, slice_index_or}
 use Rattle.std.proofs.lemmas.List.{append_assoc, append-nil, length_push}
 use Rattle.std.proofs.Math.Seq.{drop-length}
-use Rattle.std.specs.Prelude.{slice_get, if◌then◌else◌}
+use Rattle.std.specs.Prelude.{IfSome, slice_get, if◌then◌else◌}
 use Rattle.page_locks.specs.declared.lock.Lock.{Lock}
 use Rattle.page_locks.specs.declared.lock.LockKind.{LockKind}
 use Rattle.page_locks.specs.declared.lock.LockKind.TheVariants.{Read, Selective, Exclusive}
@@ -70,6 +70,16 @@ pub ends_in : (self held goal : List Lock) (i : ℕ) → held ≡ self → i ≡
     name_turn (drop i self) (drop i goal) ≡ name_turn [] (drop (length held) goal)
 ends_in self held goal i is end =
     rw (← is, end) (ap (λ xs. name_turn xs (drop (length held) goal)) (drop-length held))
+
+-- exactly the one that is needed is held
+pub is_alone : (self held goal : List Lock) (d : Lock) (found : Option Lock) → held ≡ self → length held ≡ 1 →
+    IfSome found (λ lock. goal ≡ lock ∷ []) → is_there found (slice_index_or held 0 d) ≡ true →
+    name_turn self goal ≡ Ready
+is_alone self [] goal d found is one only there = absurd (omega (arith, one))
+is_alone self (x ∷ y ∷ held) goal d found is one only there = absurd (omega (arith, one))
+is_alone self (x ∷ []) goal d None is one only there = absurd cc
+is_alone self (x ∷ []) goal d (Some lock) is one only there =
+    let same : is_lock lock x ≡ true = there in rw (← is, only, same) refl
 
 -- ---- what a turn tells
 

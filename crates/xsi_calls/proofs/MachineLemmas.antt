@@ -1,5 +1,6 @@
 -- What a call does, by what of it is under way in its room.
-use Rattle.std.proofs.Common.{◌≡◌, sym, ap, ◌∙◌, subst, ℕ, Bool, true, false, Option, None}
+use Rattle.std.proofs.Common.{◌≡◌, refl, sym, ap, ◌∙◌, subst, ℕ, Bool, true, false, Option, None, Some}
+use Rattle.queue_model.specs.declared.call.Call.TheVariants as calls
 use Rattle.xsi_calls.specs.declared.conclusion.Conclusion.{Conclusion}
 use Rattle.xsi_calls.specs.declared.part.Part.{Part}
 use Rattle.xsi_calls.specs.declared.part.Part.TheVariants as parts
@@ -13,15 +14,19 @@ use Rattle.xsi_calls.specs.CallSteps.{ComesTo, MakesCall, MakesRelease}
 use Rattle.xsi_calls.specs.Concluding.{conclusion_by}
 use Rattle.xsi_calls.specs.Deciding.{IsDecidedIn}
 use Rattle.xsi_calls.specs.Machine.{CallView, call_locks, is_paying, is_undecided}
-use Rattle.xsi_calls.specs.Parts.{IsOneMachine, IsToPay, asked_with, conclusion_under, decision_by, payment_under, paying, question_under, tried_under, trials_for, undecided_with}
+use Rattle.xsi_calls.specs.Parts.{IsOneMachine, IsToPay, asked_with, conclusion_under, decision_by, payment_under, paying, question_under, tried_by, tried_under, trials_for, undecided_with}
 use Rattle.xsi_calls.specs.PaymentStages as stages
 use Rattle.xsi_calls.specs.PaymentWords.{Due}
-use Rattle.xsi_calls.specs.QuestionSteps.{MakesQuestions}
-use Rattle.xsi_calls.specs.Questions.{is_done, questions_locks}
+use Rattle.xsi_calls.specs.QuestionSteps.{BeginsNext, MakesQuestions, is_blocked}
+use Rattle.xsi_calls.specs.Questions.{has_asked, is_done, questions_locks}
 use Rattle.xsi_calls.specs.Stages.{Stage, stage_at}
+use Rattle.xsi_calls.specs.Undecided.{IsCalmIn}
 use Rattle.xsi_calls.specs.UndecidedSteps.{MakesUndecided}
+use Rattle.xsi_calls.specs.QuestionWords.{Roomful, caller_of}
+use Rattle.xsi_calls.specs.UndecidedWords.{Decision, QuestionsView}
 use Rattle.xsi_calls.specs.WriteRuns.{ReachesBySearch}
-use Rattle.xsi_calls.specs.Words.{AreNames, AsksAtOnce, Call, Caller, CanDecide, Change, Ended, IsSeat, IsUndecided, Plan, PoolState, Progress, ReachesAtOnce, RecordKey, Records, Settled, State, Table, Trials, UndecidedCall, begun_payment, its_plan, row_of, trials_of}
+use Rattle.xsi_calls.specs.Words.{AreNames, AsksAtOnce, Call, Caller, CanDecide, Change, Ended, HasRoom, IsSeat, IsUndecided, Plan, PoolState, Progress, ReachesAtOnce, RecordKey, Records, Settled, State, Table, Trials, UndecidedCall, begun_payment, its_plan, row_of, trials_of}
+use Rattle.xsi_calls.proofs.AskingLemmas.{leaves_next, makes_next}
 use Rattle.xsi_calls.proofs.AtOnceLemmas.{asks_from}
 use Rattle.xsi_calls.proofs.CallReachLemmas.{pays_at_once, tries_from}
 use Rattle.xsi_calls.proofs.GoLemmas.{asked_from, asks_row, goes_from, with_stage}
@@ -33,6 +38,58 @@ use Rattle.xsi_calls.proofs.RoomLemmas.{asks_nothing, has_come_to, none_to_decid
 abbrev pub machine : Caller → Call → Questions → Part → Phase → CallView
 machine caller call q part phase =
     with_stage caller call (undecided_with call q part) (stage_at phase (payment_under part) (conclusion_under part))
+
+-- ---- a trial that goes to its page
+
+calm_in : (q : QuestionsView) (decision : Decision) (o : Option CallWrites) → q.question ≡ None →
+    IsCalmIn q (trials_for decision o)
+calm_in q decision None none = tt
+calm_in q decision (Some w) none = none
+
+-- before its Decide, whatever trial stands in its room
+pub still_one : (caller : Caller) (call : Call) (q : Questions) (part : Part) (phase : Phase) →
+    is_undecided (stage_at phase (payment_under part) (conclusion_under part)) ≡ true →
+    IsOneMachine (machine caller call q part phase) phase part → (n : ℕ) (place : TrialsPlace) →
+    IsOneMachine (machine caller call (record q { finds = n }) (parts.Writes place) phase) phase (parts.Writes place)
+still_one caller call q part phases.Undecided is one n place = record {
+  one = record {
+    by = one.one.by;
+    room = one.one.room;
+    calm = calm_in (asked_with (record q { finds = n }) None) (decision_by call q.inquiry)
+        (tried_by place.writes place.on_trial) refl;
+  };
+  pays = λ pays. absurd cc;
+}
+still_one caller call q part phases.Paying is one n place = absurd cc
+still_one caller call q part phases.Releasing is one n place = absurd cc
+
+-- ---- a question that makes its step
+
+room_kept : (call : Call) (room room2 : Roomful) → room2.most ≡ room.most → HasRoom call room → HasRoom call room2
+room_kept (calls.Get a) room room2 same has = tt
+room_kept (calls.Send a) room room2 same has = tt
+room_kept (calls.Receive a) room room2 same has = rw same has
+room_kept (calls.Stat id) room room2 same has = tt
+room_kept (calls.Set a) room room2 same has = tt
+room_kept (calls.Remove id) room room2 same has = tt
+
+-- before its Decide, whatever it has asked
+pub asks_one : (caller : Caller) (call : Call) (q : Questions) (part : Part) (phase : Phase) →
+    is_undecided (stage_at phase (payment_under part) (conclusion_under part)) ≡ true →
+    IsOneMachine (machine caller call q part phase) phase part → (q2 : Questions) (part2 : Part) →
+    caller_of q2.inquiry ≡ caller_of q.inquiry → q2.room.most ≡ q.room.most → tried_under part2 ≡ None →
+    IsOneMachine (machine caller call q2 part2 phase) phase part2
+asks_one caller call q part phases.Undecided is one q2 part2 same most none = record {
+  one = record {
+    by = same ∙ one.one.by;
+    room = room_kept call q.room q2.room most one.one.room;
+    calm = subst (λ (o : Option CallWrites). IsCalmIn (asked_with q2 (question_under part2))
+        (trials_for (decision_by call q2.inquiry) o)) (sym none) tt;
+  };
+  pays = λ pays. absurd cc;
+}
+asks_one caller call q part phases.Paying is one q2 part2 same most none = absurd cc
+asks_one caller call q part phases.Releasing is one q2 part2 same most none = absurd cc
 
 -- ---- its Decide
 
@@ -128,6 +185,36 @@ module _ (hash : RecordKey → ℕ) (seat : ℕ) (stopped : Bool) (caller : Call
           (with_stage caller call (undecided_with call q2 part2) x) pool locks locks') (same_stage part2)
           (tries_from hash seat stopped caller call stage now u (undecided_with call q2 part2) view undecided pool locks
           locks' goes)
+
+    -- the question that has begun in the room makes its first step
+    module _ (none : question_under part ≡ None) (untried : tried_under part ≡ None)
+        (left : has_asked call (asked_with q None) ≡ false) (q1 : Questions) (part1 : Part) (question : Option Question)
+        (there : part1 ≡ parts.Asks question) (same : q1 ≡ q)
+        (next : BeginsNext hash call (asked_with q None) (question_under part1)) (locks locks1 : Table)
+        (kept : locks1 ≡ locks) (did : Progress FileFault) (q2 : Questions) (question2 : Option Question)
+        (pool pool' : PoolState) (locks' : Table) (made : MakesQuestions hash seat call did (asked_with q1 question)
+        (asked_with q2 question2) pool pool' locks1 locks') where
+      begins : BeginsNext hash call (asked_with q None) question
+      begins = subst (λ (p : Part). BeginsNext hash call (asked_with q None) (question_under p)) there next
+
+      asks : (tried_under part ≡ None) × (is_done call (asked_with q (question_under part)) ≡ false)
+      asks = (untried, ap (λ (o : Option Question). is_done call (asked_with q o)) none ∙ left)
+
+      pub first_there : is_blocked did ≡ false →
+          MakesCall hash seat stopped did now (machine caller call q2 (parts.Asks question2) phase) pool pool' locks
+          locks'
+      first_there free =
+          asks_there q2 (parts.Asks question2) asks refl did pool pool' locks locks'
+          (makes_next hash seat call q q1 same (question_under part) none question begins locks locks1 kept did q2
+          question2 pool pool' locks' made free)
+
+      -- where another seat stood in the way it is let go
+      pub blocked_there : is_blocked did ≡ true →
+          MakesCall hash seat stopped did now (machine caller call q2 (parts.Asks None) phase) pool pool' locks locks'
+      blocked_there blocked =
+          asks_there q2 (parts.Asks None) asks refl did pool pool' locks locks'
+          (leaves_next hash seat call q q1 same (question_under part) none question begins locks locks1 kept did q2
+          question2 pool pool' locks' made blocked)
 
     -- a question that is asked in one go
     pub asks_at_once_there : (q2 : Questions) → question_under part ≡ None → tried_under part ≡ None →

@@ -1,14 +1,12 @@
--- A step of a call at which no question is under way: it ends, or takes a name or gives one back.
+-- A step of a call at which no question is under way: a name is taken or given back.
 use Rattle.std.proofs.Common.{ℕ, ◌≡◌, ◌++◌, ◌∷◌, Bool, true, false, not, ◌||◌, ◌&&◌, List, [], Some, None, refl, sym, ap, ◌∙◌, subst, inl, inr, ◌⊎◌, arith}
 use Rattle.std.proofs.lemmas.Bool.{true≢false}
 use Rattle.std.proofs.lemmas.List.{append_assoc, map-append}
 use Rattle.std.proofs.lemmas.List.Elements.{Contains-append_left}
 use Rattle.std.specs.List.{Contains}
-use Rattle.page_locks.proofs.ChangeLemmas.{with_row-own}
 use Rattle.page_locks.specs.declared.lock.LockName.TheVariants as names
 use Rattle.file_pages.specs.declared.fault.FileFault.{FileFault}
 use Rattle.step_rules.specs.Turns.{ForLock}
-use Rattle.step_rules.proofs.LockStepLemmas.{KeepsOthers-same}
 use Rattle.step_rules.specs.declared.kind.Kind.TheVariants as kinds
 use Rattle.step_rules.specs.declared.kind.Kind.{Kind}
 use Rattle.xsi_calls.specs.declared.turn.NameTurn.{NameTurn}
@@ -17,7 +15,7 @@ use Rattle.xsi_calls.specs.HeldLaws.{IsNext}
 use Rattle.xsi_calls.specs.NameSteps.{GivesBack, MakesNameStep, Takes}
 use Rattle.xsi_calls.proofs.OrderLemmas.{begin_are_names}
 use Rattle.xsi_calls.proofs.HeldTurnLemmas.{turns_are_right, turns_come_nearer}
-use Rattle.xsi_calls.specs.QuestionWords.{RecordKey, PoolState, Table, Lock, row_of, with_row, IsReady, OnlyWrites, Progress, Moved, Blocked, Fault, Ended, Step, world, is_write, AnyInquiry, KnowsOf, AreNames, names_in, names_for, Begins, name_turn, Take, GiveBack, LockName, Call, Roomful}
+use Rattle.xsi_calls.specs.QuestionWords.{RecordKey, PoolState, Table, Lock, row_of, with_row, IsReady, OnlyWrites, Progress, Moved, Blocked, Fault, Ended, Step, is_write, AnyInquiry, KnowsOf, AreNames, names_in, names_for, Begins, name_turn, Take, GiveBack, LockName, Call, Roomful}
 use Rattle.xsi_calls.specs.Counting.{finds_behind}
 use Rattle.xsi_calls.specs.Questions.{HasBegun, HasKey, Holds, QuestionsView, IsRight, KnowsApart, KnowsItsKey, asks_more, changes, has_asked, is_done, is_ready, turn_of_names}
 use Rattle.xsi_calls.specs.QuestionSteps.{MakesQuestions}
@@ -36,39 +34,18 @@ writes_none pool ready = record {
   file = λ honest done file. file;
 }
 
+pub next_are_names : (call : Call) (i : AnyInquiry) (held : List Lock) (lock : Lock) →
+    name_turn held (names_for call i) ≡ Take lock → AreNames (held ++ lock ∷ [])
+next_are_names call i held lock turn =
+    let next = ((turns_are_right held (names_for call i)).take lock).0 turn in
+    begin_are_names (held ++ lock ∷ []) next.0
+    (subst AreNames (next.1 ∙ sym (append_assoc held (lock ∷ []) next.0)) (take_in_order call i))
+
 module _ (hash : RecordKey → ℕ) (seat : ℕ) (call : Call) (i : AnyInquiry) (room : Roomful) (searches : ℕ)
     (pool : PoolState) (ready : IsReady pool) (locks : Table) where
   -- where no question is under way
   abbrev pub bare : List Lock → QuestionsView
   bare held = record { inquiry = i; room = room; names = held; question = None; finds = searches }
-
-  -- ---- nothing is left to ask
-
-  pub ends : (held : List Lock) → row_of locks seat ≡ held → has_asked call (bare held) ≡ true →
-      MakesQuestions hash seat call Ended (bare held) (bare held) pool pool locks locks
-  ends held row asked = record {
-    writes = writes_none pool ready;
-    cause = λ fault is. absurd cc;
-    aim = record {
-      caller = refl;
-      ended = (λ e. asked, λ d. refl);
-      rests = refl;
-      most = refl;
-      finds = refl;
-    };
-    row = sym (with_row-own locks seat) ∙ ap (with_row locks seat) row;
-    progress = λ s change f. tt;
-    step = λ s change f fine. record {
-      after = change;
-      file = f.sees.file;
-      others = KeepsOthers-same hash seat (world pool.images locks change) (world pool.images locks change)
-          f.sees.sound refl;
-      known = tt;
-      does = refl;
-      led = tt;
-    };
-    means = λ s change f fine. record { right = f.right; knows = f.knows; reads = refl };
-  }
 
   -- ---- a name is taken
 
@@ -77,13 +54,6 @@ module _ (hash : RecordKey → ℕ) (seat : ℕ) (call : Call) (i : AnyInquiry) 
   changes_on asks true ready left none = refl
   changes_on true false ready left none = absurd (true≢false none)
   changes_on false false ready left none = absurd (true≢false left)
-
-  pub next_are_names : (held : List Lock) (lock : Lock) → name_turn held (names_for call i) ≡ Take lock →
-      AreNames (held ++ lock ∷ [])
-  next_are_names held lock turn =
-      let next = ((turns_are_right held (names_for call i)).take lock).0 turn in
-      begin_are_names (held ++ lock ∷ []) next.0
-      (subst AreNames (next.1 ∙ sym (append_assoc held (lock ∷ []) next.0)) (take_in_order call i))
 
   more_names : (held : List Lock) (lock : Lock) (name : LockName) → Contains (names_in held) name →
       Contains (names_in (held ++ lock ∷ [])) name
@@ -125,7 +95,8 @@ module _ (hash : RecordKey → ℕ) (seat : ℕ) (call : Call) (i : AnyInquiry) 
           ended = (λ e. absurd cc, λ d. absurd (goes_on d));
           rests = tt;
           most = refl;
-          finds = sym (uncounted (Moved kind) (held ++ lock ∷ []) searches (next_are_names held lock turn).no_file);
+          finds = sym (uncounted (Moved kind) (held ++ lock ∷ []) searches
+              (next_are_names call i held lock turn).no_file);
         };
         row = is;
         progress = λ s change f.

@@ -1,22 +1,24 @@
 -- A trial of a call that goes to its page in one go.
-use Rattle.std.proofs.Common.{◌≡◌, ℕ, ◌+◌, min, Bool, true, Some, None, if◌then◌else◌, refl, sym, ap}
-use Rattle.std.specs.Prelude.{slice_get}
+use Rattle.std.proofs.Common.{◌≡◌, ℕ, ◌+◌, min, Bool, Some, if◌then◌else◌, refl, sym, ap}
 use Rattle.file_pages.specs.declared.fault.FileFault.{FileFault}
 use Rattle.step_rules.specs.declared.kind.Kind.{Kind}
 use Rattle.step_rules.specs.declared.kind.Kind.TheVariants as kinds
-use Rattle.xsi_calls.specs.Undecided.{UndecidedCall, its_plan, untried}
+use Rattle.xsi_calls.specs.Undecided.{UndecidedCall, its_plan}
 use Rattle.xsi_calls.specs.declared.writes.CallWrites.{CallWrites}
+use Rattle.xsi_calls.specs.declared.part.Part.{Part}
+use Rattle.xsi_calls.specs.declared.questions.Questions.{Questions}
+use Rattle.xsi_calls.specs.Beginning.{Tries}
+use Rattle.xsi_calls.specs.Parts.{undecided_with}
 use Rattle.xsi_calls.specs.Counting.{MOST_FINDS, finds_behind}
-use Rattle.xsi_calls.specs.Knowing.{IsDecision}
 use Rattle.xsi_calls.specs.MakeSteps.{MakesWrites}
 use Rattle.xsi_calls.specs.QuestionWords.{Moved}
 use Rattle.xsi_calls.specs.UndecidedSteps.{MakesUndecided}
-use Rattle.xsi_calls.specs.UndecidedWords.{AreNames, AskStep, At, Call, Decision, IsSeat, Plan, PoolState, QuestionsView, ReachesAtOnce, Record, RecordKey, Table, at, is_done, row_of, writes_locks}
+use Rattle.xsi_calls.specs.UndecidedWords.{AreNames, AskStep, At, Call, Decision, IsSeat, Plan, PoolState, QuestionsView, ReachesAtOnce, RecordKey, Table, at, row_of, writes_locks}
 use Rattle.xsi_calls.specs.WriteRuns.{ReachesBySearch}
 use Rattle.xsi_calls.proofs.CountLemmas.{none_more}
 use Rattle.xsi_calls.proofs.QuestionRunLemmas.{way_in}
 use Rattle.xsi_calls.proofs.ReachLemmas.{HasItsRow, row_behind}
-use Rattle.xsi_calls.proofs.StepLemmas.{begun, tried_with}
+use Rattle.xsi_calls.proofs.StepLemmas.{tried_with}
 
 module _ (hash : RecordKey → ℕ) (seat : ℕ) (call : Call) (q : QuestionsView) (names : AreNames q.names) where
   -- ---- the trials are under way
@@ -101,23 +103,21 @@ module _ (hash : RecordKey → ℕ) (seat : ℕ) (call : Call) (q : QuestionsVie
             );
           }
 
-  -- ---- the first trial begins
+-- ---- trials are under way, or the first one begins
 
-  pub begun_reaches : is_done call q ≡ true → (r : Record) → slice_get (its_plan call q).trials 0 ≡ Some r →
-      (decision : Decision) → IsDecision call q decision → (new : UndecidedCall) (pool : PoolState)
-      (locks locks' : Table) → ReachesAtOnce (MakesUndecided hash seat call) seat
-      (record { questions = q; trials = Some (record { writes = untried; decision = decision }) }) new pool locks
-      locks' →
-      ReachesAtOnce (MakesUndecided hash seat call) seat (record { questions = q; trials = None }) new pool locks locks'
-  begun_reaches done r some decision decides new pool locks locks' goes = record {
-    way = goes.way;
-    arrives = goes.arrives;
-    moves = (
-      record {
-        makes = begun hash seat call q pool locks names done r some decision decides (Moved kinds.Grant)
-            goes.way.locked.machine goes.way.locked.pool goes.way.locked.locks goes.moves.0.makes;
-        shared = goes.moves.0.shared;
-      },
-      goes.moves.1,
-    );
-  }
+pub tries_reach : (hash : RecordKey → ℕ) (seat : ℕ) (call : Call) (q : Questions) (old part : Part) →
+    Tries call q old part → (new : UndecidedCall) (pool : PoolState) (locks locks' : Table) →
+    ReachesAtOnce (MakesUndecided hash seat call) seat (undecided_with call q part) new pool locks locks' →
+    ReachesAtOnce (MakesUndecided hash seat call) seat (undecided_with call q old) new pool locks locks'
+tries_reach hash seat call q old part tries new pool locks locks' goes = record {
+  way = goes.way;
+  arrives = goes.arrives;
+  moves = (
+    record {
+      makes = tries.makes hash seat (Moved kinds.Grant) goes.way.locked.machine pool goes.way.locked.pool locks
+          goes.way.locked.locks goes.moves.0.makes;
+      shared = goes.moves.0.shared;
+    },
+    goes.moves.1,
+  );
+}

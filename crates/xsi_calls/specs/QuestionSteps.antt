@@ -3,8 +3,8 @@ use Rattle.std.specs.Prelude.{ℕ, ◌≡◌, ◌<◌, ◌↔◌, ◌⊎◌, Boo
 use Rattle.file_pages.specs.declared.fault.FileFault.{FileFault}
 use Rattle.xsi_remove.specs.Words.{StepHasCause}
 use Rattle.xsi_calls.specs.declared.question.Question.{Question}
-use Rattle.xsi_calls.specs.QuestionWords.{RecordKey, PoolState, Table, Change, with_row, store_of, OnlyWrites, Progress, Moved, Blocked, Fault, Ended, Look, is_fault, Sees, Step, NearsOrSpares, Record, is_write, HasEnded, ToFind, AccessView, HasFound, Serves, access_answer, AnyInquiry, FollowsOf, KnowsOf, asked_of, caller_of, left_of, names_in, LockName, Call, State, Wanted, NotASystem, IsCovered, IsSoNear, IsFiled, Roomful}
-use Rattle.xsi_calls.specs.Answering.{Answers}
+use Rattle.xsi_calls.specs.QuestionWords.{RecordKey, PoolState, Table, Change, with_row, store_of, OnlyWrites, Progress, Moved, Blocked, Fault, Ended, Look, is_fault, Sees, Step, NearsOrSpares, Record, is_write, HasEnded, ToFind, AccessView, HasFound, Serves, access_answer, begun, AnyInquiry, FollowsOf, KnowsOf, asked_of, caller_of, left_of, names_in, names_for, name_turn, Ready, LockName, Call, State, Wanted, NotASystem, IsCovered, IsSoNear, IsFiled, Roomful}
+use Rattle.xsi_calls.specs.Answering.{Answers, key_asked}
 use Rattle.xsi_calls.specs.Agreeing.{Agrees}
 use Rattle.xsi_calls.specs.Counting.{finds_behind}
 use Rattle.xsi_calls.specs.Questions.{QuestionsView, IsRight, KnowsNear, is_done, questions_facts, questions_left, questions_locks, questions_turn}
@@ -62,6 +62,19 @@ pub record MakesQuestions (hash : RecordKey → ℕ) (seat : ℕ) (call : Call) 
       change
   pub means : (s : State) (change : Change) → Faces hash seat call s old pool locks change → is_fault did ≡ false →
       Learns hash call s did new
+
+-- ---- a question that begins
+
+-- it reads the key that the inquiry asks for, under exactly the names that it needs
+pub record BeginsNext (hash : RecordKey → ℕ) (call : Call) (v : QuestionsView) (question : Option Question)
+    : Type 0 where
+  pub wanted : Wanted
+  pub asked : asked_of call v.inquiry ≡ Some wanted
+  pub names : name_turn v.names (names_for call v.inquiry) ≡ Ready
+  pub begins : question ≡ Some (record {
+    access = begun (ToFind (key_asked wanted)) (hash (key_asked wanted));
+    told = false;
+  })
 
 -- ---- what an answer tells
 

@@ -1,12 +1,13 @@
 //! The machine.
 
-ghost use Rattle.std.specs.Prelude.{◌≡◌, Bool, IsOk, IsSome, None, OnErr, OnOk, Some, true, false};
+ghost use Rattle.std.specs.Prelude.{◌≡◌, IsOk, IsSome, None, OnErr, OnOk, Some, false};
 ghost use Rattle.std.specs.Option.{is_some};
 ghost use Rattle.xsi_calls.specs.declared.conclusion.Conclusion.TheVariants.{Waits};
 ghost use Rattle.xsi_calls.specs.Words.{CanDecide, IsReady, HasRoom, IsSeat, row_of};
 ghost use Rattle.xsi_calls.specs.Parts.{IsToPay, conclusion_under, payment_under, undecided_with};
 ghost use Rattle.xsi_calls.specs.Machine.{Begins, IsOver, answer_of_call, call_locks, conclusion_of, finds_of, is_paying, is_undecided};
 ghost use Rattle.xsi_calls.specs.CallSteps.{ComesTo, HasNoSystem, MakesCall, MakesRelease, is_end};
+ghost use Rattle.xsi_calls.specs.QuestionSteps.{is_blocked};
 
 mod skipping;
 
@@ -210,9 +211,26 @@ impl CallMachine {
                 };
             }
             if !self.part.is_trying() && !self.questions.has_asked(&self.call) {
-                return self
+                if let Some(did) = self
                     .questions
-                    .turn(&mut self.part, pool, locks, keys, seat, &self.call);
+                    .turn(&mut self.part, locks, keys, seat, &self.call)
+                {
+                    return did;
+                }
+                // The question that has begun makes its first step.
+                return match &mut self.part {
+                    Part::Asks(question) => {
+                        let did = self
+                            .questions
+                            .go_on(question, pool, locks, keys, seat, &self.call);
+                        if is_blocked(did) {
+                            question.close();
+                            return did;
+                        }
+                        did
+                    }
+                    Part::Writes(_) | Part::Sweeps(_) => unreachable!(),
+                };
             }
             let Ok(tries) = self.part.begin_first(&self.questions, &self.call) else {
                 return Progress::Fault(FileFault::Failed);
@@ -330,4 +348,11 @@ fn is_end(did: Progress<FileFault>) -> bool
     ensures { result ≡ is_end did }
 {
     matches!(did, Progress::Ended)
+}
+
+/// Whether another seat stood in the way.
+fn is_blocked(did: Progress<FileFault>) -> bool
+    ensures { result ≡ is_blocked did }
+{
+    matches!(did, Progress::Blocked(_))
 }

@@ -1,6 +1,6 @@
 //! The names that a call holds.
 
-ghost use Rattle.std.specs.Prelude.{◌≡◌, ◌↔◌, [], ◌∷◌, ◌++◌, IsTrue, Some, None};
+ghost use Rattle.std.specs.Prelude.{◌≡◌, ◌↔◌, [], ◌∷◌, ◌++◌, IfSome, IsTrue, Some, None};
 ghost use Rattle.page_locks.specs.Table.{IsSeat, row_of, with_row};
 ghost use Rattle.step_rules.specs.Turns.{ForLock};
 ghost use Rattle.call_decisions.specs.NameLaws.{AreNames};
@@ -12,7 +12,7 @@ use crate::turn::NameTurn;
 use arrayvec::ArrayVec;
 use call_decisions::file_pages::FileFault;
 use call_decisions::{AnyInquiry, MAX_NAMES, name_at};
-use page_locks::{Grant, Lock, LockTable};
+use page_locks::{Grant, Lock, LockKind, LockName, LockTable};
 use queue_model::Call;
 use std::marker::Model;
 use step_rules::{Kind, Progress};
@@ -62,6 +62,22 @@ impl HeldNames {
 
     /// What the call does with names before it asks, inserts or writes where its inquiry has come.
     pub fn turn(&self, call: &Call, inquiry: &AnyInquiry) -> NameTurn
+        ensures { result ≡ name_turn self.now (names_for call.now inquiry.now) }
+    {
+        let held = self.locks.as_slice();
+        // Most calls hold exactly the name of their queue, and need no other.
+        if held.len() == 1 {
+            if is_there(only_name(call, inquiry), held[0]) {
+                return NameTurn::Ready;
+            }
+        }
+        self.turn_by_places(call, inquiry)
+    }
+
+    /// The turn, by each place at which a name is held or needed. It stands apart, since `turn` would
+    /// make room for what it alone needs.
+    #[inline(never)]
+    fn turn_by_places(&self, call: &Call, inquiry: &AnyInquiry) -> NameTurn
         ensures { result ≡ name_turn self.now (names_for call.now inquiry.now) }
     {
         let held = self.locks.as_slice();
@@ -120,4 +136,21 @@ fn is_there(found: Option<Lock>, lock: Lock) -> bool
     ensures { result ≡ is_there found lock }
 {
     found == Some(lock)
+}
+
+/// The lock of a call that needs no other, wherever its inquiry has come: on its queue.
+fn only_name(call: &Call, inquiry: &AnyInquiry) -> Option<Lock>
+    ensures { IfSome result (λ lock. names_for call.now inquiry.now ≡ lock ∷ []) }
+{
+    let (id, kind) = match (call, inquiry) {
+        (Call::Send(send), AnyInquiry::Send(_)) => (send.id, LockKind::Exclusive),
+        (Call::Receive(receive), AnyInquiry::Receive(_)) => (receive.id, LockKind::Exclusive),
+        (Call::Stat { id }, AnyInquiry::Stat(_)) => (*id, LockKind::Read),
+        (Call::Set(set), AnyInquiry::Set(_)) => (set.id, LockKind::Exclusive),
+        (_, _) => return None,
+    };
+    Some(Lock {
+        name: LockName::Queue(id),
+        kind,
+    })
 }

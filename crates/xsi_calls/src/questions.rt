@@ -1,15 +1,15 @@
 //! The call that asks.
 
-ghost use Rattle.std.specs.Prelude.{◌≡◌, ◌≤◌, None, false, true, IsSome};
+ghost use Rattle.std.specs.Prelude.{◌≡◌, ◌≤◌, None, false, true, IfNone, IfSome, IsSome};
 ghost use Rattle.xsi_calls.specs.NameSteps.{GivesBack, MakesNameStep};
 ghost use Rattle.xsi_inquiry.specs.Rooms.{HasRoom};
 ghost use Rattle.xsi_inquiry.specs.Telling.{most_asked};
-ghost use Rattle.xsi_calls.specs.QuestionWords.{AreNames, IsReady, IsSeat, Ready, State, caller_of, left_of, name_turn, names_for, row_of, with_row};
+ghost use Rattle.xsi_calls.specs.QuestionWords.{AreNames, IsReady, IsSeat, PoolState, State, caller_of, left_of, row_of, with_row};
 ghost use Rattle.xsi_calls.specs.Answering.{key_asked};
 ghost use Rattle.xsi_calls.specs.Counting.{finds_behind};
 ghost use Rattle.xsi_calls.specs.Parts.{asked_with, question_under, tried_under};
 ghost use Rattle.xsi_calls.specs.Questions.{IsBare, KnowsNear, changes, has_asked, is_done, is_ready, questions_locks};
-ghost use Rattle.xsi_calls.specs.QuestionSteps.{MakesQuestions, is_blocked};
+ghost use Rattle.xsi_calls.specs.QuestionSteps.{BeginsNext, MakesQuestions};
 
 mod skipping;
 
@@ -187,74 +187,48 @@ impl Questions {
         self.names.give_back(locks, seat)
     }
 
-    /// One step where no question is under way and not all is asked: a name is taken or given back,
-    /// or the record is read that the inquiry asks for.
-    pub(crate) fn turn<D: PageDevice, K: PseudoKey>(
+    /// One step where no question is under way and not all is asked: a name is taken or given back.
+    /// Where exactly the names are held that are needed it makes none, and tells none: then the next
+    /// question begins in the room.
+    pub(crate) fn turn<K: PseudoKey>(
         &mut self,
         part: &mut Part,
-        pool: &mut Pool<D>,
         locks: &mut LockTable,
         keys: &K,
         seat: u8,
         call: &Call,
-    ) -> Progress<FileFault>
+    ) -> Option<Progress<FileFault>>
         requires seat { IsSeat locks.old seat }
-        requires ready { IsReady pool.old }
         requires none { question_under part.old ≡ None }
         requires untried { tried_under part.old ≡ None }
         requires asks { has_asked call.now (asked_with self.old None) ≡ false }
         requires row { row_of locks.old seat ≡ self.old.names }
-        ensures made { MakesQuestions (K.of_key keys.now) seat call.now result
+        ensures made { IfSome result (λ did. (pool : PoolState) → IsReady pool →
+            MakesQuestions (K.of_key keys.now) seat call.now did
             (asked_with self.old (question_under part.old))
-            (asked_with self.new (question_under part.new))
-            pool.old pool.new locks.old locks.new }
+            (asked_with self.new (question_under part.new)) pool pool locks.old locks.new) }
+        ensures same { IfNone result ((self.new ≡ self.old) × (locks.new ≡ locks.old)) }
+        ensures begins { IfNone result (BeginsNext (K.of_key keys.now) call.now
+            (asked_with self.old None) (question_under part.new)) }
         ensures untried { tried_under part.new ≡ None }
     {
         self.names.keep_order();
         match self.names.turn(call, &self.inquiry) {
-            NameTurn::Take(lock) => self.names.take(locks, seat, lock),
-            NameTurn::GiveBack => self.names.give_back(locks, seat),
+            NameTurn::Take(lock) => Some(self.names.take(locks, seat, lock)),
+            NameTurn::GiveBack => Some(self.names.give_back(locks, seat)),
             NameTurn::Ready => {
+                let Some(wanted) = self.inquiry.wants(call) else {
+                    unreachable!();
+                };
+                let key = key_asked(wanted);
                 part.make_question();
                 match part {
-                    Part::Asks(question) => self.ask(question, pool, locks, keys, seat, call),
+                    Part::Asks(question) => question.begin(key, keys.of(&key)),
                     Part::Writes(_) | Part::Sweeps(_) => unreachable!(),
                 }
+                None
             }
         }
-    }
-
-    /// The first step of the next question. Where it is blocked the question has not begun.
-    fn ask<D: PageDevice, K: PseudoKey>(
-        &mut self,
-        question: &mut QuestionPlace,
-        pool: &mut Pool<D>,
-        locks: &mut LockTable,
-        keys: &K,
-        seat: u8,
-        call: &Call,
-    ) -> Progress<FileFault>
-        requires seat { IsSeat locks.old seat }
-        requires ready { IsReady pool.old }
-        requires none { question.old ≡ None }
-        requires row { row_of locks.old seat ≡ self.old.names }
-        requires asks { has_asked call.now (asked_with self.old None) ≡ false }
-        requires names { name_turn self.old.names (names_for call.now self.old.inquiry) ≡ Ready }
-        ensures { MakesQuestions (K.of_key keys.now) seat call.now result
-            (asked_with self.old question.old) (asked_with self.new question.new)
-            pool.old pool.new locks.old locks.new }
-    {
-        let Some(wanted) = self.inquiry.wants(call) else {
-            return Progress::Ended;
-        };
-        let key = key_asked(wanted);
-        question.begin(key, keys.of(&key));
-        let did = self.go_on(question, pool, locks, keys, seat, call);
-        if is_blocked(did) {
-            question.close();
-            return did;
-        }
-        did
     }
 
     /// One step of the question under way.
@@ -301,13 +275,6 @@ fn key_asked(wanted: Wanted) -> RecordKey
         Wanted::At(key) => key,
         Wanted::Given(_) => counter_key(),
     }
-}
-
-/// Whether another seat stood in the way.
-fn is_blocked(did: Progress<FileFault>) -> bool
-    ensures { result ≡ is_blocked did }
-{
-    matches!(did, Progress::Blocked(_))
 }
 
 /// Whether the names are held that are needed.

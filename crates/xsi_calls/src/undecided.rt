@@ -10,8 +10,6 @@ ghost use Rattle.xsi_calls.specs.Parts.{asked_with, question_under, tried_in, tr
 ghost use Rattle.xsi_calls.specs.Deciding.{IsDecided};
 ghost use Rattle.xsi_calls.specs.Views.{is_full};
 
-mod skipping;
-
 use crate::decided::Decided;
 use crate::due::Due;
 use crate::part::Part;

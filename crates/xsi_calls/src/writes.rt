@@ -3,7 +3,7 @@
 ghost use Rattle.std.specs.Prelude.{◌≡◌, ◌≢◌, None};
 ghost use Rattle.std.specs.Option.{is_some};
 ghost use Rattle.xsi_calls.specs.WriteWords.{EndsRow, IsReady, IsSeat, is_fault, row_of};
-ghost use Rattle.xsi_calls.specs.MakeSteps.{MakesDeed, MakesWrites, SetsOut, Settles};
+ghost use Rattle.xsi_calls.specs.MakeSteps.{MakesWrites, SetsOut, Settles};
 ghost use Rattle.xsi_calls.specs.Views.{decided_at, is_full, writes_locks};
 
 mod skipping;

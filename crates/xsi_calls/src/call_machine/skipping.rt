@@ -12,6 +12,7 @@ use bucket_page::PseudoKey;
 use buffer_pool::Pool;
 use page_device::PageDevice;
 use page_locks::LockTable;
+use xsi_inquiry::Inquiry;
 
 impl CallMachine {
     /// All steps of the next question, in one go, where it has not decided, nothing is inserted on
@@ -66,9 +67,34 @@ impl CallMachine {
         ensures spares { result ≡ false → (self.new ≡ self.old) × (locks.new ≡ locks.old) }
     {
         if self.is_undecided() {
-            return self
-                .part
-                .reach(&mut self.questions, pool, locks, keys, seat, &self.call);
+            let tries = self.part.is_trying();
+            if !tries {
+                // A call that inserts nothing on trial is left to its Decide.
+                if !self.questions.inquiry().inserts(&self.call) {
+                    return false;
+                }
+                if !self.questions.is_done(&self.part, &self.call) {
+                    return false;
+                }
+                let Ok(true) = self.part.begin_first(&self.questions, &self.call) else {
+                    return false;
+                };
+            }
+            self.questions.keep_order();
+            let plan = PlanOf::new(&self.call, self.questions.inquiry());
+            match &mut self.part {
+                Part::Writes(place) => {
+                    if place.writes.reach(&plan, pool, locks, keys, seat) {
+                        self.questions.count_one();
+                        return true;
+                    }
+                }
+                Part::Asks(_) | Part::Sweeps(_) => unreachable!(),
+            }
+            if !tries {
+                self.part.rest();
+            }
+            return false;
         }
         if !self.is_paying() {
             return false;

@@ -35,28 +35,6 @@ impl CallWrites {
         if self.access.is_under_way() || plan.is_done(self.due) {
             return false;
         }
-        self.reach_next(plan, pool, locks, keys, seat)
-    }
-
-    /// The same where none is under way. It stands apart, as `begin_next` does.
-    #[inline(never)]
-    fn reach_next<D: PageDevice, K: PseudoKey>(
-        &mut self,
-        plan: &PlanOf<'_>,
-        pool: &mut Pool<D>,
-        locks: &mut LockTable,
-        keys: &K,
-        seat: u8,
-    ) -> bool
-        requires seat { IsSeat locks.old seat }
-        requires ready { IsReady pool.old }
-        requires row { EndsRow (writes_locks self.old) 3 (row_of locks.old seat) }
-        requires none { self.old.access ≡ None }
-        ensures pool { pool.new ≡ pool.old }
-        ensures made { result ≡ true → ReachesBySearch (K.of_key keys.now) seat plan.now
-            self.old self.new pool.old locks.old locks.new }
-        ensures spares { result ≡ false → (self.new ≡ self.old) × (locks.new ≡ locks.old) }
-    {
         let Some(deed) = plan.deed(self.due) else {
             return false;
         };

@@ -43,7 +43,8 @@ come g c = record {
 module _ (g : given.Over) (c : After-note_entry g) (told : Step) (left : Option ActiveView) (pool : PoolState)
     (locks : Table) (journal : List Entry)
     (settles : Settles (g.K.PseudoKey.of_key c.self.inside.keys) c.args.seat c.self.inside.stopped c.step-did.result
-    told (come g c) left c.step-did.new.pool pool c.step-did.new.locks locks c.note_entry.new.journal.items journal) where
+    told (come g c) left c.step-did.new.pool pool c.step-did.new.locks locks c.note_entry.new.journal.items
+    journal) where
   -- its machine has made a step, and this came of it
   turns : Turns (g.K.PseudoKey.of_key c.self.inside.keys) c.args.seat c.self.inside.stopped told
       c.index_mut-at.result.now left c.self.inside.pool pool c.self.inside.locks locks c.self.inside.journal.items

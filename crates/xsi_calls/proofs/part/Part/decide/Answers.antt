@@ -48,8 +48,8 @@ returns-in_err-decision-clause-decided c = λ hash seat s records pool locks cha
     let (filed, knows) = is_told hash seat c.args.call.now s
     (asked_with c.args.questions.now (question_under c.args.self.now)) records pool locks change c.args.stopped mark
     (trials_under c.args.call.now c.args.questions.now c.args.self.now) is in
-    absurd (subst (λ (r : Result Decision NotASystem). Gives r (IsRight (caller_of c.inquiry-2.result.now) c.args.call.now
-    (locked_of c.args.call.now c.inquiry-2.result.now) c.args.questions.now.room.bytes s
+    absurd (subst (λ (r : Result Decision NotASystem). Gives r (IsRight (caller_of c.inquiry-2.result.now)
+    c.args.call.now (locked_of c.args.call.now c.inquiry-2.result.now) c.args.questions.now.room.bytes s
     (plan_of c.args.call.now c.inquiry-2.result.now))) c.in_err-decision.was
     (c.decide.ensures.right c.args.questions.now.room s filed
     (subst (λ (i : AnyInquiry). KnowsOf c.args.call.now i c.args.questions.now.room s) (sym c.inquiry-2.ensures)

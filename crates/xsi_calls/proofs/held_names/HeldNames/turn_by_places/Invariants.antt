@@ -1,7 +1,7 @@
 use Rattle.std.proofs.Common.{◌≡◌, drop}
 use Rattle.call_decisions.specs.Names.{names_for}
 use Rattle.xsi_calls.specs.NameTurns.{name_turn}
-use Rattle.xsi_calls.proofs.held_names.HeldNames.turn.Given as goal
+use Rattle.xsi_calls.proofs.held_names.HeldNames.turn_by_places.Given as goal
 
 -- what is left of both tells the turn
 abbrev pub invariant-loop-place : goal.invariant-loop-place
