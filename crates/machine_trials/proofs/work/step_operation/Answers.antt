@@ -63,7 +63,8 @@ returns-in-Some-true g c =
     let is = sym c.ended.ensures ∙ c.in-Some-true.is ∙ ap (λ (b : Bool). Some b) c.in-Some-true.field-0-test in
     rw (c.in-Delete.is, ← c.delete.view_is) (merge_makes _ c.args.seat c.args.value.now r.search m r.stage
     c.step-in-Some-true.new.self c.step-in-Some-true.result c.args.pool.now c.step-in-Some-true.new.pool
-    c.args.locks.now c.step-in-Some-true.new.locks is c.delete.invariant.key c.delete.invariant.pseudokey c.step-in-Some-true.ensures)
+    c.args.locks.now c.step-in-Some-true.new.locks is c.delete.invariant.key c.delete.invariant.pseudokey
+    c.step-in-Some-true.ensures)
 
 pub returns-in-Some-false : goal.returns-in-Some-false
 returns-in-Some-false g c =
