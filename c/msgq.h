@@ -71,8 +71,9 @@ struct msgq_change {
     int32_t mode;
 };
 
-/* Makes a file of so many pages of 4,096 bytes, 258 to 65,536, without queues. EEXIST where there is one of this name; EINVAL for
- * another number of pages. */
+/* Makes a file of so many pages of 4,096 bytes, 258 to 65,536, without queues. EEXIST where there is one of this name; EBUSY where
+ * another process is making it; EINVAL for another number of pages. It has its name once it is whole and on the disk: until then
+ * it stands beside it, with .unmade behind its name, and what a process that was killed has left there the next one removes. */
 int msgq_create(const char *path, uint32_t pages);
 
 /* Opens a file, which is checked whole. EBUSY where a process has it open to change it, be it `msgq run` or this library;

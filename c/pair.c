@@ -1,11 +1,11 @@
 /* A file of queues and its journal: opened, saved, made. */
 #include "pair.h"
 #include "journal.h"
+#include "making.h"
 #include "reason.h"
 
 #include <errno.h>
 #include <fcntl.h>
-#include <libgen.h>
 #include <limits.h>
 #include <stdio.h>
 #include <stdlib.h>
@@ -16,20 +16,6 @@
 #include <unistd.h>
 
 /* ---- both are opened */
-
-static int sync_folder(const char *path) {
-    char name[PATH_MAX];
-    struct opened folder;
-    if (strlen(path) >= sizeof name)
-        return ENAMETOOLONG;
-    strcpy(name, path);
-    int wrong = open_it(&folder, dirname(name), O_RDONLY | O_DIRECTORY, 0);
-    if (wrong != 0)
-        return wrong;
-    wrong = sync_it(&folder);
-    close_it(&folder);
-    return wrong;
-}
 
 /* Sees to it that who may not read the file may not read its journal. */
 static int guard(int journal, const struct stat *like) {
@@ -71,7 +57,7 @@ static int make_journal(struct pair *pair, const char *name, const struct stat *
     int wrong = open_it(&pair->journal, name, O_RDWR | O_CREAT | O_EXCL, 0600);
     if (wrong == 0)
         wrong = guard(pair->journal.file, file);
-    return wrong != 0 ? wrong : sync_folder(name);
+    return wrong != 0 ? wrong : sync_folder_of(name);
 }
 
 /* Opens the journal, whose name is that of the file, where no link leads on, and a suffix. */
@@ -255,21 +241,19 @@ int pair_save(const struct pair *pair, struct handle *session) {
 int pair_make(const char *path, struct handle *session) {
     uint32_t pages;
     uint8_t bytes[PAGE_BYTES];
-    struct opened file;
+    struct unmade made;
     if (msgq_session_pages(session, &pages) != DONE)
         return EIO;
-    int wrong = open_it(&file, path, O_RDWR | O_CREAT | O_EXCL, 0666);
+    int wrong = unmade_begin(&made, path);
     if (wrong != 0)
         return wrong;
     for (uint32_t page = 0; wrong == 0 && page < pages; page++)
         if ((wrong = page_of(session, page, bytes)) == 0)
-            wrong = write_at(&file, bytes, sizeof bytes, (uint64_t)page * PAGE_BYTES);
+            wrong = write_at(&made.file, bytes, sizeof bytes, (uint64_t)page * PAGE_BYTES);
     if (wrong == 0)
-        wrong = sync_it(&file);
+        wrong = sync_it(&made.file);
     if (wrong == 0)
-        wrong = sync_folder(path);
-    close_it(&file);
-    if (wrong != 0)
-        (void)unlink(path);
+        return unmade_name(&made);
+    unmade_drop(&made);
     return wrong;
 }

@@ -3,6 +3,9 @@
 
 #include <errno.h>
 #include <fcntl.h>
+#include <libgen.h>
+#include <limits.h>
+#include <string.h>
 #include <sys/stat.h>
 #include <unistd.h>
 
@@ -85,4 +88,18 @@ int sync_it(const struct opened *it) {
         if (errno != EINTR)
             return errno;
     return 0;
+}
+
+int sync_folder_of(const char *path) {
+    char name[PATH_MAX];
+    struct opened folder;
+    if (strlen(path) >= sizeof name)
+        return ENAMETOOLONG;
+    strcpy(name, path);
+    int wrong = open_it(&folder, dirname(name), O_RDONLY | O_DIRECTORY, 0);
+    if (wrong != 0)
+        return wrong;
+    wrong = sync_it(&folder);
+    close_it(&folder);
+    return wrong;
 }

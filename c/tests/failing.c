@@ -1,151 +1,9 @@
-/* Each call of the system that the library makes fails in turn, while a file is recovered, opened, saved and made; what is expected
- * stands in msgq.h: the number of the failure, and at the next opening the file as before or as after. Run with the path of a new
- * file. It is linked so that the calls below come here first (-Wl,--wrap). */
+/* Each call of the system that the library makes fails in turn, while a file is recovered, opened and saved; what is expected stands in
+ * msgq.h: the number of the failure, and at the next opening the file as before or as after. Run with the path of a new file. */
 #include "../msgq.h"
+#include "faults.h"
 
-#include <errno.h>
-#include <fcntl.h>
 #include <limits.h>
-#include <pthread.h>
-#include <stdarg.h>
-#include <stdbool.h>
-#include <stdio.h>
-#include <stdlib.h>
-#include <string.h>
-#include <sys/file.h>
-#include <sys/stat.h>
-#include <sys/wait.h>
-#include <time.h>
-#include <unistd.h>
-
-static int passed, failed;
-
-static void is(long long found, long long expected, const char *what) {
-    if (found == expected) {
-        passed++;
-        return;
-    }
-    failed++;
-    fprintf(stderr, "%s: %lld, not %lld\n", what, found, expected);
-}
-
-/* ---- calls that fail */
-
-enum call {
-    NONE, PREAD, PWRITE, FSYNC, FTRUNCATE, FSTAT, STAT, LSTAT, OPEN, REALPATH, FLOCK, FOPEN, FCHMOD, MALLOC, CALLOC, CLOCK,
-    ATTR_INIT, ATTR_CLOCK, COND_INIT, MUTEX_INIT, CALLS
-};
-
-static const char *const names[CALLS] = {
-    "none", "pread", "pwrite", "fsync", "ftruncate", "fstat", "stat", "lstat", "open", "realpath", "flock", "fopen", "fchmod", "malloc",
-    "calloc", "clock_gettime", "pthread_condattr_init", "pthread_condattr_setclock", "pthread_cond_init", "pthread_mutex_init",
-};
-
-static enum call which;
-static int when, seen, number, writes;
-static bool dies;
-
-/* Whether this call is the one that fails; the process may end at it. */
-static bool is_now(enum call call) {
-    if (call == PWRITE || call == FTRUNCATE)
-        writes++;
-    if (call != which || ++seen != when)
-        return false;
-    if (dies)
-        _exit(9);
-    errno = number;
-    return true;
-}
-
-static void arm(enum call call, int at, int wrong) {
-    which = call;
-    when = at;
-    number = wrong;
-    seen = writes = 0;
-}
-
-/* Whether the call was come to. */
-static bool disarm(void) {
-    bool was = which != NONE && seen >= when;
-    which = NONE;
-    return was;
-}
-
-#define WRAP(kind, name, call, fails, parameters, arguments) \
-    kind __real_##name parameters; \
-    kind __wrap_##name parameters; \
-    kind __wrap_##name parameters { return is_now(call) ? (fails) : __real_##name arguments; }
-
-/* (a read or a write of nothing, where there is no number) */
-WRAP(ssize_t, pread, PREAD, number == 0 ? 0 : -1, (int file, void *to, size_t count, off_t at), (file, to, count, at))
-WRAP(ssize_t, pwrite, PWRITE, number == 0 ? 0 : -1, (int file, const void *from, size_t count, off_t at), (file, from, count, at))
-WRAP(int, fsync, FSYNC, -1, (int file), (file))
-WRAP(int, ftruncate, FTRUNCATE, -1, (int file, off_t size), (file, size))
-WRAP(int, fstat, FSTAT, -1, (int file, struct stat *to), (file, to))
-WRAP(int, stat, STAT, -1, (const char *path, struct stat *to), (path, to))
-WRAP(int, lstat, LSTAT, -1, (const char *path, struct stat *to), (path, to))
-WRAP(char *, realpath, REALPATH, NULL, (const char *path, char *to), (path, to))
-WRAP(int, flock, FLOCK, -1, (int file, int how), (file, how))
-WRAP(FILE *, fopen, FOPEN, NULL, (const char *path, const char *how), (path, how))
-WRAP(int, fchmod, FCHMOD, -1, (int file, mode_t mode), (file, mode))
-WRAP(void *, malloc, MALLOC, NULL, (size_t size), (size))
-WRAP(void *, calloc, CALLOC, NULL, (size_t count, size_t size), (count, size))
-WRAP(int, clock_gettime, CLOCK, -1, (clockid_t clock, struct timespec *to), (clock, to))
-WRAP(int, pthread_condattr_init, ATTR_INIT, number, (pthread_condattr_t *it), (it))
-WRAP(int, pthread_condattr_setclock, ATTR_CLOCK, number, (pthread_condattr_t *it, clockid_t clock), (it, clock))
-WRAP(int, pthread_cond_init, COND_INIT, number, (pthread_cond_t *it, const pthread_condattr_t *with), (it, with))
-WRAP(int, pthread_mutex_init, MUTEX_INIT, number, (pthread_mutex_t *it, const pthread_mutexattr_t *with), (it, with))
-
-int __real_open(const char *path, int flags, ...);
-int __wrap_open(const char *path, int flags, ...);
-int __wrap_open(const char *path, int flags, ...) {
-    va_list rest;
-    va_start(rest, flags);
-    mode_t mode = (flags & O_CREAT) != 0 ? va_arg(rest, mode_t) : 0;
-    va_end(rest);
-    return is_now(OPEN) ? -1 : __real_open(path, flags, mode);
-}
-
-/* ---- files */
-
-static char path[4000], journal[4096];
-
-struct bytes {
-    char *at;
-    long count; /* -1 where there is no file */
-};
-
-static struct bytes read_all(const char *name) {
-    struct bytes it = {NULL, -1};
-    FILE *file = fopen(name, "r");
-    if (file == NULL)
-        return it;
-    fseek(file, 0, SEEK_END);
-    it.count = ftell(file);
-    rewind(file);
-    it.at = malloc((size_t)it.count + 1);
-    if (it.at == NULL || fread(it.at, 1, (size_t)it.count, file) != (size_t)it.count)
-        exit(2);
-    fclose(file);
-    return it;
-}
-
-static void write_all(const char *name, struct bytes it) {
-    if (it.count < 0) {
-        unlink(name);
-        return;
-    }
-    FILE *file = fopen(name, "w");
-    if (file == NULL || fwrite(it.at, 1, (size_t)it.count, file) != (size_t)it.count || fclose(file) != 0)
-        exit(2);
-}
-
-static bool has_bytes(const char *name, struct bytes it) {
-    struct bytes now = read_all(name);
-    bool same = now.count == it.count && (now.count < 0 || memcmp(now.at, it.at, (size_t)now.count) == 0);
-    free(now.at);
-    return same;
-}
 
 /* A file and its journal. */
 struct both {
@@ -296,25 +154,6 @@ static void save_fails(struct both start, enum call call, int wrong) {
     }
 }
 
-/* Makes a file, while each call of a kind fails in turn: then there is none. */
-static void making_fails(enum call call, int wrong) {
-    bool was_come_to = true;
-    /* It has 300 pages, of which some do. */
-    for (int at = 1; was_come_to && at < 400; at += at > 4 && at < 290 ? 40 : 1) {
-        char what[80];
-        snprintf(what, sizeof what, "a making where call %d of %s fails", at, names[call]);
-        unlink(path);
-        unlink(journal);
-        arm(call, at, wrong);
-        int told = msgq_create(path, 300);
-        was_come_to = disarm();
-        /* What is closed was synced. */
-        if (call != FSTAT || at < 3)
-            is(told, was_come_to ? wrong : 0, what);
-        is(access(path, F_OK), told == 0 ? 0 : -1, what);
-    }
-}
-
 /* An opening that finds no journal may not know that this is on the disk: it syncs it before it tells anything. */
 static void emptiness_is_synced(struct both left) {
     msgq *queues;
@@ -430,11 +269,6 @@ int main(int argc, char **argv) {
             recovery_fails(alone, call, call == MALLOC || call == CALLOC ? ENOMEM : EIO);
     for (enum call call = PREAD; call <= FSTAT; call++)
         save_fails(start, call, ENOSPC);
-    making_fails(OPEN, EMFILE);
-    making_fails(PWRITE, ENOSPC);
-    making_fails(FSYNC, EIO);
-    making_fails(FSTAT, EIO);
-    making_fails(MALLOC, ENOMEM);
     others(start);
     clock_fails(start);
     free(start.file.at);
