@@ -1,6 +1,6 @@
 //! What one thread shows another.
 
-use std::sync::atomic::{AtomicBool, Ordering};
+use crossbeam_utils::atomic::AtomicCell;
 use std::thread;
 use std::time::{Clock, Duration};
 
@@ -10,25 +10,25 @@ pub const LOOKS: u32 = 20_000;
 /// It is down, and once it was raised it is up.
 #[derive(Drop)]
 pub struct Flag {
-    up: AtomicBool,
+    up: AtomicCell<bool>,
 }
 
 impl Flag {
     /// It is down.
     pub fn new() -> Flag {
         Flag {
-            up: AtomicBool::new(false),
+            up: AtomicCell::new(false),
         }
     }
 
     /// From now on it is up.
     pub fn raise(&self) {
-        self.up.store(true, Ordering::SeqCst);
+        self.up.store(true);
     }
 
     /// Whether it is up.
     pub fn is_up(&self) -> bool {
-        self.up.load(Ordering::SeqCst)
+        self.up.load()
     }
 
     /// Whether it is up before so many looks, with a millisecond between.
