@@ -127,8 +127,11 @@ fn files_are_made_and_run_on(rt: HostRuntime) -> Result<(), Fail> {
     let _ = fs::remove_dir_all(&rt, "made");
     fs::create_dir(&rt, "made")?;
     let file = "made/queues";
+    // what a process that was killed has left is replaced
+    fs::write(&rt, "made/queues.unmade", FIRST)?;
     makes(&rt, file, "made 258\n", "")?;
     assert!(rt; fs::metadata(&rt, file)?.len() == 258 * 4096);
+    assert!(rt; fs::metadata(&rt, "made/queues.unmade").is_err());
     let there = "msgq: made/queues: it can't be made (fault 20): File exists (os error 17)\n";
     makes(&rt, file, "fault 20\n", there)?;
     let nowhere = "msgq: : it can't be made (fault 20): No such file or directory (os error 2)\n";

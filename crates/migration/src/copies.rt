@@ -9,17 +9,17 @@ ghost use Rattle.migration.specs.Copying.{IsCopied, IsToldOfOld};
 ghost use Rattle.migration.specs.Printing.{HasSize, IsDoneOrFault, deed_of};
 
 use crate::copied::{Copied, copy, migrated_pages};
-use crate::fault::{CopyFault, MakingFault};
+use crate::fault::CopyFault;
 use crate::made::Target;
 use crate::unmade::complain_of_unmade;
 use bucket_page::ShaKey;
 use directory::{LAYOUT, Layout, OLDER_LAYOUT, layouts_are_right};
 use msgq_cli::{
-    Deed, Ending, Failure, Heard, Output, Progress, Shown, Stage, advise, complain_of_fault,
-    create_file, fail, open_to_read, print_deed, remove_made, warn_of_journal,
+    Deed, Ending, Failure, Output, Progress, Shown, Stage, advise, complain_of_fault, create_file,
+    fail, open_to_read, print_deed, warn_of_journal,
 };
 use numbers::faults;
-use page_device::{FileDevice, PageDevice, SystemFile};
+use page_device::{FileDevice, PageDevice};
 use std::alloc::Global;
 use std::fs::File;
 use std::io::{self, IsTerminal, Write};
@@ -84,7 +84,8 @@ pub struct CopyRequest<'a> {
 /// another, where nothing may be yet, and prints `migrated QUEUES MESSAGES` or `copied QUEUES
 /// MESSAGES`. NEW and its name are on the disk then.
 ///
-/// Fault 20 alone where the system refuses to make NEW. Then OLD is opened, to be read alone, and
+/// Fault 20 alone where the system refuses to make NEW; until it is whole it has another name beside
+/// its own (`Unnamed`). Then OLD is opened, to be read alone, and
 /// checked: `fault N` alone for the first thing that is wrong with it, and where NEW has no room for
 /// its records (50), a transfer of either fails (20), or there is no memory (60). The NEW that was
 /// made is then removed. How far it is is shown on a terminal.
@@ -102,21 +103,24 @@ where
     ensures { IsDoneOrFault (deed_of request.entry.size) output.old output.new result }
 {
     let CopyRequest { old, new, size } = request;
-    let Some(made) = create_file(rt, new, errors) else {
-        return fail(Stage::Making, faults::DEVICE, output);
+    let unnamed = match create_file(rt, new, Some(old), errors) {
+        Ok(unnamed) => unnamed,
+        Err(fault) => return fail(Stage::Making, fault, output),
     };
     warn_of_journal(rt, old, errors);
     let device = match open_to_read(rt, old, errors) {
         Ok(device) => device,
         Err(fault) => {
-            remove_made(rt, new, errors);
+            unnamed.remove(rt, errors);
             return fail(Stage::Opening, fault.number(), output);
         }
     };
-    let Ok((heard, refusal)) = Heard::new(rt.alloc(), SystemFile::new(made)) else {
-        complain_of_unmade(new, MakingFault::NoMemory, None, errors);
-        remove_made(rt, new, errors);
-        return fail(Stage::Making, faults::NO_MEMORY, output);
+    let (heard, refusal) = match unnamed.transfers(rt.alloc()) {
+        Ok(transfers) => transfers,
+        Err(why) => {
+            let fault = unnamed.give_up(rt, why, errors);
+            return fail(Stage::Making, fault, output);
+        }
     };
     let target = Target {
         pages: size.pages(device.pages()),
@@ -128,17 +132,19 @@ where
         new: _,
         found,
     } = copied;
-    match found {
-        Ok(system) => {
-            print_deed(size.deed(), &system, output);
-            Ending::Done
-        }
+    let system = match found {
+        Ok(system) => system,
         Err(fault) => {
             let stage = explain(rt, request, fault, refusal.into_error(), errors);
-            remove_made(rt, new, errors);
-            fail(stage, fault.number(), output)
+            unnamed.remove(rt, errors);
+            return fail(stage, fault.number(), output);
         }
+    };
+    if !unnamed.give_name(rt, errors) {
+        return fail(Stage::Making, faults::DEVICE, output);
     }
+    print_deed(size.deed(), &system, output);
+    Ending::Done
 }
 
 /// Makes a new file of the file on a device, as `crate::copy` does. Where they are large and

@@ -11,7 +11,6 @@ ghost use Rattle.msgq_cli.specs.Tasks.{IsFileSize};
 ghost use Rattle.msgq_cli.specs.declared.reports.Deed.TheVariants as deeds;
 ghost use Rattle.migration.specs.Printing.{IsSalvagedOrFault, unread_texts};
 
-use crate::fault::MakingFault;
 use crate::losses::{Losses, Pages};
 use crate::made::Target;
 use crate::salvage_fault::SalvageFault;
@@ -19,8 +18,8 @@ use crate::salvaged::{Rescue, Salvaged, salvage};
 use crate::unmade::complain_of_unmade;
 use bucket_page::ShaKey;
 use msgq_cli::{
-    Deed, Ending, Failure, Heard, Output, Plain, Progress, Shown, Stage, advise, complain_of_fault,
-    create_file, fail, print_deed, print_unread, remove_made, warn_of_journal,
+    Deed, Ending, Failure, Output, Plain, Progress, Shown, Stage, advise, complain_of_fault,
+    create_file, fail, print_deed, print_unread, warn_of_journal,
 };
 use numbers::faults;
 use page_device::{FileDevice, MAX_PAGES, PAGE_BYTES, PageDevice, SystemFile};
@@ -62,18 +61,21 @@ where
     ensures { IsSalvagedOrFault output.old output.new result }
 {
     let SalvageRequest { old, new, pages } = request;
-    let Some(made) = create_file(rt, new, errors) else {
-        return fail(Stage::Making, faults::DEVICE, output);
+    let unnamed = match create_file(rt, new, Some(old), errors) {
+        Ok(unnamed) => unnamed,
+        Err(fault) => return fail(Stage::Making, fault, output),
     };
     warn_of_journal(rt, old, errors);
     let Some(device) = open_rest(rt, old, errors) else {
-        remove_made(rt, new, errors);
+        unnamed.remove(rt, errors);
         return fail(Stage::Opening, faults::DEVICE, output);
     };
-    let Ok((heard, refusal)) = Heard::new(rt.alloc(), SystemFile::new(made)) else {
-        complain_of_unmade(new, MakingFault::NoMemory, None, errors);
-        remove_made(rt, new, errors);
-        return fail(Stage::Making, faults::NO_MEMORY, output);
+    let (heard, refusal) = match unnamed.transfers(rt.alloc()) {
+        Ok(transfers) => transfers,
+        Err(why) => {
+            let fault = unnamed.give_up(rt, why, errors);
+            return fail(Stage::Making, fault, output);
+        }
     };
     let target = Target {
         device: FileDevice::new(heard, 0),
@@ -84,18 +86,20 @@ where
         new: _,
         found,
     } = salvage_on(rt.alloc(), device, target, errors);
-    match found {
-        Ok(rescue) => {
-            print_rescue(&rescue, output);
-            tell_losses(old, &rescue.losses, errors);
-            Ending::Done
-        }
+    let rescue = match found {
+        Ok(rescue) => rescue,
         Err(fault) => {
             let stage = explain(rt, request, fault, refusal.into_error(), errors);
-            remove_made(rt, new, errors);
-            fail(stage, fault.number(), output)
+            unnamed.remove(rt, errors);
+            return fail(stage, fault.number(), output);
         }
+    };
+    if !unnamed.give_name(rt, errors) {
+        return fail(Stage::Making, faults::DEVICE, output);
     }
+    print_rescue(&rescue, output);
+    tell_losses(old, &rescue.losses, errors);
+    Ending::Done
 }
 
 /// Opens a file to read it alone, whatever its length is. Why one is not opened is said.

@@ -2,15 +2,21 @@
 
 ghost use Rattle.msgq_cli.specs.Tasks.{IsFileSize};
 
-use msgq_cli::{Ending, Output, complain, new_file};
+use msgq_cli::{CANT_BE_MADE, Unmade, Unnamed, complain, complain_of_fault, fill_file};
 use queue_commands::{ExitStatus, Framing, Unsent, messages_of};
 use queue_model::Body;
-use rollback_journal::is_left_behind;
-use std::io::{BufWriter, ErrorKind, IsTerminal, Write};
-use std::{fs, process};
+use std::io::{ErrorKind, IsTerminal, Write};
+use std::time::Duration;
+use std::{fs, thread};
 
 /// What is said of standard input that is a terminal.
 const TERMINAL: &str = "it is a terminal: hand the body by < or |, or say - to type it";
+
+/// So many milliseconds lie between two looks whether another process has made FILE, and so often it
+/// is looked.
+const NAP: u64 = 10;
+
+const MOST_NAPS: u32 = 1_000;
 
 /// The messages of standard input. A terminal is read only where it is named. Where they can't be
 /// sent this is said, and what the command ends with is given.
@@ -44,42 +50,32 @@ fn status_of(unsent: &Unsent) -> ExitStatus {
 }
 
 /// Makes FILE of so many pages where there is none, and prints nothing of that. It gets its name
-/// once it is whole, so no other command meets a part of it. Where it can't be made this is said.
+/// once it is whole, so no other command meets a part of it. Where another process makes it, that
+/// is waited for. Where it can't be made this is said.
 pub fn make_file<E>(rt: &HostRuntime, file: &str, pages: u32, errors: &mut E) -> bool
 where
     E: Write + IsTerminal,
     requires pages { IsFileSize pages }
 {
-    match fs::metadata(rt, file) {
-        Err(error) if error.kind() == ErrorKind::NotFound => {}
-        // what else is wrong with it is told where it is opened
-        _ => return true,
-    }
-    let alloc = rt.alloc();
-    let pid = process::id(rt.process());
-    let Ok(made) = format!(in alloc; "{file}.{pid}.new") else {
-        complain(file, "it can't be made", "out of memory", errors);
-        return false;
-    };
-    // it refuses a name whose journal was left behind
-    let name = match is_left_behind(rt, file) {
-        Ok(false) => made.as_str(),
-        _ => file,
-    };
-    let Ok(writer) = BufWriter::with_capacity(alloc, 0, Vec::new(alloc)) else {
-        unreachable!()
-    };
-    let mut unseen = Output::new(writer);
-    if new_file(rt, name, pages, &mut unseen, errors) != Ending::Done {
-        return false;
-    }
-    let linked = fs::hard_link(rt, name, file);
-    let _ = fs::remove_file(rt, name);
-    match linked {
-        Err(error) if error.kind() != ErrorKind::AlreadyExists => {
-            complain(file, "it can't be made", &error, errors);
-            false
+    for _ in 0..MOST_NAPS {
+        match fs::metadata(rt, file) {
+            Err(error) if error.kind() == ErrorKind::NotFound => {}
+            // what else is wrong with it is told where it is opened
+            _ => return true,
         }
-        _ => true,
+        match Unnamed::begin(rt, file, None) {
+            Ok(unnamed) => return fill_file(rt, unnamed, pages, errors).is_ok(),
+            Err(Unmade::Refused(error)) if error.kind() == ErrorKind::AlreadyExists => {
+                return true;
+            }
+            Err(Unmade::InMaking) => thread::sleep(rt, Duration::from_millis(NAP)),
+            Err(why) => {
+                complain_of_fault(file, CANT_BE_MADE, why.number(), why, errors);
+                return false;
+            }
+        }
     }
+    let why = Unmade::InMaking;
+    complain_of_fault(file, CANT_BE_MADE, why.number(), why, errors);
+    false
 }

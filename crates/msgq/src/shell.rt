@@ -226,11 +226,12 @@ struct Sight {
 fn look_once(rt: &HostRuntime, errand: Errand<'_>, what: &Look) -> Option<Sight> {
     let alloc = rt.alloc();
     let before = Stamp::of(rt, errand.file);
-    let was_under_way = is_under_way(rt, errand.file);
+    let was_under_way = matches!(rollback_journal::look(rt, errand.file), Ok(Some(_)));
     let device = open_to_read(rt, errand.file, &mut rt.stderr()).ok()?;
     let mut text = Vec::new(alloc);
     let Ran { device: _, came } = look_on(alloc, device, errand.caller, what, &mut text);
-    let is_under_way = was_under_way || is_under_way(rt, errand.file);
+    let is_under_way = was_under_way
+        || matches!(rollback_journal::is_under_way(rt, errand.file), Ok(true));
     Some(Sight {
         text: came.map(|()| text),
         is_steady: !is_under_way && Stamp::of(rt, errand.file) == before,
@@ -245,11 +246,6 @@ fn show(rt: &HostRuntime, errand: Errand<'_>, text: &[u8]) -> ExitStatus {
         Ok(()) => ExitStatus::Done,
         Err(error) => Trouble::Unshown(error).tell(rt, errand, None),
     }
-}
-
-/// Whether the journal of FILE has pages as they were before.
-fn is_under_way(rt: &HostRuntime, file: &str) -> bool {
-    matches!(rollback_journal::look(rt, file), Ok(Some(_)))
 }
 
 /// The seconds of the clock since the beginning of 1970.

@@ -5,9 +5,9 @@ ghost use Rattle.page_device.specs.declared.page.TheConstants.{MAX_PAGES};
 ghost use Rattle.directory.specs.declared.layout.TheConstants.{LEAST_PAGES};
 ghost use Rattle.msgq_cli.specs.Refusals.{IsFaultAlone, IsMadeOrFault, Makes};
 
-use crate::complaint::{complain, complain_of, complain_of_fault, why};
-use crate::ending::{Ending, Stage};
-use crate::heard::Heard;
+use crate::complaint::{complain_of, complain_of_fault, why};
+use crate::ending::{Ending, Failure, Stage};
+use crate::new_files::{CANT_BE_MADE, Unnamed, create_file};
 use crate::output::Output;
 use crate::plain::Plain;
 use crate::progress::{Progress, Shown};
@@ -17,34 +17,28 @@ use directory::LEAST_PAGES;
 use numbers::faults;
 use page_device::{DeviceFault, FileDevice, MAX_PAGES, PageDevice, SystemFile};
 use record_file::format;
-use rollback_journal::{OpenError, is_left_behind};
-use std::fs::{File, OpenFile, OpenOptions};
-use std::io::{IsTerminal, Read, Seek, Write};
+use rollback_journal::OpenError;
+use std::fs::{File, OpenOptions};
+use std::io::{BufWriter, IsTerminal, Read, Write};
 use std::rt::Files;
 use std::{fs, io};
 
 /// A script of this name is that of standard input.
 pub const STANDARD_INPUT: &str = "-";
 
-/// What is said of a file that can't be made, or opened.
-const CANT_BE_MADE: &str = "it can't be made";
-
+/// What is said of a file that can't be opened.
 const CANT_BE_OPENED: &str = "it can't be opened";
 
 /// What can be done where a file is in use.
 const WAITS: &str = "'--wait SECONDS' waits until it is not";
 
-/// What is said where a new file would have the journal of another.
-const LEFT_BEHIND: &str =
-    "the journal of a file of this name is there; where that file is gone for \
-    good, remove the journal";
-
-/// `new FILE PAGES`: makes a file, where nothing may be yet, and prints `made PAGES`.
+/// `new FILE PAGES`: makes a file, where nothing may be yet, and prints `made PAGES`. The file and
+/// its name are on the disk then.
 ///
-/// Fault 20 alone where the system refuses to make the file or a transfer fails, or where the
-/// journal of a file of this name was left behind; fault 60 alone where there is no memory. What
-/// was made is then removed.
-pub fn new_file<R, F, W, E>(
+/// Fault 20 alone where the system refuses to make the file or a transfer fails, where another
+/// process is making it, or where the journal of a file of this name was left behind; fault 60 alone
+/// where there is no memory. What was made is then removed.
+pub fn new_file<R, W, E>(
     rt: &R,
     file: &str,
     pages: u32,
@@ -52,94 +46,67 @@ pub fn new_file<R, F, W, E>(
     errors: &mut E,
 ) -> Ending
 where
-    R: Files<File = F> + AllocGlobal,
-    F: Read + Write + Seek + OpenFile + Drop,
+    R: Files<File = File> + AllocGlobal,
     W: Write + Drop,
     E: Write + IsTerminal,
     requires least { LEAST_PAGES ≤ pages }
     requires most { pages ≤ MAX_PAGES }
     ensures { IsMadeOrFault pages output.old output.new result }
 {
-    let Some(made) = create_file(rt, file, errors) else {
-        return fail(Stage::Making, faults::DEVICE, output);
+    let unnamed = match create_file(rt, file, None, errors) {
+        Ok(unnamed) => unnamed,
+        Err(fault) => return fail(Stage::Making, fault, output),
     };
-    let Ok((heard, refusal)) = Heard::new(rt.alloc(), SystemFile::new(made)) else {
-        remove_made(rt, file, errors);
-        return fail(Stage::Making, faults::NO_MEMORY, output);
+    match fill_file(rt, unnamed, pages, errors) {
+        Ok(()) => {
+            print_made(pages, output);
+            Ending::Done
+        }
+        Err(fault) => fail(Stage::Making, fault, output),
+    }
+}
+
+/// Makes so many pages of a file that was begun, and gives it its name. Where it can't be made this
+/// is said, what was made is removed, and the fault is told.
+pub fn fill_file<R, E>(rt: &R, unnamed: Unnamed<'_>, pages: u32, errors: &mut E) -> Result<(), u8>
+where
+    R: Files<File = File> + AllocGlobal,
+    E: Write + IsTerminal,
+    requires least { LEAST_PAGES ≤ pages }
+    requires most { pages ≤ MAX_PAGES }
+{
+    let alloc = rt.alloc();
+    let file = unnamed.name();
+    let (heard, refusal) = match unnamed.transfers(alloc) {
+        Ok(transfers) => transfers,
+        Err(why) => return Err(unnamed.give_up(rt, why, errors)),
     };
+    let Ok(writer) = BufWriter::with_capacity(alloc, 0, Vec::new(alloc)) else {
+        unreachable!()
+    };
+    // that it is made is told once it has its name
+    let mut unseen = Output::new(writer);
     let ending = {
         let progress = Progress::new(&mut *errors);
         let device = Shown::new(FileDevice::new(heard, 0), &progress);
-        let (device, ending) = new_on(device, pages, output);
+        let (device, ending) = new_on(device, pages, &mut unseen);
         let _ = device.into_device();
         ending
     };
     if ending == Ending::Done {
-        return ending;
+        if unnamed.give_name(rt, errors) {
+            return Ok(());
+        }
+        return Err(faults::DEVICE);
     }
     match refusal.into_error() {
         Some(error) => complain_of_fault(file, CANT_BE_MADE, faults::DEVICE, &error, errors),
         None => complain_of(file, ending, errors),
     }
-    remove_made(rt, file, errors);
-    ending
-}
-
-/// Makes a file without a page, where nothing may be yet, nor the journal of a file of this name.
-/// Its name outlasts a crash. Where it can't be made this is said, and there is none.
-pub fn create_file<R, F, E>(rt: &R, file: &str, errors: &mut E) -> Option<F>
-where
-    R: Files<File = F> + AllocGlobal,
-    F: OpenFile + Drop,
-    E: Write,
-{
-    if let Ok(true) = is_left_behind(rt, file) {
-        complain_of_fault(file, CANT_BE_MADE, faults::DEVICE, LEFT_BEHIND, errors);
-        return None;
-    }
-    let mut how = OpenOptions::new();
-    how.read(true).write(true).create_new(true);
-    let made = match how.open(rt, file) {
-        Ok(made) => made,
-        Err(error) => {
-            complain_of_fault(file, CANT_BE_MADE, faults::DEVICE, &error, errors);
-            return None;
-        }
-    };
-    if let Err(error) = sync_folder_of(rt, file) {
-        complain_of_fault(
-            file,
-            "its name can't be kept",
-            faults::DEVICE,
-            &error,
-            errors,
-        );
-        remove_made(rt, file, errors);
-        return None;
-    }
-    Some(made)
-}
-
-/// Brings the names of the folder of a file to where they outlast a crash.
-fn sync_folder_of<R: Files>(rt: &R, file: &str) -> io::Result<()> {
-    let folder = match file.rfind('/') {
-        Some(0) => "/",
-        Some(end) => &file[..end],
-        None => ".",
-    };
-    let mut how = OpenOptions::new();
-    how.read(true);
-    how.open(rt, folder)?.sync_all()
-}
-
-/// Removes a file that was made and of which nothing came.
-pub fn remove_made<R: Files, E: Write>(rt: &R, file: &str, errors: &mut E) {
-    match rt.remove_file(file) {
-        Ok(()) => {
-            let file = Plain(file);
-            let _ = writeln!(errors, "msgq: {file}: what was made of it is removed");
-        }
-        Err(error) => complain(file, "what was made of it can't be removed", &error, errors),
+    unnamed.remove(rt, errors);
+    match ending {
+        Ending::Failed(Failure { stage: _, fault }) => Err(fault),
+        _ => Err(faults::DEVICE),
     }
 }
 

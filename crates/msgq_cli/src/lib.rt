@@ -16,6 +16,7 @@ mod help;
 mod line;
 mod line_faults;
 mod mistake;
+mod new_files;
 mod options;
 mod output;
 mod plain;
@@ -37,13 +38,13 @@ pub use complaint::{
 pub use ending::{Ending, Failure, Stage};
 pub use file_check;
 pub use files::{
-    STANDARD_INPUT, create_file, leave_unopened, new_file, new_on, open_to_read, read_file,
-    remove_made,
+    STANDARD_INPUT, fill_file, leave_unopened, new_file, new_on, open_to_read, read_file,
 };
 pub use fullness::{Fullness, read_fullness};
 pub use heard::{Heard, Refusal};
 pub use line::{Line, SeatIds};
 pub use mistake::{Expected, Mistake, Optional};
+pub use new_files::{CANT_BE_MADE, Unmade, Unnamed, create_file};
 pub use output::Output;
 pub use plain::Plain;
 pub use progress::{Progress, Shown};

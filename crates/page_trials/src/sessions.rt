@@ -118,6 +118,39 @@ fn a_session_leaves_before_or_after(rt: HostRuntime) -> Result<(), Fail> {
     Ok(())
 }
 
+/// Whether a crash leaves these pages, as recovery gives them.
+fn keeps(alloc: Global, pair: &MemPair, told: &[u8]) -> Result<bool, Fail> {
+    for loss in LOSSES {
+        for keeps_journal in [false, true] {
+            let Some(bytes) = recovered(alloc, pair, loss, keeps_journal, MANY)? else {
+                return Ok(false);
+            };
+            if bytes.as_slice() != told {
+                return Ok(false);
+            }
+        }
+    }
+    Ok(true)
+}
+
+/// Also where the session was killed between the end of its journal and the sync of that.
+#[test]
+fn what_is_told_after_a_kill_outlasts_a_crash(rt: HostRuntime) -> Result<(), Fail> {
+    let alloc = rt.alloc();
+    for calls in 0..40 {
+        let mut device = SafeDevice::new(alloc, before(alloc, calls)?)?;
+        let _ = change(&mut device);
+        let mut pair = device.into_pair().killed(MANY);
+        assert!(rt; recover(&mut pair).is_ok());
+        let told = bytes_of(alloc, pair.bytes())?;
+        assert!(rt;
+            keeps(alloc, &pair, told.as_slice())?,
+            "after {calls} calls"
+        );
+    }
+    Ok(())
+}
+
 #[test]
 fn a_session_of_four_pages_syncs_three_times(rt: HostRuntime) -> Result<(), Fail> {
     let alloc = rt.alloc();

@@ -10,6 +10,8 @@ mod system_file;
 mod system_pair;
 
 pub use holder::Holder;
-pub use opening::{LeftOver, OpenError, Opening, is_left_behind, look, open, open_in_turn};
+pub use opening::{
+    LeftOver, OpenError, Opening, is_left_behind, is_under_way, look, open, open_in_turn,
+};
 pub use safe_device;
 pub use system_pair::{Refused, SystemPair};

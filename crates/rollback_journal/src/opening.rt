@@ -174,8 +174,35 @@ where
     }
 }
 
-/// Looks whether a whole journal stands beside a file. Nothing is written.
+/// Looks whether a whole journal stands beside a file. Nothing is written. Where there is none, no
+/// crash brings one back, so what is told of the file from then on is not taken back.
 pub fn look<R>(rt: &R, path: &str) -> io::Result<Option<LeftOver>>
+where
+    R: Files<File = File> + AllocGlobal,
+{
+    let Some(pair) = pair_to_look(rt, path)? else {
+        return Ok(None);
+    };
+    let left = left_in(&pair)?;
+    if left.is_none() {
+        pair.settle_beside()?;
+    }
+    Ok(left)
+}
+
+/// Whether a whole journal stands beside a file now.
+pub fn is_under_way<R>(rt: &R, path: &str) -> io::Result<bool>
+where
+    R: Files<File = File> + AllocGlobal,
+{
+    let Some(pair) = pair_to_look(rt, path)? else {
+        return Ok(false);
+    };
+    Ok(left_in(&pair)?.is_some())
+}
+
+/// A file and its journal, both open to be read alone, where there is a journal.
+fn pair_to_look<R>(rt: &R, path: &str) -> io::Result<Option<SystemPair<File>>>
 where
     R: Files<File = File> + AllocGlobal,
 {
@@ -187,7 +214,11 @@ where
         Err(error) if error.kind() == ErrorKind::NotFound => return Ok(None),
         Err(error) => return Err(error),
     };
-    let pair = SystemPair::new(how.open(rt, path)?, journal)?;
+    Ok(Some(SystemPair::new(how.open(rt, path)?, journal)?))
+}
+
+/// What a session that was cut off has left in a journal.
+fn left_in(pair: &SystemPair<File>) -> io::Result<Option<LeftOver>> {
     let Some(found) = pair.find_journal()? else {
         return Ok(None);
     };

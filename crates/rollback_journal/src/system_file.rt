@@ -1,9 +1,10 @@
 //! A file of the system, and what the system said of it.
 
 use std::cell::Cell;
-use std::fs::OpenFile;
+use std::fs::{FileTimes, OpenFile};
 use std::io;
 use std::os::unix::fs::FileExt;
+use std::time::UNIX_EPOCH;
 
 /// A file of the system that keeps what was said where a transfer was refused last.
 #[derive(Drop)]
@@ -49,6 +50,22 @@ impl<F: FileExt + OpenFile + Drop> SystemFile<F> {
     /// Brings it to where it outlasts a crash.
     pub fn sync(&self) -> io::Result<()> {
         self.heard(self.file.sync_all())
+    }
+
+    /// Says that it was not written since it was synced: it gets a moment that no write gives it.
+    /// Where the system refuses that, which it does to who does not own the file, it is not said.
+    pub fn say_synced(&self) {
+        let _ = self
+            .file
+            .set_times(FileTimes::new().set_modified(UNIX_EPOCH));
+    }
+
+    /// Whether it is said that it was not written since it was synced.
+    pub fn is_said_synced(&self) -> bool {
+        match self.file.metadata() {
+            Ok(found) => matches!(found.modified(), Ok(moment) if moment == UNIX_EPOCH),
+            Err(_) => false,
+        }
     }
 
     /// What came of a transfer, which is kept where it was refused.

@@ -66,6 +66,16 @@ impl<F: FileExt + OpenFile + Drop> SystemPair<F> {
         Ok(self.file.bytes()? % PAGE_BYTES as u64 == 0)
     }
 
+    /// Brings both files to where they outlast a crash, where that is not known of them. It is not
+    /// noted that they are: who has not locked the journal does not know what others write.
+    pub fn settle_beside(&self) -> io::Result<()> {
+        if self.is_settled() {
+            return Ok(());
+        }
+        self.file.sync()?;
+        self.journal.sync()
+    }
+
     /// What the system said where it refused a transfer last, if it refused one.
     pub fn into_refused(self) -> Option<Refused> {
         match self.journal.into_refusal() {
@@ -230,6 +240,15 @@ impl<F: FileExt + OpenFile + Drop> PagePair for SystemPair<F> {
     }
 
     fn sync_journal(&mut self) -> io::Result<()> {
-        self.journal.sync()
+        self.journal.sync()?;
+        // Where it is ended, the file was synced before.
+        if self.begun.is_none() && matches!(self.journal.bytes(), Ok(0)) {
+            self.journal.say_synced();
+        }
+        Ok(())
+    }
+
+    fn is_settled(&self) -> bool {
+        self.journal.is_said_synced()
     }
 }

@@ -52,6 +52,11 @@ HasFile file left = left.file ≡ file
 abbrev pub HasJournal : Option Journal → Left → Type 0
 HasJournal journal left = left.journal ≡ journal
 
+-- the file and the journal are these
+pub record HasBoth (pages : List (List ℕ)) (found : Option Journal) (left : Left) : Type 0 where
+  pub file : HasFile pages left
+  pub journal : HasJournal found left
+
 -- Time goes on: a crash since t might have left what it might have left before, or what it may leave now.
 pub record Elapses {P : Type 0} (moment : P → ℕ) (left_since : P → ℕ → Left → Type 0)
     (may_leave : P → Left → Type 0) (old new : P) : Type 0 where

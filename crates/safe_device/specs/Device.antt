@@ -63,7 +63,7 @@ pub record IsWrittenOut {P : Type 0} (honest : Bool) (file : P → List (List �
   pub commits : IsTrue honest → committed file journal new.pair ≡ committed file journal old.pair
 
 -- A device that is broken asks nothing of its files. Until then a crash at any moment leaves the pages of the
--- last sync; and where the call succeeds, they stay those.
+-- last sync; and where the call succeeds, they stay those, and the device may be asked more.
 pub record StaysCommitted {P : Type 0} (honest : Bool) (file : P → List (List ℕ)) (journal : P → Option Journal)
     (moment : P → ℕ) (left_since : P → ℕ → Left → Type 0) (succeeded : Bool) (old new : DeviceState P) : Type 0 where
   pub broken : IsTrue old.is_broken → (new.pair ≡ old.pair) × IsTrue new.is_broken
@@ -71,6 +71,7 @@ pub record StaysCommitted {P : Type 0} (honest : Bool) (file : P → List (List 
       → LeavesOnly moment left_since old.pair new.pair (StandsFor (committed file journal old.pair))
   pub stays : IsTrue honest → IsTrue succeeded
       → committed file journal new.pair ≡ committed file journal old.pair
+  pub usable : IsTrue succeeded → new.is_broken ≡ false
 
 -- A device that is broken asks nothing of its files. Until then a crash at any moment of a sync leaves the pages
 -- of the last one, or those that there are now; and where it succeeds, the latter.

@@ -2,7 +2,7 @@
 ghost use Rattle.std.specs.Prelude.{◌≡◌, ◌↔◌, ◌≤◌, ◌<◌, ◌+◌, [], ◌∷◌, ◌++◌, List, ℕ, length, min, false, is_ok, Some, slice_get, slice_set, IsTrue, IfOk, OnOk, OnErr, IsErrOf, IsOkUnless};
 ghost use Rattle.page_device.specs.Device.{DiffersAtMostAt, HasCause, MayMeetTheEnd, MayBeFull, MayOnlyFail, HasRisen, MOST_FAULTS};
 ghost use Rattle.page_device.specs.declared.page.TheConstants.{MAX_PAGES};
-ghost use Rattle.safe_device.specs.Crash.{LeavesOnly};
+ghost use Rattle.safe_device.specs.Crash.{Keeps, LeavesOnly};
 ghost use Rattle.safe_device.specs.Left.{put_back};
 ghost use Rattle.safe_device.specs.Device.{HasRoom, IsOpened, IsWrittenOut, StaysCommitted, Commits};
 ghost use Rattle.safe_device.specs.Safe.{committed, IsAtRest, StandsFor};
@@ -222,6 +222,9 @@ impl<P: PagePair> PageDevice for SafeDevice<P> {
         ensures cause { HasCause MayOnlyFail self.old.failed self.new.failed result }
         ensures any_moment { Commits P.is_honest P.file P.journal P.moment P.left_since
             (is_ok result) self.old self.new }
+        ensures durable { IsTrue P.is_honest →
+            OnOk result (Keeps (StandsFor self.old.content) (P.may_leave self.new.pair)) }
+        ensures usable { OnOk result (self.new.is_broken ≡ false) }
     {
         if self.is_broken {
             self.failed = self.failed.saturating_add(1);

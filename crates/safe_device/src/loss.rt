@@ -55,6 +55,22 @@ impl MemPair {
     }
 }
 
+impl MemPair {
+    /// The files as the next program finds them where one was killed: nothing is lost of what was
+    /// not synced, and a crash may still take it.
+    pub fn killed(self, calls_left: usize) -> MemPair
+        ensures { result.newest ≡ self.newest }
+    {
+        MemPair {
+            alloc: self.alloc,
+            newest: self.newest,
+            past: self.past,
+            calls_left,
+            calls: 0,
+        }
+    }
+}
+
 impl Snapshot {
     /// The file as it was synced, with so much of what it has met since as a crash leaves.
     fn lose(&self, alloc: Global, loss: Loss) -> io::Result<Pages>

@@ -351,6 +351,11 @@ impl PagePair for MemPair {
         Ok(change(self.alloc, &mut self.newest, &mut self.past, next)?)
     }
 
+    fn is_settled(&self) -> bool {
+        // what was synced is not compared with what is read
+        false
+    }
+
     fn sync_journal(&mut self) -> io::Result<()> {
         spend(&mut self.calls_left, &mut self.calls)?;
         let mut next = self.newest.try_copy(self.alloc)?;

@@ -1,7 +1,7 @@
 //! A file of pages and the rollback journal beside it, as a crash sees them.
 ghost use Rattle.std.specs.Prelude.{◌≡◌, ◌≤◌, ℕ, Bool, [], ◌∷◌, ◌++◌, List, Option, Some, None, length, take, slice_get, slice_set, IfOk, OnOk, IsTrue};
 ghost use Rattle.safe_device.specs.Left.{Left, added, found_of, images_of};
-ghost use Rattle.safe_device.specs.Crash.{Follows, Keeps, IsTornAt, IsLongerBy, TornAt, LongerBy, CutTo, Appended, Removed, HasFile, HasJournal, Elapses};
+ghost use Rattle.safe_device.specs.Crash.{Follows, Keeps, HasBoth, IsTornAt, IsLongerBy, TornAt, LongerBy, CutTo, Appended, Removed, HasFile, HasJournal, Elapses};
 ghost use Rattle.safe_device.specs.declared.journal.Journal.{Journal as TheJournal};
 
 use crate::journal::PageImage;
@@ -116,6 +116,11 @@ pub trait PagePair {
         ensures journal { journal self.new ≡ journal self.old }
         ensures crash { (c : Left) → may_leave self.new c → may_leave self.old c }
         ensures time { Elapses moment left_since may_leave self.old self.new };
+
+    /// Whether it is known that a crash leaves both as they are read.
+    fn is_settled(&self) -> bool
+        ensures { IsTrue result →
+            Keeps (HasBoth (file self.now) (journal self.now)) (may_leave self.now) };
 
     /// A program that is killed leaves what it had written, so that is one of the outcomes.
     ghost seen_may_stay: { (pair : Self) → IsTrue is_honest →

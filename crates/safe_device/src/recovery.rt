@@ -1,10 +1,10 @@
 //! What is done before a file is opened that a crash may have left.
-ghost use Rattle.std.specs.Prelude.{◌≡◌, ◌<◌, ◌≤◌, ℕ, length, take, None, Some, is_some, IfOk, OnOk, IsTrue};
+ghost use Rattle.std.specs.Prelude.{◌≡◌, ◌↔◌, ◌<◌, ◌≤◌, ℕ, length, take, Some, is_some, IfOk, OnOk, IsTrue, IsErrOf};
 ghost use Rattle.std.specs.List.{All};
 ghost use Rattle.safe_device.specs.declared.journal.PageImage.{PageImage as TheImage};
 ghost use Rattle.safe_device.specs.Left.{put_back, recovered_by, images_of, found_of};
-ghost use Rattle.safe_device.specs.Crash.{HasFile, HasJournal, Keeps, LeavesOnly};
-ghost use Rattle.safe_device.specs.Safe.{committed, Fits, IsAtRest, IsFoundOrLeft, IsLeftBefore, IsRestoring};
+ghost use Rattle.safe_device.specs.Crash.{HasBoth, HasFile, HasJournal, Keeps, LeavesOnly};
+ghost use Rattle.safe_device.specs.Safe.{committed, Fits, IsAtRest, IsFoundOrLeft, IsLeftBefore, IsRestoring, StandsFor};
 
 use crate::page_pair::{FoundJournal, PagePair};
 use page_device::PAGE_BYTES;
@@ -34,22 +34,26 @@ impl From<io::Error> for RecoveryFault {
 }
 
 /// Puts the images of a journal back where there is one, and ends it. It may be cut off at any
-/// moment, and made again. Where there is none nothing is done.
+/// moment, and made again. Where there is none it sees to it that a crash brings none back: whoever
+/// ended it may have been killed before that was on the disk.
 #[tactic(auto, using(crate::proofs::Recovering::same_committed))]
 pub fn recover<P: PagePair>(pair: &mut P) -> Result<(), RecoveryFault>
-    // What is found without a journal was synced when its session ended.
     ensures at_rest { IsTrue P.is_honest →
-        (P.journal pair.old ≡ None → IsAtRest P.file P.journal P.may_leave pair.old) →
         OnOk result (IsAtRest P.file P.journal P.may_leave pair.new) }
     ensures pages { IsTrue P.is_honest →
         OnOk result (P.file pair.new ≡ committed P.file P.journal pair.old) }
+    // What is told of the pages from then on no crash takes back.
+    ensures durable { IsTrue P.is_honest → OnOk result
+        (Keeps (StandsFor (committed P.file P.journal pair.old)) (P.may_leave pair.new)) }
+    ensures damaged { IsTrue P.is_honest → IsErrOf result RecoveryFault.Damaged →
+        (Fits (P.journal pair.old) (P.file pair.old) → ⊥) × (pair.new ≡ pair.old) }
     ensures any_moment { IsTrue P.is_honest →
         LeavesOnly P.moment P.left_since pair.old pair.new
         (IsFoundOrLeft (committed P.file P.journal pair.old) (P.may_leave pair.old)) }
 {
     let found = pair.find_journal()?;
     let Some(journal) = found else {
-        return Ok(());
+        return Ok(settle(pair)?);
     };
     if !fits(pair, journal)? {
         return Err(RecoveryFault::Damaged);
@@ -61,11 +65,26 @@ pub fn recover<P: PagePair>(pair: &mut P) -> Result<(), RecoveryFault>
     Ok(pair.sync_journal()?)
 }
 
+/// Brings both files to where they outlast a crash, where that is not known of them.
+fn settle<P: PagePair>(pair: &mut P) -> io::Result<()>
+    ensures file { P.file pair.new ≡ P.file pair.old }
+    ensures journal { P.journal pair.new ≡ P.journal pair.old }
+    ensures settled { OnOk result
+        (Keeps (HasBoth (P.file pair.new) (P.journal pair.new)) (P.may_leave pair.new)) }
+    ensures any_moment { LeavesOnly P.moment P.left_since pair.old pair.new (P.may_leave pair.old) }
+{
+    if pair.is_settled() {
+        return Ok(());
+    }
+    pair.sync_file()?;
+    pair.sync_journal()
+}
+
 /// Whether a journal speaks of pages that are there.
 fn fits<P: PagePair>(pair: &P, journal: FoundJournal) -> io::Result<bool>
     requires found { IsTrue P.is_honest → Some journal ≡ found_of (P.journal pair.now) }
     ensures { IsTrue P.is_honest →
-        IfOk result (λ does. IsTrue does → Fits (P.journal pair.now) (P.file pair.now)) }
+        IfOk result (λ does. IsTrue does ↔ Fits (P.journal pair.now) (P.file pair.now)) }
 {
     if journal.count > pair.pages() {
         return Ok(false);

@@ -23,9 +23,10 @@ loop-index-preserved g c =
     }
 
 pub returns : goal.returns
-returns g c honest is =
+returns g c honest =
     let P = g.P.PagePair in
     let loop = c.loop-index in
     let many : c.args.journal.images ≤ loop.index = search rules in
-    fits_all (P.journal c.args.pair.now) c.args.journal (P.file c.args.pair.now) loop.index (c.requires.found honest)
-    (loop.invariant.counts honest) many (loop.invariant.so_far honest)
+    let fit = fits_all (P.journal c.args.pair.now) c.args.journal (P.file c.args.pair.now) loop.index
+    (c.requires.found honest) (loop.invariant.counts honest) many (loop.invariant.so_far honest) in
+    (λ is. fit, λ there. search rules)
