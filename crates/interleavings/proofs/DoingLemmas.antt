@@ -16,7 +16,7 @@ use Rattle.queue_model.proofs.JournalLemmas.{after-LeadsAlong}
 use Rattle.step_rules.specs.Turns.{TurnsAt}
 use Rattle.step_rules.specs.declared.progress.Progress.TheVariants as progress
 use Rattle.interleavings.specs.Words.{ActiveView, Answer, Call, Caller, FileFault, KernelState, PoolState, Progress, RecordKey, State, Step, after as journal_after, answer_of_call, call_at, conclusion_of, is_fault, lacks_room, outcome, store_of}
-use Rattle.interleavings.specs.Doing.{DoesBy, FindsNoRoom, LacksRightly, LeavesAll, turn_of}
+use Rattle.interleavings.specs.Doing.{ComesToLack, DoesBy, LacksRightly, LeavesAll, turn_of}
 use Rattle.interleavings.specs.Refining.{Refines, RefinesIn, calls_of}
 use Rattle.interleavings.proofs.LackingLemmas.{fresh_room, turns_full}
 use Rattle.interleavings.proofs.LeadLemmas.{machine}
@@ -124,15 +124,15 @@ module _ {K : Type 0} (hash : RecordKey → ℕ) (base : State) (seat : ℕ) (a 
       pub made : Does did
       made = subst Does (sym turn.told_is) (told turn.did refl turn.left_is)
 
-      come_lacks : lacks_room a.machine ≡ false → lacks_room come.machine ≡ true → FindsNoRoom hash a phase new
+      come_lacks : lacks_room a.machine ≡ false → lacks_room come.machine ≡ true → ComesToLack hash a come phase new
       come_lacks room lacks =
           let full = turns_full hash seat led.now turn.did a.machine come.machine together.records old.pool new.pool
           old.locks new.locks together.change turn.makes.aim step room lacks in
-          step.full full.room_before full.none_then
+          record { finds = step.full full.room_before full.none_then; undecided = full.undecided }
 
       -- one that begins anew lacks none
       over_lacks : (waits : Bool) → IsLeftWhenOver waits come (call_at new.seats seat) → (x : ActiveView) →
-          call_at new.seats seat ≡ Some x → lacks_room x.machine ≡ true → FindsNoRoom hash a phase new
+          call_at new.seats seat ≡ Some x → lacks_room x.machine ≡ true → ComesToLack hash a x phase new
       over_lacks true (again, left, begins) x there_now lacks =
           let same = same_Some again x (sym left ∙ there_now) in
           absurd (true≢false (sym (ap (λ (y : ActiveView). lacks_room y.machine) same ∙ lacks)
@@ -142,12 +142,14 @@ module _ {K : Type 0} (hash : RecordKey → ℕ) (base : State) (seat : ℕ) (a 
       pub made_lacks : LacksRightly hash seat a did phase new
       made_lacks x there_now sound_still room lacks = by turn.did refl turn.left_is
         where
-          come_on : call_at new.seats seat ≡ Some come → FindsNoRoom hash a phase new
-          come_on left = come_lacks room (ap (λ (y : ActiveView). lacks_room y.machine)
-              (same_Some come x (sym left ∙ there_now)) ∙ lacks)
+          come_on : call_at new.seats seat ≡ Some come → ComesToLack hash a x phase new
+          come_on left =
+              let same = same_Some come x (sym left ∙ there_now) in
+              subst (λ (y : ActiveView). ComesToLack hash a y phase new) same
+              (come_lacks room (ap (λ (y : ActiveView). lacks_room y.machine) same ∙ lacks))
 
           by : (p : Progress FileFault) → turn.did ≡ p → IsLeft p come (call_at new.seats seat) →
-              FindsNoRoom hash a phase new
+              ComesToLack hash a x phase new
           by (progress.Moved kind) p left = come_on left
           by (progress.Blocked other) p left = come_on left
           by (progress.Fault fault) p left = come_on left

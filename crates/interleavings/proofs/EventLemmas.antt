@@ -17,7 +17,8 @@ use Rattle.interleaving_core.proofs.PartLemmas.{added_is_of, entry_of_none, part
 
 -- ---- what no event changes
 
--- who sits at how many places, and whether the device is honest; and the count of its faults does not fall
+-- who sits at how many places, whether the device is honest, and how many pages there are; and the count of its faults
+-- does not fall
 pub record KeepsPlaces {K : Type 0} (old new : KernelState K) : Type 0 where
   pub keys : new.keys ≡ old.keys
   pub callers : new.callers ≡ old.callers
@@ -25,16 +26,33 @@ pub record KeepsPlaces {K : Type 0} (old new : KernelState K) : Type 0 where
   pub places : length new.seats ≡ length old.seats
   pub honest : new.pool.honest ≡ old.pool.honest
   pub later : old.pool.faults ≤ new.pool.faults
+  pub pages : length new.pool.images ≡ length old.pool.images
 
 itself : {K : Type 0} (k : KernelState K) → KeepsPlaces k k
-itself k = record { keys = refl; callers = refl; seats = refl; places = refl; honest = refl; later = omega arith }
+itself k = record {
+  keys = refl;
+  callers = refl;
+  seats = refl;
+  places = refl;
+  honest = refl;
+  later = omega arith;
+  pages = refl;
+}
 
 -- whatever calls, the journal, the stop mark and the room are
 beside : {K : Type 0} (old : KernelState K) (seats : Seats) (journal : List Entry) (stopped : Bool) (room : ℕ) →
     length seats ≡ length old.seats →
     KeepsPlaces old (record old { seats = seats; journal = journal; stopped = stopped; room = room })
 beside old seats journal stopped room many =
-    record { keys = refl; callers = refl; seats = refl; places = many; honest = refl; later = omega arith }
+    record {
+      keys = refl;
+      callers = refl;
+      seats = refl;
+      places = many;
+      honest = refl;
+      later = omega arith;
+      pages = refl;
+    }
 
 run_keeps : {K : Type 0} (seat : ℕ) (answer : Option Answer) (old new : KernelState K) →
     IsRun seat answer old new → KeepsPlaces old new
@@ -45,6 +63,7 @@ run_keeps seat answer old new r = record {
   places = ap length r.seats ∙ length-with_call old.seats seat (call_at new.seats seat);
   honest = r.rest.honest;
   later = r.rest.later;
+  pages = r.rest.pages;
 }
 
 stop_keeps : {K : Type 0} (old new : KernelState K) → IsStopped old new → (b : Bool) → old.stopped ≡ b →
@@ -80,6 +99,7 @@ places_along hash (e ∷ es) (o ∷ os) old new runs =
       places = rest.places ∙ first.places;
       honest = rest.honest ∙ first.honest;
       later = let before = first.later in let more = rest.later in omega (arith, before, more);
+      pages = rest.pages ∙ first.pages;
     }
 places_along hash _ _ old new never = absurd never
 

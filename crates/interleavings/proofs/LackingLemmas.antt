@@ -41,10 +41,11 @@ was_full caller call s bytes names full other before o records (conclusions.Answ
 was_full caller call s bytes names full other before o records conclusions.Waits right lacks = absurd cc
 was_full caller call s bytes names full other before o records conclusions.HasNoRoom right lacks = right.lacks
 
--- a trial had room, and has none
+-- a trial had room, and has none, before its call's Decide
 pub record TurnsFull (old new : CallView) : Type 0 where
   pub room_before : has_no_room old.undecided ≡ false
   pub none_then : has_no_room new.undecided ≡ true
+  pub undecided : conclusion_of new ≡ None
 
 module _ (hash : RecordKey → ℕ) (seat : ℕ) (s : State) (did : Progress FileFault) (old new : CallView)
     (records : Records) (pool pool' : PoolState) (locks locks' : Table) (change : Change) (aim : KeepsCall did old new)
@@ -55,14 +56,14 @@ module _ (hash : RecordKey → ℕ) (seat : ℕ) (s : State) (did : Progress Fil
     not_short o is lacks = absurd (true≢false (sym lacks
         ∙ sym (ap (λ (x : Option Conclusion). lacks_by x (has_no_room old.undecided)) is) ∙ room))
 
-    turns : (b : Bool) → has_no_room old.undecided ≡ b → conclusion_of old ≡ None →
+    turns : (b : Bool) → has_no_room old.undecided ≡ b → conclusion_of old ≡ None → conclusion_of new ≡ None →
         has_no_room new.undecided ≡ true → TurnsFull old new
-    turns true full is lacks = not_short None is full
-    turns false had is lacks = record { room_before = had; none_then = lacks }
+    turns true full is still lacks = not_short None is full
+    turns false had is still lacks = record { room_before = had; none_then = lacks; undecided = still }
 
     undecided : conclusion_of old ≡ None → (o : Option Conclusion) → conclusion_of new ≡ o →
         lacks_by o (has_no_room new.undecided) ≡ true → TurnsFull old new
-    undecided is None still lacks = turns (has_no_room old.undecided) refl is lacks
+    undecided is None still lacks = turns (has_no_room old.undecided) refl is still lacks
     undecided is (Some c) comes lacks = not_short None is (was_full new.caller new.call s
         new.undecided.questions.room.bytes new.undecided.questions.names (has_no_room old.undecided)
         (has_no_room new.undecided) (call_owes old) (call_owes new) step.after c (step.concludes is c comes) lacks)

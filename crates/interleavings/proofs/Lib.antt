@@ -55,13 +55,19 @@ pub mod LoneCallLemmas
 pub mod WaitLemmas
 pub mod RestingLemmas
 pub mod LoneKernelStepLemmas
-pub mod LoneKernelDriveLemmas
 pub mod NameLemmas
 pub mod WaitingLemmas
+pub mod WakeLemmas
+pub mod AddsLemmas
+pub mod InsertLemmas
+pub mod OnWayLemmas
 pub mod FoundedLemmas
 pub mod TellingLemmas
 pub mod RoomLemmas
 pub mod NoRoomLemmas
+pub mod ToldByLemmas
+pub mod LoneRoomLemmas
+pub mod LoneKernelDriveLemmas
 pub mod PlayedLemmas
 pub mod RenewLemmas
 pub use Rattle.file_check.proofs as of_file_check

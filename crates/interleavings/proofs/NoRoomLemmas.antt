@@ -35,7 +35,7 @@ use Rattle.interleavings.proofs.RoomLemmas.{LacksAt, finds_along, moves_find}
 
 -- ---- it is told
 
-abbrev no_room : Step
+abbrev pub no_room : Step
 no_room = steps.Fault faults.NoRoom
 
 no_room_answers : (answer : Answer) → no_room ≡ steps.Answered answer → ⊥
@@ -106,11 +106,11 @@ module _ (hash : RecordKey → ℕ) (seat : ℕ) (stopped : Bool) (a : ActiveVie
                   locks locks' journal journal' (anew.goes goes).0) ∙ fresh)
 
 -- no step had failed, and its call lacked room
-record LacksSoundly {K : Type 0} (seat : ℕ) (k : KernelState K) : Type 0 where
+pub record LacksSoundly {K : Type 0} (seat : ℕ) (k : KernelState K) : Type 0 where
   pub sound : k.failed ≡ false
   pub at : LacksAt seat k
 
-step_told : {K : Type 0} (hash : RecordKey → ℕ) (seat : ℕ) (old new : KernelState K) →
+pub step_told : {K : Type 0} (hash : RecordKey → ℕ) (seat : ℕ) (old new : KernelState K) →
     IsStep hash seat no_room old new → LacksSoundly seat old
 step_told hash seat old new step = by old.failed refl (call_at old.seats seat) refl
   where

@@ -3,18 +3,19 @@ use Rattle.std.proofs.Common.{ℕ, zero, suc, ◌≡◌, ◌+◌, ◌≤◌, ref
 use Rattle.std.specs.List.{list_any}
 use Rattle.std.specs.Prelude.{slice_get, sum_by}
 use Rattle.std.proofs.lemmas.Option.{get_or_from_slice_get, none-some, same_Some, slice_get_within}
-use Rattle.std.proofs.lemmas.List.{length-replicate}
+use Rattle.std.proofs.lemmas.List.{length-map, length-replicate}
 use Rattle.std.proofs.lemmas.List.Elements.{All-take}
 use Rattle.page_device.specs.Device.{HasRisen}
+use Rattle.page_device.specs.Sealed.{payload_of}
 use Rattle.interleaving_core.proofs.BeginLemmas.{idle_at, none_due}
 use Rattle.interleaving_core.specs.Closing.{has_one}
 use Rattle.interleaving_core.specs.Kernel.{due_at, due_for_stop, entries_of}
 use Rattle.interleaving_core.specs.declared.fault.CloseFault.TheVariants as closes
-use Rattle.interleavings.specs.Words.{ActiveView, Answer, Call, Caller, Entry, IsFifo, IsFileOf, IsLegal, IsOpened, KernelState, PoolState, RecordKey, after, answer_of_call, call_at, call_of, entry_of, part_of, restarted, untold}
+use Rattle.interleavings.specs.Words.{ActiveView, Answer, Call, Caller, Entry, IsFileOf, IsLegal, IsOpened, KernelState, PoolState, RecordKey, after, answer_of_call, call_at, call_of, entry_of, part_of, restarted, untold}
 use Rattle.interleavings.specs.Ending.{HasEnded}
 use Rattle.interleavings.specs.Laws.{AnswersAsPlainLists, ClosesRefine, DrivesEnd, EventsRefine, RefinesFile, StepsRefineAndDo, StepsRefine}
 use Rattle.interleavings.specs.Refining.{Refines}
-use Rattle.interleavings.specs.Moments.{HasItsPart, HasStood, IsToldBy, TellsRightly, is_stop, marked_by, once_if}
+use Rattle.interleavings.specs.Moments.{HasItsPart, HasStood, IsToldBy, TellsRightly, calls_so_far, is_stop, marked_by, once_if}
 use Rattle.interleavings.specs.Outcomes.{call_along, call_under_way, nothing_yet, tells_failure}
 use Rattle.interleavings.specs.Playing.{HasPlayed, HasReason, PlaysAsPlainLists}
 use Rattle.interleavings.specs.Runs.{AreOfSeats, IsLinearized, IsOfSeat, IsToldItsPart, Runs, told_along}
@@ -25,9 +26,12 @@ use Rattle.interleavings.specs.declared.playing.Played.{Played}
 use Rattle.interleavings.proofs.EventLemmas.{places_along}
 use Rattle.interleavings.proofs.RisenLemmas.{risen_along, risen_within}
 use Rattle.interleavings.proofs.FoundedLemmas.{founded_along}
+use Rattle.interleavings.proofs.InsertLemmas.{IsInsertingAt, inserting_along}
+use Rattle.interleavings.proofs.OnWayLemmas.{still_from_none}
 use Rattle.interleavings.proofs.OutcomeLemmas.{come_along, fails_along}
 use Rattle.interleavings.proofs.RunLemmas.{tells_its_part}
-use Rattle.interleavings.proofs.TellingLemmas.{HasEvent, event_at, told_by_event}
+use Rattle.interleavings.proofs.TellingLemmas.{HasEvent, event_at}
+use Rattle.interleavings.proofs.ToldByLemmas.{told_by_event}
 use Rattle.interleavings.proofs.WaitingLemmas.{AreFounded, IsFoundedAt}
 use Rattle.interleavings.proofs.UnderWayLemmas.{call_on, leaves_along, marked_along}
 
@@ -104,6 +108,10 @@ module _ {K : Type 0} (of : K → RecordKey → ℕ) (keys : K) (content : List 
   as_honest : new.pool.honest ≡ honest
   as_honest = (places_along hash es os old new runs).honest
       ∙ ap (λ (p : PoolState). p.honest) opened.pool
+
+  as_many : length new.pool.images ≡ length content
+  as_many = (places_along hash es os old new runs).pages
+      ∙ ap (λ (p : PoolState). length p.images) opened.pool ∙ length-map content payload_of
 
   -- the call of a seat after some of the events
   under_way : (seat : ℕ) (some : List Event) (out : List Outcome) (now : KernelState K) →
@@ -246,14 +254,20 @@ module _ {K : Type 0} (of : K → RecordKey → ℕ) (keys : K) (content : List 
                 (subst (IsOfSeat (length old.locks)) (get_or_from_slice_get es many e e is_e)
                 (are_rows many e (slice_get_within es many e is_e)))
 
-            told : IsToldBy callers led.base (λ seat. call_under_way seat (take many es) (take many os)) e o
-                at.behind.journal
-            told = told_by_event does steps hash led.base callers
-                (λ seat. call_under_way seat (take many es) (take many os)) at.before at.behind led_before led_then
-                founded ((places_along hash (take (suc many) es) (take (suc many) os) old at.behind at.through).callers
+            those : AreOfSeats (length old.seats) (take many es)
+            those = All-take (IsOfSeat (length old.seats)) many es are_seats
+
+            told : IsToldBy callers led.base (calls_so_far (take many es) (take many os)) e o at.behind.journal
+            told = told_by_event does steps hash led.base callers (calls_so_far (take many es) (take many os))
+                at.before at.behind led_before led_then founded
+                ((places_along hash (take (suc many) es) (take (suc many) os) old at.behind at.through).callers
                 ∙ opened.callers)
-                (λ seat. under_way seat (take many es) (take many os) at.before
-                (All-take (IsOfSeat (length old.seats)) many es are_seats) at.first) e o its_seat at.happens
+                (λ seat. under_way seat (take many es) (take many os) at.before those at.first)
+                (still_from_none hash (take many es) (take many os) old at.before those at.first none_before)
+                (inserting_along does steps lead hash led.base (take many es) (take many os) old at.before
+                (All-take (IsOfSeat (length old.locks)) many es are_rows) led.led at.first
+                (λ sound seat. subst (IsInsertingAt led.base old.callers old.journal) (sym (none_before seat)) tt)) e o
+                its_seat at.happens
 
             here : Rightly
             unfolding stood_at at
@@ -262,10 +276,9 @@ module _ {K : Type 0} (of : K → RecordKey → ℕ) (keys : K) (content : List 
               told = λ f p is_f is_p.
                   let same_e : e ≡ f = same_Some e f (sym is_e ∙ is_f) in
                   let same_o : o ≡ p = same_Some o p (sym is_o ∙ is_p) in
-                  subst (λ (x : Event). IsToldBy callers led.base
-                  (λ seat. call_under_way seat (take many es) (take many os)) x p at.behind.journal) same_e
-                  (subst (λ (y : Outcome). IsToldBy callers led.base
-                  (λ seat. call_under_way seat (take many es) (take many os)) e y at.behind.journal) same_o told);
+                  subst (λ (x : Event). IsToldBy callers led.base (calls_so_far (take many es) (take many os)) x p
+                  at.behind.journal) same_e (subst (λ (y : Outcome). IsToldBy callers led.base
+                  (calls_so_far (take many es) (take many os)) e y at.behind.journal) same_o told);
             }
 
         pub rightly : Rightly
@@ -286,9 +299,6 @@ module _ {K : Type 0} (of : K → RecordKey → ℕ) (keys : K) (content : List 
             legal = subst (λ (cs : List Caller). IsLegal cs played.journal.items led.base) same_callers
                 (subst (λ (entries : List Entry). IsLegal new.callers entries led.base) (sym ended.journal_is)
                 lists.legal);
-            fifo = subst (λ (cs : List Caller). IsFifo cs played.journal.items led.base) same_callers
-                (subst (λ (entries : List Entry). IsFifo new.callers entries led.base) (sym ended.journal_is)
-                lists.fifo);
             rightly = λ many. subst (TellsRightly callers led.base many es os) (sym ended.journal_is)
                 (rightly does steps many);
             leaves = λ none.
@@ -298,6 +308,8 @@ module _ {K : Type 0} (of : K → RecordKey → ℕ) (keys : K) (content : List 
                 (sym ended.journal_is)
                 (closes hash led.base left new led_behind (idle_by none) (sound_by none)
                 (ended.flushed honest_still none)));
+            pages = λ none. sym (length-map left payload_of) ∙ ap length (ended.flushed honest_still none).images
+                ∙ as_many;
             synced = ended.synced honest_still;
           }
 

@@ -78,7 +78,7 @@ module _ {K : Type 0} (does : StepsRefineAndDo K) (hash : RecordKey → ℕ) (ba
         active = a;
         there = there;
         on = on;
-        lacks = on.does.lacks lacks.active lacks.there fine room lacks.lacked;
+        lacks = (on.does.lacks lacks.active lacks.there fine room lacks.lacked).finds;
       })
 
       of_call : (b : Bool) → lacks_room a.machine ≡ b → Found

@@ -18,7 +18,7 @@ use Rattle.interleaving_core.specs.declared.step.Step.TheVariants as told
 use Rattle.interleaving_core.specs.xsi_calls.Machine.{call_turn}
 use Rattle.interleaving_core.specs.xsi_calls.Words.{Change, Store, TrialLacksRoom, Turn, World, its_plan, trials_of, world}
 use Rattle.interleavings.specs.Words.{ActiveView, IsOver, IsSeat, IsTurn, KernelState, PoolState, RecordKey, State, Step, call_at, conclusion_of, lacks_room}
-use Rattle.interleavings.specs.Doing.{DoesBy, FindsNoRoom, LeavesAll, turn_of}
+use Rattle.interleavings.specs.Doing.{DoesBy, ComesToLack, LeavesAll, turn_of}
 use Rattle.interleavings.specs.Refining.{Refines}
 use Rattle.interleavings.specs.Laws.{RefinesOn, StepsRefineAndDo, StepsRefine}
 use Rattle.interleavings.proofs.DoingLemmas.{LeadsDoing}
@@ -199,8 +199,9 @@ module _ (steps : StepTogether) (ends : EndTogether) (begins : BeginTogether) {K
                 });
                 does = does_since hash base seat anew.again anew.between old new phase_before phase_then leads.behind
                     leaves later did leads.does;
-                lacks = λ come left sound_still room lacks. subst (λ (c : Change). FindsNoRoom hash anew.again c new)
-                    leaves.phase (leads.lacks come left sound_still room lacks);
+                lacks = λ come left sound_still room lacks.
+                    subst (λ (c : Change). ComesToLack hash anew.again come c new) leaves.phase
+                    (leads.lacks come left sound_still room lacks);
               };
             }
 

@@ -81,11 +81,17 @@ FindsNoRoom hash by before new =
     TrialLacksRoom hash (its_plan by.machine.call by.machine.undecided.questions) (trials_of by.machine.undecided).due
     (world new.pool.images new.locks before)
 
--- unless the step failed, a call that had room comes to lacking it only where it finds none
+-- a call comes to lacking room by a trial that finds none, before its Decide
+pub record ComesToLack {K : Type 0} (hash : RecordKey → ℕ) (by come : ActiveView) (before : Change)
+    (new : KernelState K) : Type 0 where
+  pub finds : FindsNoRoom hash by before new
+  pub undecided : conclusion_of come.machine ≡ None
+
+-- unless the step failed, a call that had room comes to lacking it only so
 abbrev pub LacksRightly : {K : Type 0} → (RecordKey → ℕ) → ℕ → ActiveView → Step → Change → KernelState K → Type 0
 LacksRightly hash seat by did before new =
     (come : ActiveView) → call_at new.seats seat ≡ Some come → is_failure did ≡ false →
-    lacks_room by.machine ≡ false → lacks_room come.machine ≡ true → FindsNoRoom hash by before new
+    lacks_room by.machine ≡ false → lacks_room come.machine ≡ true → ComesToLack hash by come before new
 
 -- a step of a seat with this call: it is one of that call, or of the same call begun anew
 pub record DoesAsTold {K : Type 0} (hash : RecordKey → ℕ) (base : State) (seat : ℕ) (a : ActiveView) (did : Step)

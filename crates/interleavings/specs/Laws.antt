@@ -16,7 +16,7 @@ use Rattle.page_locks.specs.declared.lock.Lock.{Lock}
 use Rattle.page_locks.specs.declared.lock.LockName.{LockName}
 use Rattle.page_locks.specs.declared.lock.LockName.TheVariants as lock_names
 use Rattle.step_rules.specs.Words.{Change}
-use Rattle.interleavings.specs.Words.{ActiveView, BeginFault, Call, Caller, HasCall, HasSystem, IsDriven, IsFileOf, IsFlushedTo, IsLawful, IsOpened, IsRefused, IsSeat, IsSpent, IsStep, IsStopped, KernelState, MAX_SEATS, RecordKey, State, Step, after, call_at, restarted, store_of}
+use Rattle.interleavings.specs.Words.{ActiveView, BeginFault, Call, Caller, Entry, HasCall, HasSystem, IsDriven, IsFifo, IsFileOf, IsFlushedTo, IsLawful, IsLegal, IsOpened, IsRefused, IsSeat, IsSpent, IsStep, IsStopped, KernelState, MAX_SEATS, RecordKey, State, Step, after, call_at, restarted, store_of}
 use Rattle.interleavings.specs.Doing.{DoesAsTold}
 use Rattle.interleaving_core.specs.Counting.{count_at}
 use Rattle.interleavings.specs.Counting.{HopsFew}
@@ -106,6 +106,11 @@ EventsRefine K = (hash : RecordKey → ℕ) (base : State) (es : List Event) (os
 abbrev pub AnswersAsPlainLists : Type 0 → Type 0
 AnswersAsPlainLists K = (hash : RecordKey → ℕ) (base : State) (k : KernelState K) → IsLawful base →
     Refines hash base k → IsAsPlainLists hash base k
+
+-- from the system of a file, of each type messages are received in the order in which they were sent, each once
+abbrev pub JournalsAreFifo : Type 0
+JournalsAreFifo = (hash : RecordKey → ℕ) (content : List (List ℕ)) (base : State) (callers : List Caller)
+    (journal : List Entry) → IsFileOf hash content base → IsLegal callers journal base → IsFifo callers journal base
 
 -- what a kernel counts of a seat's last search, until a step has failed: at most one hop more than others may have
 -- added, and none where no structure change was under way since it read the depth

@@ -1,9 +1,10 @@
 -- Laws of calls that are made one at a time on a kernel. Each is the contract of a function of lone_kernel_laws.rt.
-use Rattle.std.specs.Prelude.{ℕ, ◌≡◌, ◌≤◌, Bool, true, false, IsTrue, List, Some, length}
+use Rattle.std.specs.Prelude.{ℕ, ◌≡◌, ◌≤◌, ◌⊎◌, Bool, true, false, IsTrue, List, Some, length}
 use Rattle.page_locks.specs.declared.lock_table.TheConstants.{MAX_SEATS}
+use Rattle.step_rules.specs.declared.kind.Kind.{Kind}
 use Rattle.interleaving_core.specs.declared.fault.StepFault.TheVariants as faults
 use Rattle.interleaving_core.specs.declared.step.Step.TheVariants as steps
-use Rattle.interleavings.specs.LoneKernelWords.{ActiveView, Answer, BeginFault, Call, Caller, FoundNoRoom, HasCall, HasRisen, IsDriven, IsFileOf, IsFlushedTo, IsMove, IsOpened, IsRefused, IsSeat, IsSpent, IsStopped, IsTurn, IsWhole, KernelState, MOST_CALL_STEPS, RecordKey, State, Step, TakesTurn, call_at, caller_at, is_failure, outcome, restarted}
+use Rattle.interleavings.specs.LoneKernelWords.{ActiveView, Answer, BeginFault, Call, Caller, FoundNoRoom, HasCall, HasRisen, IsDriven, IsFileOf, IsFlushedTo, IsMove, IsOpened, IsRefused, IsSeat, IsSpent, IsStep, IsStopped, IsTurn, IsWhole, KernelState, MOST_CALL_STEPS, Moves, RecordKey, State, Step, TakesTurn, call_at, caller_at, is_failure, lacks_room, outcome, restarted}
 use Rattle.interleavings.specs.Lone.{RestsOver, ServesOver, WaitsOver}
 
 -- ---- it is opened
@@ -62,6 +63,30 @@ AnswersByTheRules K = (hash : RecordKey → ℕ) (seat : ℕ) (caller : Caller) 
 
 -- ---- it is driven
 
+-- at one of these steps the record that the call was to insert next had no room in the pages of the kernel
+pub record LacksInPages {K : Type 0} (hash : RecordKey → ℕ) (seat : ℕ) (caller : Caller) (call : Call) (s : State)
+    (from : KernelState K) : Type 0 where
+  -- the step, and how many were made before
+  pub moves : ℕ
+  pub before : KernelState K
+  pub moved : Moves hash seat moves from before
+  pub kind : Kind
+  pub after : KernelState K
+  pub step : IsStep hash seat (steps.Moved kind) before after
+  -- by it the call found no room in the pages of the kernel
+  pub active : ActiveView
+  pub there : call_at before.seats seat ≡ Some active
+  pub found : FoundNoRoom hash seat caller call s
+  pub call_is : found.old ≡ active.machine
+  pub pages : (found.old_pool ≡ before.pool) × (found.new_pool ≡ after.pool)
+  pub locks : (found.old_locks ≡ before.locks) × (found.new_locks ≡ after.locks)
+
+-- the call that a seat has under way was short of room before
+pub record HadNoRoom {K : Type 0} (seat : ℕ) (k : KernelState K) : Type 0 where
+  pub active : ActiveView
+  pub there : call_at k.seats seat ≡ Some active
+  pub lacked : lacks_room active.machine ≡ true
+
 -- what is so after a drive of which its seat is told this
 pub record StandsDriven {K : Type 0} (hash : RecordKey → ℕ) (seat : ℕ) (caller : Caller) (call : Call) (s : State)
     (did : Step) (old new : KernelState K) (driven : IsDriven hash seat did old new) : Type 0 where
@@ -72,6 +97,9 @@ pub record StandsDriven {K : Type 0} (hash : RecordKey → ℕ) (seat : ℕ) (ca
   pub unspent : IsSpent seat driven.moves did driven.before new → ⊥
   -- the file fails it only where a transfer of the device failed
   pub cause : is_failure did ≡ true → HasRisen old.pool.faults new.pool.faults
+  -- no room is told only where one of its steps found none, or one before them did
+  pub room : did ≡ steps.Fault faults.NoRoom →
+      LacksInPages hash seat caller call s old ⊎ HadNoRoom seat old
 
 -- by what Kernel::drive promises
 abbrev pub DrivesByTheRules : Type 0 → Type 0

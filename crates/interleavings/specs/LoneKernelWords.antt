@@ -4,12 +4,13 @@ pub use Rattle.interleavings.specs.OpenedLaws.{restarted}
 pub use Rattle.interleavings.specs.Resting.{IsFileAtRest}
 pub use Rattle.interleaving_core.specs.file_check.Whole.{IsFileOf}
 pub use Rattle.interleavings.specs.LoneCalls.{FoundNoRoom, IsServed}
+pub use Rattle.interleavings.specs.Serving.{lacks_room}
 pub use Rattle.interleavings.specs.LoneCallWords.{Answer, Begins, Call, CallView, Caller, Conclusion, FileFault, HasFittingCall, HasFittingCaller, IsOver, IsSeat, MakesCall, PoolState, Progress, RecordKey, State, Table, call_left, conclusion_of, outcome, store_of}
 pub use Rattle.interleaving_core.specs.Words.{caller_at}
 pub use Rattle.interleaving_core.specs.Active.{ActiveView, is_waiting}
 pub use Rattle.interleaving_core.specs.Beginning.{HasCall, IsOpened, IsRefused, IsStopped}
 pub use Rattle.interleaving_core.specs.Closing.{IsFlushedTo}
-pub use Rattle.interleaving_core.specs.Driving.{IsDriven, IsSpent}
+pub use Rattle.interleaving_core.specs.Driving.{IsDriven, IsSpent, IsStep, Moves}
 pub use Rattle.interleaving_core.specs.Kernel.{IsWhole, KernelState, call_at, with_call}
 pub use Rattle.interleaving_core.specs.Owing.{IsMove, IsTurn, is_failure}
 pub use Rattle.interleaving_core.specs.Turn.{IsLeft, IsLeftWhenOver, MakesTurn, StaysWaiting, TakesTurn, TurnsAnew, told_of, told_when_over}

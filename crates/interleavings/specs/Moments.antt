@@ -1,12 +1,14 @@
--- The journal as it stands after so many events, and why a seat is then told that it waits or that it is blocked.
+-- The journal as it stands after so many events, and why a seat is then told that it waits, that it is blocked, or
+-- that a record has no room.
 -- docs/QUEUES.md, "Journals"; docs/STEPS.md, "Calls".
 use Rattle.std.specs.Prelude.{ℕ, suc, ◌≡◌, ◌≢◌, ◌≤◌, Bool, true, false, IsSome, List, ◌++◌, Option, Some, None, length, slice_get, sum_by, take, ⊤}
 use Rattle.std.specs.List.{list_any}
-use Rattle.interleaving_core.specs.Waiting.{is_woken}
+use Rattle.interleaving_core.specs.declared.fault.StepFault.TheVariants as faults
 use Rattle.interleaving_core.specs.declared.step.Step.TheVariants as steps
+use Rattle.queue_model.specs.Rules.{AddsTo}
 use Rattle.queue_model.specs.declared.entry.Entry.TheVariants.{Decided, Stopped}
-use Rattle.interleavings.specs.Words.{Answer, Call, Caller, Entry, State, Step, after, caller_at, entry_of, outcome, part_of}
-use Rattle.interleavings.specs.Outcomes.{call_under_way}
+use Rattle.interleavings.specs.Words.{Answer, Call, Caller, Entry, State, Step, after, caller_at, entry_of, outcome, outcome_for, part_of}
+use Rattle.interleavings.specs.Outcomes.{call_under_way, may_hold_locks}
 use Rattle.interleavings.specs.Runs.{told_along}
 use Rattle.interleavings.specs.declared.event.Event.{Event}
 use Rattle.interleavings.specs.declared.event.Event.TheVariants as events
@@ -53,41 +55,64 @@ pub record HasStood (many : ℕ) (es : List Event) (os : List Outcome) (journal 
 
 -- ---- what a seat is told
 
--- why its call, if it has one under way, waits: the rules have no answer to it in the system after so many of these
--- entries, and none of those behind wakes it
-pub record HasToWait (callers : List Caller) (base : State) (seat : ℕ) (under_way : Option Call) (stood : List Entry)
-    : Type 0 where
-  pub call : Call
-  pub there : under_way ≡ Some call
-  pub caller : Caller
-  pub sits : caller_at callers seat ≡ Some caller
+-- what the rules have for the call that a seat has under way, if it has one
+abbrev pub outcome_at : Option Caller → Option Call → State → Option (Answer × State)
+outcome_at caller None s = None
+outcome_at caller (Some call) s = outcome_for caller call s
+
+-- what seats have done so far
+pub record CallsSoFar : Type 0 where
+  -- the call that each has under way
+  pub under_way : ℕ → Option Call
+  -- and whether that has moved, or was blocked, by what it was told last
+  pub moved : ℕ → Bool
+
+-- it has a call under way that may hold locks
+pub record IsInTheWayOf (seat other : ℕ) (s : CallsSoFar) : Type 0 where
+  pub another : other ≢ seat
+  pub there : IsSome (s.under_way other)
+  pub moved : s.moved other ≡ true
+
+-- a call has something to insert: where so many of these entries stood it is answered something new, the next id or a
+-- message, if its caller may make it
+pub record HasToInsert (callers : List Caller) (base : State) (call : Call) (stood : List Entry) : Type 0 where
   pub since : ℕ
   pub within : since ≤ length stood
-  pub unanswered : outcome caller call (after callers (take since stood) base) ≡ None
-  pub unwoken : is_woken call since stood ≡ false
+  pub caller : Caller
+  pub answer : Answer
+  pub then : State
+  pub comes : outcome caller call (after callers (take since stood) base) ≡ Some (answer, then)
+  pub adds : AddsTo (after callers (take since stood) base) answer
 
--- another seat has a call under way
-pub record IsInTheWayOf (seat other : ℕ) (under_way : ℕ → Option Call) : Type 0 where
-  pub another : other ≢ seat
-  pub there : IsSome (under_way other)
+abbrev pub IsToInsert : List Caller → State → Option Call → List Entry → Type 0
+IsToInsert callers base None stood = ⊥
+IsToInsert callers base (Some call) stood = HasToInsert callers base call stood
 
--- a seat, while seats have these calls under way, and behind which these entries stand
-abbrev pub IsToldFor : List Caller → State → ℕ → (ℕ → Option Call) → Step → List Entry → Type 0
-IsToldFor callers base seat under_way steps.Waiting stood = HasToWait callers base seat (under_way seat) stood
-IsToldFor callers base seat under_way (steps.Blocked other) stood = IsInTheWayOf seat other under_way
-IsToldFor callers base seat under_way _ stood = ⊤
+-- a seat, beside such calls, and behind which these entries stand: it waits only where the rules have no answer, and a
+-- record has no room only where its call has one to insert
+abbrev pub IsToldFor : List Caller → State → ℕ → CallsSoFar → Step → List Entry → Type 0
+IsToldFor callers base seat s steps.Waiting stood =
+    outcome_at (caller_at callers seat) (s.under_way seat) (after callers stood base) ≡ None
+IsToldFor callers base seat s (steps.Blocked other) stood = IsInTheWayOf seat other s
+IsToldFor callers base seat s (steps.Fault faults.NoRoom) stood = IsToInsert callers base (s.under_way seat) stood
+IsToldFor callers base seat s _ stood = ⊤
 
 -- by an event with this outcome
-abbrev pub IsToldBy : List Caller → State → (ℕ → Option Call) → Event → Outcome → List Entry → Type 0
-IsToldBy callers base under_way (events.Step seat) (outcomes.Stepped did) stood =
-    IsToldFor callers base seat under_way did stood
-IsToldBy callers base under_way (events.Drive seat) (outcomes.Driven did) stood =
-    IsToldFor callers base seat under_way did stood
-IsToldBy callers base under_way _ _ stood = ⊤
+abbrev pub IsToldBy : List Caller → State → CallsSoFar → Event → Outcome → List Entry → Type 0
+IsToldBy callers base s (events.Step seat) (outcomes.Stepped did) stood = IsToldFor callers base seat s did stood
+IsToldBy callers base s (events.Drive seat) (outcomes.Driven did) stood = IsToldFor callers base seat s did stood
+IsToldBy callers base s _ _ stood = ⊤
+
+-- after events with these outcomes
+abbrev pub calls_so_far : List Event → List Outcome → CallsSoFar
+calls_so_far es os = record {
+  under_way = λ seat. call_under_way seat es os;
+  moved = λ seat. may_hold_locks seat es os;
+}
 
 -- the event behind so many others tells its seat no other reason, beside the journal as it stands behind it
 pub record TellsRightly (callers : List Caller) (base : State) (many : ℕ) (es : List Event) (os : List Outcome)
     (journal : List Entry) : Type 0 where
   pub moment : HasStood (suc many) es os journal
   pub told : (e : Event) (o : Outcome) → slice_get es many ≡ Some e → slice_get os many ≡ Some o →
-      IsToldBy callers base (λ seat. call_under_way seat (take many es) (take many os)) e o moment.stood
+      IsToldBy callers base (calls_so_far (take many es) (take many os)) e o moment.stood

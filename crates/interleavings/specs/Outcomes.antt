@@ -43,6 +43,34 @@ call_along seat under_way _ _ = under_way
 abbrev pub call_under_way : ℕ → List Event → List Outcome → Option Call
 call_under_way seat es os = call_along seat None es os
 
+-- ---- the calls that may hold locks
+
+-- it has moved, or another seat blocks it
+abbrev pub is_on_way : Step → Bool
+is_on_way (steps.Moved kind) = true
+is_on_way (steps.Blocked other) = true
+is_on_way _ = false
+
+-- after an event of the seat: by what its call was told last, if it was told anything
+abbrev pub on_way_behind : Event → Outcome → Bool → Bool
+on_way_behind (events.Begin seat call) outcomes.Begun on_way = false
+on_way_behind (events.Step seat) (outcomes.Stepped did) on_way = is_on_way did
+on_way_behind (events.Drive seat) (outcomes.Driven did) on_way = is_on_way did
+on_way_behind _ _ on_way = on_way
+
+-- after an event of whichever seat
+abbrev pub on_way_left : ℕ → Event → Outcome → Bool → Bool
+on_way_left seat e o on_way = if is_at seat e then on_way_behind e o on_way else on_way
+
+-- after events with these outcomes
+abbrev pub on_way_along : ℕ → Bool → List Event → List Outcome → Bool
+on_way_along seat on_way (e ∷ es) (o ∷ os) = on_way_along seat (on_way_left seat e o on_way) es os
+on_way_along seat on_way _ _ = on_way
+
+-- where it had no call before
+abbrev pub may_hold_locks : ℕ → List Event → List Outcome → Bool
+may_hold_locks seat es os = on_way_along seat false es os
+
 -- ---- outcomes of events
 
 -- a seat was told of a failure of the file

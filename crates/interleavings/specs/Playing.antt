@@ -1,10 +1,10 @@
 -- What events over the file of a device come to, from its opening to its closing: told by its pages, by what each seat
 -- was told and by the journal alone. docs/QUEUES.md, "Journals", "Order"; docs/STEPS.md, "Calls".
-use Rattle.std.specs.Prelude.{ℕ, ◌≡◌, ◌↔◌, Bool, true, IsSome, IsTrue, List, Some, None}
+use Rattle.std.specs.Prelude.{ℕ, ◌≡◌, ◌↔◌, Bool, true, IsSome, IsTrue, List, Some, None, length}
 use Rattle.std.specs.List.{list_any}
 use Rattle.page_device.specs.Device.{HasRisen}
 use Rattle.interleaving_core.specs.declared.fault.CloseFault.TheVariants as closes
-use Rattle.interleavings.specs.Words.{Caller, IsFifo, IsFileOf, IsLegal, RecordKey, State, after, restarted}
+use Rattle.interleavings.specs.Words.{Caller, IsFileOf, IsLegal, RecordKey, State, after, restarted}
 use Rattle.interleavings.specs.Moments.{HasItsPart, HasStood, TellsRightly}
 use Rattle.interleavings.specs.Outcomes.{AreOutcomes, call_under_way, nothing_yet, tells_failure}
 use Rattle.interleavings.specs.declared.event.Event.{Event}
@@ -41,13 +41,13 @@ pub record PlaysAsPlainLists {D : Type 0} (hash : RecordKey → ℕ) (callers : 
   pub file : IsFileOf hash content base
   -- each entry's answer is the outcome of its call, by the rules, in the system after the entries before it
   pub legal : IsLegal callers played.journal.items base
-  -- of each type messages are received in the order in which they were sent, each once
-  pub fifo : IsFifo callers played.journal.items base
-  -- a seat is told that it waits only where the rules have no answer and nothing has woken its call, and that another
-  -- blocks it only where that has a call under way
+  -- a seat is told that it waits only where the rules have no answer, and that another blocks it only where that has a
+  -- call under way that has moved, or was blocked last
   pub rightly : (many : ℕ) → TellsRightly callers base many es played.outcomes.items played.journal.items
   -- where each call has ended and nothing failed the device is left with the file of the system after the journal,
   -- which is not stopped for who opens it next
   pub leaves : played.fault ≡ None → IsFileOf hash left (restarted (after callers played.journal.items base))
+  -- which has as many pages
+  pub pages : played.fault ≡ None → length left ≡ length content
   -- and synced, so that what was written outlasts the program
   pub synced : played.fault ≡ None → IsTrue is_synced

@@ -13,6 +13,6 @@ pub use Rattle.interleavings.specs.LoneCallWords.{Begins, FileFault, HasFittingC
 pub use Rattle.interleavings.specs.Serving.{lacks_room}
 pub use Rattle.interleavings.specs.OpenedLaws.{restarted}
 pub use Rattle.page_locks.specs.declared.lock_table.TheConstants.{MAX_SEATS}
-pub use Rattle.queue_model.specs.Journal.{IsLegal, LeadsAlong, after, is_of, part_of}
+pub use Rattle.queue_model.specs.Journal.{IsLegal, LeadsAlong, after, is_of, outcome_for, part_of}
 pub use Rattle.queue_model.specs.Lawful.{IsLawful}
 pub use Rattle.queue_model.specs.Order.{IsFifo}

@@ -1,7 +1,7 @@
 //! Laws of kernels that refine a system. The functions do nothing; their contracts are the
 //! laws.
 
-ghost use Rattle.interleavings.specs.Laws.{AnswersAsPlainLists, BeginsRefine, ClosedOpens, ClosesRefine, DrivesEnd, DrivesRefine, EventsRefine, OpensRefine, OwedIsTheRest, RefusalsRefine, SearchesHopFew, SeatsHoldTheirNames, StepsRefineAndDo, StepsRefine, StopsRefine};
+ghost use Rattle.interleavings.specs.Laws.{AnswersAsPlainLists, BeginsRefine, ClosedOpens, ClosesRefine, DrivesEnd, DrivesRefine, EventsRefine, JournalsAreFifo, OpensRefine, OwedIsTheRest, RefusalsRefine, SearchesHopFew, SeatsHoldTheirNames, StepsRefineAndDo, StepsRefine, StopsRefine};
 
 use crate::concurrent_laws::{
     calls_begin_together, calls_end_together, calls_leave_the_file_at_rest, calls_owe_apart,
@@ -103,6 +103,13 @@ pub fn a_refining_kernel_answers_as_plain_lists<K>()
     ensures { AnswersAsPlainLists K }
 {
     calls_leave_the_file_at_rest();
+    journals_are_first_in_first_out();
+}
+
+/// From the system of a file a legal journal is first in, first out; so is that of each run.
+pub fn journals_of_files_are_first_in_first_out()
+    ensures { JournalsAreFifo }
+{
     journals_are_first_in_first_out();
 }
 

@@ -26,8 +26,8 @@ pub use laws::{
     a_closed_file_opens_on_its_system, a_refining_kernel_answers_as_plain_lists,
     a_refining_kernel_closes_on_its_file, a_search_hops_few_times,
     a_step_does_what_its_seat_is_told, an_opened_kernel_refines, begins_refine, drives_end,
-    drives_refine, events_refine, refusals_refine, seats_hold_their_names, steps_refine,
-    stops_refine, what_is_owed_is_the_rest,
+    drives_refine, events_refine, journals_of_files_are_first_in_first_out, refusals_refine,
+    seats_hold_their_names, steps_refine, stops_refine, what_is_owed_is_the_rest,
 };
 pub use lone_kernel_laws::{
     a_call_begins_on_a_kernel_at_rest, a_call_that_waits_is_stopped,

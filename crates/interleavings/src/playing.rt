@@ -49,11 +49,11 @@ pub enum EndFault {
 ///
 /// Whatever the order of the events, and so of the seats' steps, splits and merges of the file
 /// included: over a device that gives back what was written the journal is legal from the one
-/// system whose file the device had, and first in, first out; that is, the answers are those of
-/// plain lists asked one call at a time. Each seat is told its own, in the journal's order, each
-/// once; and the journal is a linearization of the calls (Herlihy and Wing 1990). Where each call
-/// has ended, and no transfer failed, the device is left with the file of the system after the
-/// journal: it holds the messages that nobody took, and no others.
+/// system whose file the device had; that is, the answers are those of plain lists asked one call
+/// at a time. Each seat is told its own, in the journal's order, each once; and the journal is a
+/// linearization of the calls (Herlihy and Wing 1990). Where each call has ended, and no transfer
+/// failed, the device is left with the file of the system after the journal, of as many pages: it
+/// holds the messages that nobody took, and no others.
 ///
 /// Once a step has failed no call begins, and each that is under way is told of that, and of nothing
 /// else.

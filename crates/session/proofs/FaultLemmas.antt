@@ -1,5 +1,5 @@
 -- Each fault of an opening has a number of docs/FAULTS.md.
-use Rattle.std.proofs.Common.{arith, ℕ, ◌≤◌}
+use Rattle.std.proofs.Common.{arith}
 use Rattle.file_walk.specs.Fault as walk
 use Rattle.file_walk.specs.declared.fault.StructureFault.{StructureFault}
 use Rattle.file_walk.specs.declared.fault.StructureFault.TheVariants as structure

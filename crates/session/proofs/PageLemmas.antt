@@ -1,5 +1,5 @@
 -- A session is opened, and what its pages are.
-use Rattle.std.proofs.Common.{arith, ℕ, suc, ◌≡◌, ◌≢◌, ◌<◌, ◌≤◌, IsTrue, refl, sym, ap, ◌∙◌, subst, true, false, List, [], ◌∷◌, None, Result, Ok, Err, IfOk, OnOk, length}
+use Rattle.std.proofs.Common.{arith, ℕ, suc, ◌≡◌, ◌≢◌, ◌<◌, IsTrue, refl, sym, ap, ◌∙◌, subst, true, false, List, [], ◌∷◌, None, Result, Ok, Err, IfOk, OnOk, length}
 use Rattle.std.specs.Result.{is_err, result_ok}
 use Rattle.std.proofs.lemmas.Bool.{true≢false}
 use Rattle.std.proofs.lemmas.List.{ext_get_or, get_or-map, length-map}

@@ -1,5 +1,5 @@
 -- Which pages of a session have changed, and that they are saved.
-use Rattle.std.proofs.Common.{arith, ℕ, ◌≡◌, ◌<◌, ◌≤◌, IsTrue, refl, sym, ap, ◌∙◌, subst, true, false, List, [], Option, Some, None, Result, Ok, Err, length, slice_index_or}
+use Rattle.std.proofs.Common.{arith, ℕ, ◌≡◌, ◌<◌, IsTrue, refl, sym, ap, ◌∙◌, subst, false, List, [], Option, Some, None, Result, Ok, Err, length, slice_index_or}
 use Rattle.std.specs.Prelude.{is_ok}
 use Rattle.std.proofs.lemmas.Bool.{true≢false}
 use Rattle.std.proofs.lemmas.List.{get_or-map, length-map}

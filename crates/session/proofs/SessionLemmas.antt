@@ -1,5 +1,5 @@
 -- What a session's call comes to, and that it keeps its seat.
-use Rattle.std.proofs.Common.{arith, ℕ, ◌≡◌, ◌≤◌, ◌⊎◌, refl, sym, ap, ◌∙◌, subst, inl, inr, Bool, true, false, IsSome, List, [], Option, Some, None, Err, length, nat_le, option_map, if◌then◌else◌}
+use Rattle.std.proofs.Common.{arith, ℕ, ◌≡◌, ◌≤◌, refl, sym, ap, ◌∙◌, subst, inl, inr, Bool, true, false, IsSome, List, Option, Some, None, Err, length, nat_le, option_map, if◌then◌else◌}
 use Rattle.std.proofs.lemmas.Bool.{cases_eq}
 use Rattle.std.proofs.lemmas.Bool.Decides.{nat_tests}
 use Rattle.bucket_page.specs.Pseudokeys.{sha_key}
@@ -19,11 +19,12 @@ use Rattle.interleaving_core.specs.Words.{Entry}
 use Rattle.interleaving_core.specs.declared.fault.BeginFault.TheVariants as begins
 use Rattle.interleaving_core.specs.declared.fault.StepFault.TheVariants as faults
 use Rattle.interleaving_core.specs.declared.step.Step.TheVariants as steps
+use Rattle.interleavings.proofs.LoneRoomLemmas.{begun_with_room}
 use Rattle.interleavings.specs.LoneKernelLaws.{AnswersLoneCalls, RefusesAtRest, StandsBehind, StandsDriven, StopsAKernel}
 use Rattle.interleavings.specs.Lone.{WaitsOver}
 use Rattle.interleavings.specs.LoneKernelWords.{ActiveView, Answer, BeginFault, Call, Caller, HasCall, IsDriven, IsMove, IsRefused, IsSeat, IsStopped, IsWhole, State, Step, call_at, caller_at, with_call}
 use Rattle.session.specs.Session.{Becomes, Calls, Holds, IsSession, IsShortened, SessionState, Stops, came_of, caller_of, is_waiting, saved_of, unanswered_by}
-use Rattle.session.specs.declared.unanswered.Unanswered.TheVariants.{Waits, NoRoom, NoMemory, Failed}
+use Rattle.session.specs.declared.unanswered.Unanswered.TheVariants.{Waits}
 
 -- ---- its journal is let go
 
@@ -260,8 +261,19 @@ module _ (answers : AnswersLoneCalls ShaKey) (call : Call) (old first begun last
         }
     becomes_so s holds steps.Idle is_d over = absurd (behind s holds steps.Idle is_d)
     becomes_so s holds (steps.Fault faults.NoRoom) is_d over =
-        let none = behind s holds (steps.Fault faults.NoRoom) is_d in
-        record { caller = has.caller; sits = its_caller; found = none.0; holds = none.1 }
+        record {
+          caller = has.caller;
+          sits = its_caller;
+          first = first;
+          shortened = same;
+          begun = begun;
+          begins = has;
+          lacks = elim ((stands s holds).room is_d) [
+            | inl lacks ↦ lacks
+            | inr had ↦ absurd (begun_with_room 1 call first begun has had)
+          ];
+          holds = (behind s holds (steps.Fault faults.NoRoom) is_d).1;
+        }
     becomes_so s holds (steps.Fault (faults.File fault)) is_d over = record {
       failed = behind s holds (steps.Fault (faults.File fault)) is_d;
       cause = subst (λ (n : ℕ). HasRisen n last.pool.faults) faults_same ((stands s holds).cause (ap is_failure is_d));

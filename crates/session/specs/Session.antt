@@ -21,7 +21,8 @@ use Rattle.interleaving_core.specs.declared.fault.OpenFault.TheVariants as opens
 use Rattle.interleaving_core.specs.declared.fault.StepFault.TheVariants as faults
 use Rattle.interleaving_core.specs.declared.step.Step.TheVariants as steps
 use Rattle.interleavings.specs.Lone.{RestsOver}
-use Rattle.interleavings.specs.LoneKernelWords.{Answer, BeginFault, Call, Caller, FoundNoRoom, IsFileOf, IsSeat, KernelState, State, Step, caller_at, restarted}
+use Rattle.interleavings.specs.LoneKernelLaws.{LacksInPages}
+use Rattle.interleavings.specs.LoneKernelWords.{Answer, BeginFault, Call, Caller, HasCall, IsFileOf, IsSeat, KernelState, State, Step, caller_at, restarted}
 use Rattle.session.specs.declared.unanswered.Unanswered.{Unanswered}
 use Rattle.session.specs.declared.unanswered.Unanswered.TheVariants.{Waits, NoRoom, NoMemory, Failed}
 
@@ -147,11 +148,16 @@ pub record IsAnswered (call : Call) (s : State) (answer : Answer) (old new : Ses
   pub by_rules : outcome_for (caller_of old) call s ≡ Some (answer, after)
   pub holds : Holds after new
 
--- a record that the call was to insert had no room in the pages, and nothing has changed
+-- a record that the call was to insert had no room in the pages at a step of it, and nothing has changed
 pub record LacksRoom (call : Call) (s : State) (old new : SessionState) : Type 0 where
   pub caller : Caller
   pub sits : caller_of old ≡ Some caller
-  pub found : FoundNoRoom sha_key 1 caller call s
+  -- it began, once the journal was let go or was left, and was driven
+  pub first : SessionState
+  pub shortened : IsShortened old first
+  pub begun : SessionState
+  pub begins : HasCall 1 call first begun
+  pub lacks : LacksInPages sha_key 1 caller call s begun
   pub holds : Holds s new
 
 -- the file has failed, as a transfer of its device did
