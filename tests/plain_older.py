@@ -3,6 +3,35 @@ from plain_file import (COUNTER, KEY, MESSAGE, OLDER, PAYLOAD, QUEUE, TYPE, Mess
                         pseudokey, records_in, records_of)
 
 
+# The records of a file of version 1, byte for byte: of the script `1 get 7 create`, `1 snd 1 5 61`, `1 snd 1 2 62`, `1 snd 1 3 63`.
+TYPED = """
+0008 01 00000000 0000000000000000  00000002 00000001
+0004 02 00000000 0000000000000007  00000001
+0051 03 00000001 0000000000000000  01 00000007 00004000 00000003 00000003 00000001 00000000 0000000000000004 0000000000000000
+    0000000000000001 0000000000000004 0000000000000001 0000000000000003 0000000000000002
+0020 04 00000001 0000000000000002  0000000000000002 0000000000000002 0000000000000000 0000000000000003
+0020 04 00000001 0000000000000003  0000000000000003 0000000000000003 0000000000000002 0000000000000005
+0020 04 00000001 0000000000000005  0000000000000001 0000000000000001 0000000000000003 0000000000000000
+0025 05 00000001 0000000000000001  0000000000000005 00000001 0000000000000000 0000000000000002 0000000000000000 61
+0025 05 00000001 0000000000000002  0000000000000002 00000001 0000000000000001 0000000000000003 0000000000000000 62
+0025 05 00000001 0000000000000003  0000000000000003 00000001 0000000000000002 0000000000000000 0000000000000000 63
+"""
+
+
+def typed_older_file():
+    """The payloads of that file: 36 pages, of which 33 has the records and 34 and 35 are free."""
+    typed = {page: b"\2" for page in range(1, 33)}
+    typed |= {0: b"\1\1\0\0MSGQFILE" + bytes([0, 0, 0, 36, 0, 0, 0, 34, 0, 0, 0, 1]), 1: b"\2" + bytes(18) + bytes([33])}
+    typed |= {33: b"\3\0\0\11" + bytes(8) + bytes([1, 179, 0, 0]) + bytes.fromhex(TYPED), 34: b"\5" + bytes(6) + bytes([35]), 35: b"\5"}
+    return {page: payload.ljust(PAYLOAD, b"\0") for page, payload in typed.items()}
+
+
+def typed_system():
+    """What that file holds; a queue of version 1 is of user 0 and group 0, and its mode is 666."""
+    kept = dict(qbytes=16384, lspid=1, lrpid=0, stime=4, rtime=0, ctime=1, next_serial=4, uid=0, gid=0, cuid=0, cgid=0, mode=0o666)
+    return System(2, [Queue(1, 7, kept, [Message(1, 5, 1, b"a"), Message(2, 2, 1, b"b"), Message(3, 3, 1, b"c")])])
+
+
 def put_record(payload, key, value):
     """A bucket with a record more, or with another value of it."""
     records = {**records_in(payload, OLDER), key: value}

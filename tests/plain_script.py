@@ -4,6 +4,21 @@ import re
 KINDS = ("Grant Release ReadDepth ReadEntry Look Hop WriteRecord Decide TakePage CopyDirectory RaiseDepth WriteNew WriteOld Retarget "
          "SetCounts WriteLeft Tombstone Convert WriteFree LinkFree LowerDepth").split()
 
+# Lines of which each is wrong by itself.
+WRONG_LINES = [line.strip().encode("ascii") for line in """
+1; 0 stop; 65 stop; -1 stop; +1 stop; one stop; 4294967297 stop; stop; 1 go; 1 STOP; 1 stop 1; 1 get; 1 get x;
+1 get 4294967296; 1 get +1; 1 get 7 creat; 1 get 7 create create; 1 get 7 excl excl; 1 get 7 mode=66;
+1 get 7 mode=0666; 1 get 7 mode=668; 1 get 7 mode=600 mode=600; 1 get 7 nowait; 1 snd 1 1; 1 snd 1 1 6; 1 snd 1 1 6g;
+1 snd 1 1 --; 1 snd 1 +1 61; 1 snd 1 - 61; 1 snd 1 9223372036854775808 61; 1 snd 1 -9223372036854775809 61;
+1 snd 1 1 61 noerror; 1 snd 1 1 61 nowait nowait; 1 rcv 1 10; 1 rcv 1 -1 0; 1 rcv 1 10 0 create;
+1 rcv 1 10 0 noerror noerror; 1 stat; 1 stat 1 1; 1 set 1; 1 set 1 5 uid=; 1 set 1 5 uid=+1; 1 set 1 5 gid=1 gid=1;
+1 set 1 5 excl; 1 rm; 1 rm x; ids 1 2; ids 1 2 3 4; ids 65 0 0; ids 1 x 0;
+""".split(";") if line.strip()]
+WRONG_LINES += [b" \t", b"1\x0bstop", b"# \xc3\xa9", b"1 stop\r"]
+
+# And words of a schedule.
+WRONG_WORDS = b"0 65 +1 -1 one 1? 1: 1:0 1:1000001 1:+2 1!! 1@ 1@decide 1@Decided ! @Look :3 STOP stop! 1stop".split()
+
 
 def is_number(word):
     return re.fullmatch(r"[0-9]+", word) is not None and int(word) < 2**32

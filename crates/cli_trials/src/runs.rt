@@ -1,6 +1,6 @@
 //! Commands and looks on a file in memory.
 
-use command_runs::{CommandError, Form, Look, Ran, look_on, run_on};
+use command_runs::{CommandError, Form, Look, Printer, Ran, look_on, run_on};
 use page_device::MemDevice;
 use queue_commands::{Command, QueueName, Receiving, Request, Sending};
 use queue_model::{Body, Caller, Errno};
@@ -77,7 +77,7 @@ fn what_is_sent_is_received(rt: HostRuntime) -> Result<(), Fail> {
         (receiving(1), Err(Errno::ENOMSG)),
     ];
     for (command, wanted) in rows {
-        let mut output = Vec::new(alloc);
+        let mut output = Printer::new(Vec::new(alloc));
         let Ran { device: left, came } = run_on(
             alloc,
             device,
@@ -85,10 +85,11 @@ fn what_is_sent_is_received(rt: HostRuntime) -> Result<(), Fail> {
             &request(command),
             &mut output,
         );
+        let printed = output.into_writer();
         match (came, wanted) {
-            (Ok(()), Ok(text)) => assert!(rt; output.as_slice() == text),
+            (Ok(()), Ok(text)) => assert!(rt; printed.as_slice() == text),
             (Err(CommandError::Refused(errno)), Err(wanted)) => {
-                assert!(rt; errno == wanted && output.is_empty());
+                assert!(rt; errno == wanted && printed.is_empty());
             }
             _ => assert!(rt; false),
         }
@@ -102,7 +103,7 @@ fn what_is_not_printed_stays(rt: HostRuntime) -> Result<(), Fail> {
     let alloc = rt.alloc();
     let mut device = MemDevice::new(alloc);
     assert!(rt; format(&mut device, 258).is_ok());
-    let mut output = Vec::new(alloc);
+    let mut output = Printer::new(Vec::new(alloc));
     let sent = run_on(alloc, device, NANCY, &request(sending(alloc)?), &mut output);
     assert!(rt; sent.came.is_ok());
     let refused = run_on(
@@ -110,7 +111,7 @@ fn what_is_not_printed_stays(rt: HostRuntime) -> Result<(), Fail> {
         sent.device,
         NANCY,
         &request(receiving(2)),
-        &mut Closed,
+        &mut Printer::new(Closed),
     );
     assert!(rt; matches!(refused.came, Err(CommandError::Unprinted(_))));
     let mut device = refused.device;
@@ -126,9 +127,9 @@ fn what_is_not_printed_stays(rt: HostRuntime) -> Result<(), Fail> {
         ),
     ];
     for (look, wanted) in looks {
-        let mut output = Vec::new(alloc);
+        let mut output = Printer::new(Vec::new(alloc));
         let seen = look_on(alloc, device, NANCY, &look, &mut output);
-        assert!(rt; seen.came.is_ok() && output.as_slice() == wanted);
+        assert!(rt; seen.came.is_ok() && output.into_writer().as_slice() == wanted);
         device = seen.device;
     }
     Ok(())

@@ -1,55 +1,10 @@
 //! Schedules, typed from their grammar.
 
-use schedules::{Event, Expected, ScheduleError, read_schedule, word_at};
+use schedules::{Event, Expected, read_schedule, word_at};
 use std::alloc::Global;
 use std::process::Abort;
 use std::test::Fail;
 use step_rules::Kind;
-
-/// Words of which each is wrong by itself.
-const WRONG: &str = "0
-65
-+1
--1
-one
-1?
-1:
-1:0
-1:1000001
-1:+2
-1!!
-1@
-1@decide
-1@Decided
-!
-@Look
-:3
-STOP
-stop!
-1stop";
-
-/// The schedule is wrong from this word on.
-fn is_wrong(rt: &impl Abort, alloc: Global, text: &[u8], word: u64) -> Result<(), ScheduleError> {
-    match read_schedule(alloc, text) {
-        Err(ScheduleError::NoMemory) => Err(ScheduleError::NoMemory),
-        other => {
-            let named = other.err() == Some(ScheduleError::WrongWord { word });
-            assert!(rt; named, "word {word}");
-            Ok(())
-        }
-    }
-}
-
-#[test]
-fn each_wrong_word_is_named(rt: HostRuntime) -> Result<(), Fail> {
-    let alloc = rt.alloc();
-    for word in WRONG.split('\n') {
-        let text = format!(in alloc; " 1!\tstop\n\n{word} 1x")?;
-        is_wrong(&rt, alloc, text.as_bytes(), 3)?;
-    }
-    is_wrong(&rt, alloc, b"1 \xff", 2)?;
-    Ok(())
-}
 
 /// This word, which is wrong, is found behind another, and told what could stand in its place.
 fn is_told(rt: &impl Abort, alloc: Global, word: &str, wanted: Expected) -> Result<(), Fail> {

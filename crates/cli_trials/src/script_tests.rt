@@ -1,96 +1,13 @@
 //! Scripts, typed from their grammar.
 
-use msgq_cli::{Command, Line, ScriptError, read_script};
+use msgq_cli::{Command, Line, read_script};
 use queue_model::{
     Body, Call, Caller, GetArguments, ReceiveArguments, SendArguments, SetArguments,
 };
-use std::alloc::Global;
 use std::process::Abort;
 use std::test::Fail;
 
-/// Lines of which each is wrong by itself.
-const WRONG: &str = "1
- \t
-0 stop
-65 stop
--1 stop
-+1 stop
-one stop
-4294967297 stop
-stop
-1 go
-1 STOP
-1 stop 1
-1\x0bstop
-1 get
-1 get x
-1 get 4294967296
-1 get +1
-1 get 7 creat
-1 get 7 create create
-1 get 7 excl excl
-1 get 7 mode=66
-1 get 7 mode=0666
-1 get 7 mode=668
-1 get 7 mode=600 mode=600
-1 get 7 nowait
-1 snd 1 1
-1 snd 1 1 6
-1 snd 1 1 6g
-1 snd 1 1 --
-1 snd 1 +1 61
-1 snd 1 - 61
-1 snd 1 9223372036854775808 61
-1 snd 1 -9223372036854775809 61
-1 snd 1 1 61 noerror
-1 snd 1 1 61 nowait nowait
-1 rcv 1 10
-1 rcv 1 -1 0
-1 rcv 1 10 0 create
-1 rcv 1 10 0 noerror noerror
-1 stat
-1 stat 1 1
-1 set 1
-1 set 1 5 uid=
-1 set 1 5 uid=+1
-1 set 1 5 gid=1 gid=1
-1 set 1 5 excl
-1 rm
-1 rm x
-ids 1 2
-ids 1 2 3 4
-ids 65 0 0
-ids 1 x 0
-# \u{e9}
-1 stop\r";
-
-/// Reads a script that is wrong from this line on.
-fn is_wrong(rt: &impl Abort, alloc: Global, bytes: &[u8], line: u64) -> Result<(), ScriptError> {
-    match read_script(alloc, bytes) {
-        Err(ScriptError::NoMemory) => Err(ScriptError::NoMemory),
-        Err(ScriptError::WrongLine { line: named, .. }) => {
-            assert_eq!(rt; named, line);
-            Ok(())
-        }
-        Ok(_) => panic!(rt; "line {line}"),
-    }
-}
-
-#[test]
-fn each_wrong_line_is_named(rt: HostRuntime) -> Result<(), Fail> {
-    let alloc = rt.alloc();
-    for line in WRONG.split('\n') {
-        let text = format!(in alloc; "#\n\n{line}")?;
-        is_wrong(&rt, alloc, text.as_bytes(), 3)?;
-    }
-    is_wrong(&rt, alloc, b"1 stop\n#\xff\n1 go", 2)?;
-    is_wrong(&rt, alloc, b"#\r\n\r", 2)?;
-    is_wrong(&rt, alloc, b"1 stop\nids 1 0 0\n", 2)?;
-    is_wrong(&rt, alloc, b"ids 1 0 0\nids 2 0 0\nids 1 0 0\n1 stop\n", 3)?;
-    Ok(())
-}
-
-/// The script that the next tests read.
+/// The script that the tests read.
 const SCRIPT: &[u8] = b"# a \x01 comment\r\r\n\r\nids 1 100 10\nids 03 0 4294967295\n\
     1 get 7 create\n1 snd 1 5 61\r\n1 rcv 1 10 0\n2 rcv 1 10 -9223372036854775808 noerror nowait\n\
     4 set 1 30000 uid=200\n\t1  get private mode=640 excl \n\
@@ -201,14 +118,5 @@ fn each_seat_has_its_ids(rt: HostRuntime) -> Result<(), Fail> {
             "seat {seat}"
         );
     }
-    Ok(())
-}
-
-#[test]
-fn an_empty_script_has_seat_1(rt: HostRuntime) -> Result<(), Fail> {
-    let script = read_script(rt.alloc(), b"ids 5 1 1\n# nothing")?;
-    script.keeps_seats();
-    assert!(rt; script.lines().is_empty());
-    assert_eq!(rt; script.greatest_seat(), 1);
     Ok(())
 }

@@ -1,13 +1,15 @@
 -- A command asked of a file in memory, and its end on the device.
-use Rattle.std.proofs.Common.{◌≡◌, ◌≢◌, ◌↔◌, ℕ, ◌≤◌, inl, inr, Bool, true, false, List, [], ◌∷◌, length, Option, Some, None, unwrap_or, Result, Ok, Err, refl, sym, ap, subst, slice_index_or, suc}
+use Rattle.std.proofs.Common.{◌≡◌, ◌↔◌, ◌∙◌, ℕ, ◌≤◌, inl, inr, Bool, true, false, List, [], ◌∷◌, length, Option, Some, None, unwrap_or, Result, Ok, Err, IfOk, refl, sym, ap, subst, slice_index_or, suc, arith}
 use Rattle.std.specs.List.{list_any}
+use Rattle.std.proofs.lemmas.List.{length-map}
 use Rattle.page_device.specs.Device.{HasRisen}
+use Rattle.page_device.specs.Sealed.{payload_of}
 use Rattle.page_device.proofs.CopyLemmas.{risen-since}
 use Rattle.bucket_page.specs.Pseudokeys.{sha_key}
 use Rattle.bucket_page.specs.declared.pseudokey.ShaKey.{ShaKey}
-use Rattle.interleavings.specs.LoneKernelLaws.{ClosesAKernel}
+use Rattle.interleavings.specs.LoneKernelLaws.{ClosesAKernel, OpensAKernel}
 use Rattle.interleavings.specs.Lone.{RestsOver}
-use Rattle.interleavings.specs.LoneKernelWords.{ActiveView, Caller, IsFileOf, KernelState, State, restarted}
+use Rattle.interleavings.specs.LoneKernelWords.{ActiveView, Caller, IsFileOf, IsFlushedTo, IsOpened, KernelState, PoolState, State, restarted}
 use Rattle.interleavings.specs.interleaving_core.Closing.{IsBusy, IsReleased, OnDevice, fault_in, has_one, is_busy}
 use Rattle.interleavings.specs.interleaving_core.declared.closing.NotClosed.{NotClosed}
 use Rattle.interleavings.specs.interleaving_core.declared.closing.NotClosed.TheVariants.{Busy, Fault}
@@ -20,19 +22,33 @@ use Rattle.queue_commands.specs.declared.error.AskError.{AskError}
 use Rattle.queue_commands.specs.declared.error.AskError.TheVariants as asking
 use Rattle.queue_commands.specs.declared.request.Request.{Request}
 use Rattle.command_runs.specs.Faults.{of_asking}
-use Rattle.command_runs.specs.Memory.{AsksFile, AsksFrom, ComesTo, IsAsked, IsClosed, MayNotAnswer, MayNotDo, Pages}
-use Rattle.command_runs.specs.Running.{EndsAs, EndsWith, RunsOn, seen}
-use Rattle.command_runs.specs.Sessions.{Lacks, MayLack, SessionState, Stands}
+use Rattle.command_runs.specs.Memory.{AsksFile, ComesTo, IsAsked, IsClosed, MayNotDo}
+use Rattle.command_runs.specs.Running.{EndsAs, EndsWith, IfUnprinted, RunsOn, seen}
+use Rattle.command_runs.specs.Sessions.{Lacks, Pages, SessionState, Stands}
 use Rattle.command_runs.specs.declared.error.CallFault.{CallFault}
-use Rattle.command_runs.specs.declared.error.CallFault.TheVariants.{NotBegun, Failed, Lost}
+use Rattle.command_runs.specs.declared.error.CallFault.TheVariants.{Lost}
 use Rattle.command_runs.specs.declared.error.CommandError.{CommandError}
 use Rattle.command_runs.specs.declared.error.CommandError.TheVariants as errors
 use Rattle.command_runs.specs.declared.running.Asked.{Asked}
-use Rattle.command_runs.proofs.AskLemmas.{risen}
+use Rattle.command_runs.proofs.AskLemmas.{risen, session}
 
 -- a kernel has failed or has not
 apart : {K : Type 0} (k : KernelState K) → k.failed ≡ false → k.failed ≡ true → ⊥
 apart k sound failed = absurd cc
+
+-- ---- it is opened
+
+-- on the file of a system it rests over that, and no call was made on it
+pub stands_opened : OpensAKernel ShaKey → (c : Caller) (s : State) (content : Pages) (keys : ShaKey) (frames : ℕ)
+    (k : KernelState ShaKey) → IsOpened keys content true (c ∷ []) frames k → IsFileOf sha_key content s →
+    Stands content c s (session k None)
+stands_opened opens c s content keys frames k opened file = record {
+  rests = opens sha_key keys content true (c ∷ []) frames k opened refl s file (omega arith) (omega arith);
+  seated = opened.callers;
+  answered = 0;
+  has = record { keys = keys; frames = frames; opened = opened };
+  pages = ap (λ (p : PoolState). length p.images) opened.pool ∙ length-map content payload_of;
+}
 
 -- ---- it is closed
 
@@ -68,67 +84,72 @@ never_unclosed (Fault closed fault) k s content honest synced rests busy failed 
 
 -- ---- it was asked in a session
 
-may_not_answer : (c : Caller) (Is : Asking (List ℕ)) (content : Pages) (fault : CallFault) → MayLack c fault →
-    MayNotAnswer c Is content fault
-may_not_answer c Is content (NotBegun fault) may = may
-may_not_answer c Is content (Failed fault) may = may
-may_not_answer c Is content Lost may = absurd may
+-- its pages are as many as its images
+flushed_pages : (pool : PoolState) (file : Pages) → IsFlushedTo pool file → length file ≡ length pool.images
+flushed_pages pool file flushed = sym (length-map file payload_of) ∙ ap length flushed.images
 
 module _ (Is : Asking (List ℕ)) (c : Caller) (x : SessionState) (content : Pages) where
   -- there is a text, and a file
   pub comes_to : ClosesAKernel ShaKey → (text : List ℕ) (file : Pages) →
-      Comes (λ s. Stands c s x) (Lacks c x) Is (Ok text) →
+      Comes (λ s. Stands content c s x) (λ call s. Lacks content c call s x) Is (Ok text) →
       ((s : State) → RestsOver sha_key s x.kernel → IsClosed x.kernel (Ok file)) →
       ComesTo c Is content (Ok (record { text = text; file = file }))
   comes_to closing text file comes closed = record {
     system = comes.system;
     is = comes.is;
     holds = closing sha_key comes.system file x.kernel comes.stands.rests (closed comes.system comes.stands.rests);
+    pages = flushed_pages x.kernel.pool file (closed comes.system comes.stands.rests) ∙ comes.stands.pages;
   }
 
   -- it is always closed
-  pub comes_to_close : (text : List ℕ) (error : CommandError) → Comes (λ s. Stands c s x) (Lacks c x) Is (Ok text) →
+  pub comes_to_close : (text : List ℕ) (error : CommandError) → Comes (λ s. Stands content c s x) (λ call s. Lacks content c call s x) Is (Ok text) →
       ((s : State) → RestsOver sha_key s x.kernel → IsClosed x.kernel (Err error)) → ComesTo c Is content (Err error)
   comes_to_close text error comes closed = absurd (closed comes.system comes.stands.rests)
 
   -- there is no text
   pub comes_to_none : (error : AskError) → x.kernel.pool.faults ≡ 0 →
-      Comes (λ s. Stands c s x) (Lacks c x) Is (Err error) →
+      Comes (λ s. Stands content c s x) (λ call s. Lacks content c call s x) Is (Err error) →
       ComesTo c Is content (Err (of_asking error x.fault))
   comes_to_none (asking.Refused e) none comes = (comes.system, comes.is)
   comes_to_none asking.Unanswered none comes =
-      subst (λ (fault : Option CallFault). MayNotAnswer c Is content (unwrap_or fault Lost)) (sym comes.is)
-      (may_not_answer c Is content comes.fault (comes.cause none))
+      subst (λ (fault : Option CallFault). MayNotDo c Is content (errors.Unanswered (unwrap_or fault Lost)))
+      (sym comes.cause.is)
+      (record { call = comes.call; system = comes.system; at = comes.at; cause = comes.cause.cause none })
   comes_to_none asking.NoMemory none comes = tt
 
--- it left a file of another number of pages
-pub other_pages : (c : Caller) (r : Request) (content : Pages) (asked : Asked) → AsksFrom c r content (Ok asked) →
-    length asked.file ≢ length content → AsksFile c r content (Err (errors.Unanswered Lost))
-other_pages c r content asked from other = inl (record {
-  system = from.system;
-  file = from.file;
-  comes = record {
-    text = asked.text;
-    system = from.comes.system;
-    is = from.comes.is;
-    file = asked.file;
-    holds = from.comes.holds;
-    other = other;
-  };
-})
+-- the file that it leaves has as many pages
+pub asked_pages : (c : Caller) (r : Request) (content : Pages) (came : Result Asked CommandError) →
+    AsksFile c r content came → IfOk came (λ asked. length asked.file ≡ length content)
+asked_pages c r content (Ok asked) (inl from) = from.comes.pages
+asked_pages c r content (Ok asked) (inr refused) = absurd (let told = refused.told in cc)
+asked_pages c r content (Err error) asks = tt
+
+-- no text of it was to be printed
+pub never_unprinted : (c : Caller) (r : Request) (content : Pages) (error : CommandError) (P : Type 0) →
+    AsksFile c r content (Err error) → IfUnprinted P (Err error)
+never_unprinted c r content (errors.Unprinted error) P (inl from) = absurd from.comes
+never_unprinted c r content (errors.Unprinted error) P (inr refused) = absurd (let told = refused.told in cc)
+never_unprinted c r content (errors.Unopened fault) P asks = tt
+never_unprinted c r content (errors.Refused e) P asks = tt
+never_unprinted c r content (errors.Unanswered fault) P asks = tt
+never_unprinted c r content errors.NoMemory P asks = tt
+never_unprinted c r content (errors.Unclosed fault) P asks = tt
 
 -- ---- it ends on the device
 
 module _ (c : Caller) (content left : Pages) (old new : Option (List ℕ)) (was mid now : ℕ) where
-  ended : was ≤ mid → (Is : Asking (List ℕ)) (asked : Asked) (came : Result Unit CommandError) → IsAsked Is asked →
+  ended : was ≤ mid → (Is : Asking (List ℕ)) (asked : Asked) (came : Result Unit CommandError) → IsAsked Is content asked →
       EndsWith asked left (seen old new mid now) came → EndsAs c Is content left (seen old new was now) came
-  ended before Is asked (Ok done) is ends = record {
-    text = asked.text;
-    system = is.system;
-    is = is.is;
-    printed = ends.0;
-    held = subst (λ (ps : Pages). IsFileOf sha_key ps (restarted is.system)) (sym ends.1) is.holds;
-  }
+  ended before Is asked (Ok done) is ends = (
+    record {
+      text = asked.text;
+      system = is.system;
+      is = is.is;
+      printed = ends.0;
+      held = subst (λ (ps : Pages). IsFileOf sha_key ps (restarted is.system)) (sym ends.1) is.holds;
+    },
+    ap length ends.1 ∙ is.pages,
+  )
   ended before Is asked (Err (errors.Unprinted error)) is ends = (asked.text, is.system, is.is)
   ended before Is asked (Err (errors.Unclosed closes.Device)) is ends = (
     risen-since was mid now before ends.0,

@@ -1,6 +1,7 @@
 pub mod Keys
 pub mod Tasks
 pub mod Faults
+pub mod Printing
 pub mod Sessions
 pub mod Memory
 pub mod Running

@@ -8,11 +8,12 @@ use Rattle.interleavings.specs.interleaving_core.declared.fault.OpenFault.TheVar
 use Rattle.queue_model.specs.declared.errno.Errno.TheVariants.{ENOENT}
 use Rattle.queue_model.specs.declared.queue.Queue.{Queue}
 use Rattle.queue_model.specs.Rules.{info_of}
+use Rattle.queue_commands.specs.Asking.{Refuses}
 use Rattle.queue_commands.specs.Json.{PutsJson, messages_data, queues_data}
 use Rattle.queue_commands.specs.Naming.{is_named}
 use Rattle.queue_commands.specs.Tables.{messages_text, queues_text}
 use Rattle.queue_commands.specs.Commands.{AsksAs}
-use Rattle.command_runs.specs.Memory.{Pages}
+use Rattle.command_runs.specs.Sessions.{Pages}
 use Rattle.command_runs.specs.Running.{IsUnopened, Seen}
 use Rattle.command_runs.specs.declared.error.CommandError.{CommandError}
 use Rattle.command_runs.specs.declared.error.CommandError.TheVariants.{NoMemory, Refused, Unopened, Unprinted}
@@ -46,7 +47,7 @@ TextIs c (Command request) s text = (t : State) × AsksAs c request s (Ok text) 
 abbrev pub MayNotShow : Caller → Look → State → CommandError → Type 0
 MayNotShow c look s NoMemory = ⊤
 MayNotShow c (Messages name form) s (Refused e) = (e ≡ ENOENT) × (position (is_named name) s.queues ≡ None)
-MayNotShow c (Command request) s (Refused e) = (t : State) × AsksAs c request s (Err e) t
+MayNotShow c (Command request) s (Refused e) = (t : State) × AsksAs c request s (Err (Refuses e)) t
 MayNotShow c look s error = ⊥
 
 abbrev pub Shows : Caller → Look → State → Result (List ℕ) CommandError → Type 0

@@ -1,5 +1,5 @@
 -- What a command comes to that is run on the file of a device. docs/SHELL.md, "What a command asks".
-use Rattle.std.specs.Prelude.{◌≡◌, ◌≢◌, ◌⊎◌, ℕ, List, Option, ⊤, Result, Ok, Err}
+use Rattle.std.specs.Prelude.{◌≡◌, ◌≢◌, ◌⊎◌, ℕ, List, Option, ⊤, Result, Ok, Err, length}
 use Rattle.std.specs.Io.KnownBytes.{Appends}
 use Rattle.page_device.specs.Device.{HasRisen}
 use Rattle.bucket_page.specs.Pseudokeys.{sha_key}
@@ -12,7 +12,8 @@ use Rattle.interleavings.specs.interleaving_core.declared.fault.OpenFault.TheVar
 use Rattle.queue_commands.specs.Asking.{Asking}
 use Rattle.queue_commands.specs.Commands.{AsksAs}
 use Rattle.queue_commands.specs.declared.request.Request.{Request}
-use Rattle.command_runs.specs.Memory.{MayNotDo, Pages}
+use Rattle.command_runs.specs.Memory.{MayNotDo}
+use Rattle.command_runs.specs.Sessions.{Pages}
 use Rattle.command_runs.specs.declared.error.CommandError.{CommandError}
 use Rattle.command_runs.specs.declared.error.CommandError.TheVariants.{Unclosed, Unopened, Unprinted}
 use Rattle.command_runs.specs.declared.running.Asked.{Asked}
@@ -37,8 +38,9 @@ pub record IsPrinted (Is : Asking (List ℕ)) (seen : Seen) (Holds : State → T
 
 -- how a command ends on the file of a device that had these pages, and what its pages are then
 abbrev pub EndsAs : Caller → Asking (List ℕ) → (content left : Pages) → Seen → Result Unit CommandError → Type 0
--- the text is printed, and the file is one of the system that the command leaves
-EndsAs c Is content left seen (Ok done) = IsPrinted Is seen (λ t. IsFileOf sha_key left (restarted t))
+-- the text is printed, and the file is one of the system that the command leaves, with as many pages
+EndsAs c Is content left seen (Ok done) =
+    IsPrinted Is seen (λ t. IsFileOf sha_key left (restarted t)) × (length left ≡ length content)
 -- the text was to be printed, and the output refused it
 EndsAs c Is content left seen (Err (Unprinted error)) = (text : List ℕ) × (t : State) × Is (Ok text) t
 -- the text is printed, and then the device failed
@@ -47,11 +49,16 @@ EndsAs c Is content left seen (Err (Unclosed closes.Device)) =
 -- nothing is printed
 EndsAs c Is content left seen (Err error) = MayNotDo c Is content error × (seen.new ≡ seen.old)
 
--- unless the text was printed the device has what it had
-abbrev pub IsUnwritten : (content left : Pages) → Result Unit CommandError → Type 0
-IsUnwritten content left (Ok done) = ⊤
-IsUnwritten content left (Err (Unclosed fault)) = ⊤
-IsUnwritten content left (Err error) = left ≡ content
+-- so it is unless the text was printed, and the device written
+abbrev pub IfUnwritten : Type 0 → Result Unit CommandError → Type 0
+IfUnwritten Is (Ok done) = ⊤
+IfUnwritten Is (Err (Unclosed fault)) = ⊤
+IfUnwritten Is (Err error) = Is
+
+-- so it is where the output is told to have refused the text
+abbrev pub IfUnprinted : Type 0 → Result Unit CommandError → Type 0
+IfUnprinted Is (Err (Unprinted error)) = Is
+IfUnprinted Is came = ⊤
 
 -- ---- the end of a command that was asked
 

@@ -20,8 +20,7 @@ pub enum CallFault {
     /// It failed, for want of room or by a fault of the file.
     #[error("a call failed: {0}")]
     Failed(StepFault),
-    /// It came to no answer, or its file to another number of pages. No call on the file of a
-    /// system does the first, and none is known that does the second.
+    /// It came to no answer, which no call on the file of a system does.
     #[error("a call came to no answer")]
     Lost,
 }

@@ -18,6 +18,7 @@ mod values;
 pub use error::{CallFault, CommandError};
 pub use key::queue_name;
 pub use looking::{Form, Look, look_on};
+pub use printing::Printer;
 pub use queue_commands;
 pub use reading::read_command;
 pub use running::{Ran, run_on};

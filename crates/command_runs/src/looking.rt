@@ -1,13 +1,13 @@
 //! What is looked at of a file, which is not written.
 
-ghost use Rattle.std.specs.Prelude.{◌≡◌, ℕ, IsTrue};
+ghost use Rattle.std.specs.Prelude.{◌≡◌, ℕ, IsTrue, true};
 ghost use Rattle.interleavings.specs.LoneKernelWords.{Caller};
 ghost use Rattle.command_runs.specs.Looking.{LooksAt, LooksOn, Shows};
-ghost use Rattle.command_runs.specs.Running.{seen};
+ghost use Rattle.command_runs.specs.Running.{IfUnprinted, seen};
 ghost use Rattle.command_runs.specs.declared.looking.Look.TheVariants.{Queues, Messages};
 
 use crate::error::CommandError;
-use crate::printing::deliver;
+use crate::printing::Printer;
 use crate::running::Ran;
 use bucket_page::ShaKey;
 use interleavings::interleaving_core::OpenFault;
@@ -42,40 +42,43 @@ pub enum Look {
 }
 
 /// Looks at the file of a device, and prints what is shown. The device is as it was.
-pub fn look_on<D: PageDevice, W: Write>(
+pub fn look_on<D: PageDevice, W: Write + Drop>(
     alloc: Global,
     device: D,
     caller: Caller,
     look: &Look,
-    writer: &mut W,
+    output: &mut Printer<W>,
 ) -> Ran<D>
     ensures honest { IsTrue (D.is_honest device) → LooksOn caller look.now (D.content device)
-        (seen (W.contents writer.old) (W.contents writer.new)
+        (seen output.old.held output.new.held
         (D.fault_count device) (D.fault_count result.device)) result.came }
+    ensures untold { IfUnprinted (output.new.refused ≡ true) result.came }
     ensures same { D.content result.device ≡ D.content device }
+    ensures as_honest { D.is_honest result.device ≡ D.is_honest device }
 {
     let Checked { device, found } = check(alloc, device, ShaKey);
-    let came = look_at(alloc, found, caller, look, writer);
+    let came = look_at(alloc, found, caller, look, output);
     Ran { device, came }
 }
 
 /// Looks at what the checker found.
-fn look_at<W: Write>(
+fn look_at<W: Write + Drop>(
     alloc: Global,
     found: Result<System, CheckFault>,
     caller: Caller,
     look: &Look,
-    writer: &mut W,
+    output: &mut Printer<W>,
 ) -> Result<(), CommandError>
-    ensures { (was faults : ℕ) → LooksAt caller look.now found
-        (seen (W.contents writer.old) (W.contents writer.new) was faults) result }
+    ensures looks { (was faults : ℕ) → LooksAt caller look.now found
+        (seen output.old.held output.new.held was faults) result }
+    ensures untold { IfUnprinted (output.new.refused ≡ true) result }
 {
     let system = match found {
         Ok(system) => system,
         Err(fault) => return Err(CommandError::Unopened(OpenFault::Wrong(fault))),
     };
     let text = show(alloc, system, caller, look)?;
-    match deliver(text.as_slice(), writer) {
+    match output.print(text.as_slice()) {
         Ok(()) => Ok(()),
         Err(error) => Err(CommandError::Unprinted(error)),
     }

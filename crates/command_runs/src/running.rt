@@ -1,18 +1,18 @@
 //! A command run on the file of a device.
 
-ghost use Rattle.std.specs.Prelude.{◌≡◌, ℕ, List, Option, IfOk, IsTrue, OnOk, length};
+ghost use Rattle.std.specs.Prelude.{◌≡◌, ℕ, List, Option, IfOk, IsTrue, OnOk, length, true};
 ghost use Rattle.bucket_page.specs.Pseudokeys.{sha_key};
 ghost use Rattle.interleavings.specs.Lone.{RestsOver};
 ghost use Rattle.interleavings.specs.LoneKernelWords.{Caller, State};
-ghost use Rattle.command_runs.specs.Memory.{AsksFile, ComesTo, IsClosed, Pages};
+ghost use Rattle.command_runs.specs.Memory.{AsksFile, ComesTo, IsClosed};
 ghost use Rattle.command_runs.specs.Faults.{unread};
-ghost use Rattle.command_runs.specs.Running.{EndsWith, IsUnwritten, RunsOn, seen};
-ghost use Rattle.command_runs.specs.Sessions.{Stands};
+ghost use Rattle.command_runs.specs.Running.{EndsWith, IfUnprinted, IfUnwritten, RunsOn, seen};
+ghost use Rattle.command_runs.specs.Sessions.{Pages, Stands};
 ghost use Rattle.queue_commands.specs.Commands.{AsksAs};
 ghost use Rattle.queue_commands.specs.declared.request.Request.{Request};
 
 use crate::error::{CallFault, CommandError};
-use crate::printing::deliver;
+use crate::printing::Printer;
 use crate::session::{FileKeys, Session};
 use bucket_page::{KeptKeys, ShaKey};
 use file_walk::StructureFault;
@@ -50,21 +50,23 @@ struct Asked {
 ///
 /// The file is read into memory and checked. Where the device is honest it is that of one system,
 /// of which the calls of the command are asked (docs/SHELL.md, "What a command asks"). The text is
-/// handed to the writer, and only then the device is written; it then has the file of the system
-/// that the calls left. Where the file is refused, a call is refused or not answered, or the writer
+/// handed to the output, and only then the device is written; it then has the file of the system
+/// that the calls left. Where the file is refused, a call is refused or not answered, or the output
 /// refuses the text, the device has what it had.
-pub fn run_on<D: PageDevice + Drop, W: Write>(
+pub fn run_on<D: PageDevice + Drop, W: Write + Drop>(
     alloc: Global,
     device: D,
     caller: Caller,
     request: &Request,
-    writer: &mut W,
+    output: &mut Printer<W>,
 ) -> Ran<D>
     ensures honest { IsTrue (D.is_honest device) → RunsOn caller request.now
         (D.content device) (D.content result.device)
-        (seen (W.contents writer.old) (W.contents writer.new)
+        (seen output.old.held output.new.held
         (D.fault_count device) (D.fault_count result.device)) result.came }
-    ensures unwritten { IsUnwritten (D.content device) (D.content result.device) result.came }
+    ensures unwritten { IfUnwritten (D.content result.device ≡ D.content device) result.came }
+    ensures same { IfUnwritten (D.is_honest result.device ≡ D.is_honest device) result.came }
+    ensures untold { IfUnprinted (output.new.refused ≡ true) result.came }
     ensures synced { IsTrue (D.is_honest device) →
         OnOk result.came (IsTrue (D.is_synced result.device)) }
 {
@@ -82,7 +84,7 @@ pub fn run_on<D: PageDevice + Drop, W: Write>(
         }
     };
     match ask_file(alloc, file, caller, request) {
-        Ok(asked) => end(device, asked, writer),
+        Ok(asked) => end(device, asked, output),
         Err(error) => Ran {
             device,
             came: Err(error),
@@ -96,8 +98,10 @@ fn refuse<D: PageDevice + Drop>(alloc: Global, device: D) -> Ran<D>
         (c : Caller) (r : Request) (output : Option (List ℕ)) →
         RunsOn c r (D.content device) (D.content result.device)
         (seen output output (D.fault_count device) (D.fault_count result.device)) result.came }
-    ensures unwritten { IsUnwritten (D.content device) (D.content result.device) result.came }
+    ensures unwritten { IfUnwritten (D.content result.device ≡ D.content device) result.came }
+    ensures same { IfUnwritten (D.is_honest result.device ≡ D.is_honest device) result.came }
     ensures undone { OnOk result.came ⊥ }
+    ensures told { IfUnprinted ⊥ result.came }
 {
     let Checked { device, found } = check(alloc, device, ShaKey);
     let error = match found {
@@ -122,19 +126,21 @@ fn unread(fault: DeviceFault) -> OpenFault
 }
 
 /// Prints the text of a command, and only then writes its file to the device.
-fn end<D: PageDevice, W: Write>(device: D, asked: Asked, writer: &mut W) -> Ran<D>
+fn end<D: PageDevice, W: Write + Drop>(device: D, asked: Asked, output: &mut Printer<W>) -> Ran<D>
     requires as_many { length asked.file ≡ length (D.content device) }
     ensures honest { IsTrue (D.is_honest device) → EndsWith asked (D.content result.device)
-        (seen (W.contents writer.old) (W.contents writer.new)
+        (seen output.old.held output.new.held
         (D.fault_count device) (D.fault_count result.device)) result.came }
-    ensures unwritten { IsUnwritten (D.content device) (D.content result.device) result.came }
+    ensures unwritten { IfUnwritten (D.content result.device ≡ D.content device) result.came }
+    ensures same { IfUnwritten (D.is_honest result.device ≡ D.is_honest device) result.came }
+    ensures untold { IfUnprinted (output.new.refused ≡ true) result.came }
     ensures synced { IsTrue (D.is_honest device) →
         OnOk result.came (IsTrue (D.is_synced result.device)) }
 {
     let Asked { text, file } = asked;
     let mut device = device;
     let mut file = file;
-    if let Err(error) = deliver(text.as_slice(), writer) {
+    if let Err(error) = output.print(text.as_slice()) {
         return Ran {
             device,
             came: Err(CommandError::Unprinted(error)),
@@ -160,10 +166,9 @@ fn ask_file(
     request: &Request,
 ) -> Result<Asked, CommandError>
     ensures asks { AsksFile caller request.now file result }
-    ensures as_many { IfOk result (λ asked. length asked.file ≡ length file) }
+    ensures pages { IfOk result (λ asked. length asked.file ≡ length file) }
 {
     a_kernel_opens_at_rest::<FileKeys>();
-    let pages = file.pages();
     let Ok(keys) = KeptKeys::new(alloc, ShaKey) else {
         return Err(CommandError::Unopened(OpenFault::NoMemory));
     };
@@ -171,11 +176,7 @@ fn ask_file(
         Ok(kernel) => kernel,
         Err((_, fault)) => return Err(CommandError::Unopened(fault)),
     };
-    let asked = ask_kernel(alloc, Session::new(kernel), request)?;
-    if asked.file.pages() != pages {
-        return Err(CommandError::Unanswered(CallFault::Lost));
-    }
-    Ok(asked)
+    ask_kernel(alloc, Session::new(kernel), request)
 }
 
 /// Asks a command in a session, and closes its file.
@@ -184,7 +185,7 @@ fn ask_kernel(
     session: Session<MemDevice>,
     request: &Request,
 ) -> Result<Asked, CommandError>
-    ensures { (c : Caller) (s : State) (content : Pages) → Stands c s session →
+    ensures { (c : Caller) (s : State) (content : Pages) → Stands content c s session →
         ComesTo c (AsksAs c request.now s) content result }
 {
     a_kernel_at_rest_closes_on_its_file::<FileKeys>();

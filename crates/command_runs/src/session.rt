@@ -1,6 +1,7 @@
 //! A kernel of one caller.
 
 ghost use Rattle.std.specs.Prelude.{◌≡◌, None, length};
+ghost use Rattle.interleavings.specs.interleaving_core.Renewing.{IsBetweenCalls, IsRenewed};
 ghost use Rattle.command_runs.specs.Faults.{told};
 
 use crate::error::CallFault;
@@ -59,14 +60,17 @@ impl<D: PageDevice + Drop> Session<D> {
 }
 
 impl<D: PageDevice + Drop> Answering for Session<D> {
-    ghost use Rattle.command_runs.specs.Sessions.{Lacks, Stands};
+    ghost use Rattle.command_runs.specs.Sessions.{Lacks, Pages, Stands};
 
-    ghost stands = { λ x a s. Stands a s x };
+    ghost Origin = { Pages };
 
-    ghost lacks = { λ x a. Lacks a x };
+    ghost stands = { λ x content a s. Stands content a s x };
+
+    ghost lacks = { λ x content a call s. Lacks content a call s x };
 
     fn answer(&mut self, call: Call) -> Option<Answer> {
         a_lone_call_is_answered_by_the_rules::<FileKeys>();
+        shorten(&mut self.kernel);
         self.kernel.is_whole();
         if let Err((_, fault)) = self.kernel.begin(SEAT, call) {
             self.fault = Some(CallFault::NotBegun(fault));
@@ -79,6 +83,17 @@ impl<D: PageDevice + Drop> Answering for Session<D> {
                 None
             }
         }
+    }
+}
+
+/// Lets the journal go, which nobody reads: so no session is ever full.
+fn shorten<D: PageDevice + Drop>(kernel: &mut Kernel<D, FileKeys>)
+    ensures renewed { IsBetweenCalls kernel.old →
+        IsRenewed kernel.old.journal kernel.old kernel.new }
+    ensures callers { kernel.new.callers ≡ kernel.old.callers }
+{
+    if kernel.is_between_calls() {
+        kernel.forget();
     }
 }
 

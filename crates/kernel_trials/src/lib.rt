@@ -1,5 +1,4 @@
-//! Trials from outside of the kernel; of the checker, by files each with one thing wrong; and of
-//! files of which new ones are made.
+//! Trials from outside of the kernel; and of files of which new ones are made, where a transfer fails.
 
 #![tactic(auto)]
 
@@ -44,8 +43,6 @@ mod racing;
 #[cfg(test)]
 mod rows;
 #[cfg(test)]
-mod salvages;
-#[cfg(test)]
 mod scripts;
 #[cfg(test)]
 mod splitting;
@@ -55,7 +52,3 @@ mod spoiling;
 mod types;
 #[cfg(test)]
 mod waiting;
-#[cfg(test)]
-mod wrong_files;
-#[cfg(test)]
-mod wrong_pages;

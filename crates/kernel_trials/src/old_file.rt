@@ -9,10 +9,7 @@ use std::test::Fail;
 pub const PAGES: u32 = 36;
 
 /// The page of the root bucket.
-pub const ROOT: u32 = 33;
-
-/// Bytes of the header up to the first after the counts of fifteen local depths.
-pub const WRITTEN: usize = 81;
+const ROOT: u32 = 33;
 
 /// Kind and version, depth 0, the magic, 36 pages, of which 34 is the first free one, and one bucket
 /// of local depth 0.

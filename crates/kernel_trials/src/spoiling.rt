@@ -2,9 +2,10 @@
 
 use crate::asks::Asks;
 use crate::asks::Asks::{Get, Receive, SendLong, Set};
-use crate::cases::run;
+use crate::cases::Left::{Bytes, Header};
+use crate::cases::{Case, run};
 use crate::rows::{CALLERS, begin, step};
-use crate::wrong_files::TWO_BUCKETS;
+use crate::splitting::{FULL_BUCKET, SPLIT};
 use bucket_page::{NumberKey, ShaKey};
 use interleaving_core::{BeginFault, Kernel, NotClosed, Step};
 use page_device::{DeviceFault, MemDevice, Page, PageDevice};
@@ -13,6 +14,13 @@ use std::cell::Cell;
 use std::process::Abort;
 use std::test::Fail;
 use step_rules::Kind;
+
+/// Two queues in two buckets: page 257 has the records with even numbers, page 258 those with odd ones.
+const TWO_BUCKETS: Case = Case {
+    pages: 288,
+    rows: &[&FULL_BUCKET, &SPLIT],
+    left: &[Bytes(257, 2500), Bytes(258, 2235), Header(1, 259)],
+};
 
 /// A device in memory. When so many reads are made, each one changes a byte of what it reads.
 #[derive(Drop)]

@@ -20,8 +20,9 @@ pub const WAITS: [Row; 5] = [
     Drives(1, Waiting),
 ];
 
-pub const SENT: [Row; 3] = [
+pub const SENT: [Row; 4] = [
     Calls(2, Send(1, 1, "a"), Sent(1)),
+    Steps(1, Moved(Kind::Grant)),
     Drives(1, Received(1)),
     Steps(1, Idle),
 ];

@@ -7,7 +7,8 @@ ghost use Rattle.msgq_cli.specs.Tasks.{IsFileSize};
 use crate::input::{make_file, read_messages};
 use crate::trouble::{Errand, Trouble};
 use command_runs::{
-    CallerIds, CommandError, Deed, Form, Look, Patience, Ran, SendTask, ShellTask, look_on, run_on,
+    CallerIds, CommandError, Deed, Form, Look, Patience, Printer, Ran, SendTask, ShellTask,
+    look_on, run_on,
 };
 use msgq_cli::{complain, open_to_read};
 use queue_commands::{Command, ExitStatus, Receiving, Request, Sending};
@@ -155,7 +156,7 @@ fn run_once(
     };
     let device = open_in_turn(rt, opening).map_err(Trouble::Unopened)?;
     request.moment = moment(rt).map_err(Trouble::Clock)?;
-    let mut output = io::writer(rt);
+    let mut output = Printer::new(io::writer(rt));
     let Ran { device, came } = run_on(rt.alloc(), device, errand.caller, request, &mut output);
     match came {
         Ok(()) => Ok(()),
@@ -228,12 +229,12 @@ fn look_once(rt: &HostRuntime, errand: Errand<'_>, what: &Look) -> Option<Sight>
     let before = Stamp::of(rt, errand.file);
     let was_under_way = matches!(rollback_journal::look(rt, errand.file), Ok(Some(_)));
     let device = open_to_read(rt, errand.file, &mut rt.stderr()).ok()?;
-    let mut text = Vec::new(alloc);
+    let mut text = Printer::new(Vec::new(alloc));
     let Ran { device: _, came } = look_on(alloc, device, errand.caller, what, &mut text);
     let is_under_way = was_under_way
         || matches!(rollback_journal::is_under_way(rt, errand.file), Ok(true));
     Some(Sight {
-        text: came.map(|()| text),
+        text: came.map(|()| text.into_writer()),
         is_steady: !is_under_way && Stamp::of(rt, errand.file) == before,
     })
 }

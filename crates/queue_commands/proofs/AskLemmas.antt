@@ -19,15 +19,16 @@ use Rattle.queue_commands.proofs.AnswerLemmas.{Gives, a_receive_gives, a_send_gi
 
 -- ---- one call
 
-module _ (c : Caller) (call : Call) (s : State) (Stands : State → Type 0) (Lacks : Type 0) where
+module _ (c : Caller) (call : Call) (s : State) (Stands : State → Type 0) (Lacks : Call → State → Type 0) where
   -- the answer is of no other kind
   other_kind : {A : Type 0} (kind : Answer → Bool) (answer : Answer) (t : State) → Gives kind (outcome c call s) →
       outcome c call s ≡ Some (answer, t) → kind answer ≡ false → A
   other_kind kind answer t gives is apart = absurd (let of = is_of_kind kind _ answer t gives is in cc)
 
-  pub serial_comes : Gives is_serial (outcome c call s) → (came : Option Answer) → IsAsked c call s Stands Lacks came →
+  pub serial_comes : Gives is_serial (outcome c call s) → (came : Option Answer) →
+      IsAsked c call s Stands (Lacks call s) came →
       Comes Stands Lacks (IsAnswered answers.Sent c call s) (serial_in came)
-  serial_comes gives None lacks = lacks
+  serial_comes gives None lacks = record { call = call; system = s; at = (refl, refl); cause = lacks }
   serial_comes gives (Some (answers.Id id)) (t, is, stands) = other_kind is_serial _ t gives is refl
   serial_comes gives (Some (answers.Sent serial)) (t, is, stands) = record { system = t; is = is; stands = stands }
   serial_comes gives (Some (answers.Received message)) (t, is, stands) = other_kind is_serial _ t gives is refl
@@ -36,9 +37,9 @@ module _ (c : Caller) (call : Call) (s : State) (Stands : State → Type 0) (Lac
   serial_comes gives (Some (answers.Refused e)) (t, is, stands) = record { system = t; is = is; stands = stands }
 
   pub message_comes : Gives is_message (outcome c call s) → (came : Option Answer) →
-      IsAsked c call s Stands Lacks came →
+      IsAsked c call s Stands (Lacks call s) came →
       Comes Stands Lacks (IsAnswered answers.Received c call s) (message_in came)
-  message_comes gives None lacks = lacks
+  message_comes gives None lacks = record { call = call; system = s; at = (refl, refl); cause = lacks }
   message_comes gives (Some (answers.Id id)) (t, is, stands) = other_kind is_message _ t gives is refl
   message_comes gives (Some (answers.Sent serial)) (t, is, stands) = other_kind is_message _ t gives is refl
   message_comes gives (Some (answers.Received message)) (t, is, stands) =
@@ -47,9 +48,10 @@ module _ (c : Caller) (call : Call) (s : State) (Stands : State → Type 0) (Lac
   message_comes gives (Some answers.Done) (t, is, stands) = other_kind is_message _ t gives is refl
   message_comes gives (Some (answers.Refused e)) (t, is, stands) = record { system = t; is = is; stands = stands }
 
-  pub done_comes : Gives is_done (outcome c call s) → (came : Option Answer) → IsAsked c call s Stands Lacks came →
+  pub done_comes : Gives is_done (outcome c call s) → (came : Option Answer) →
+      IsAsked c call s Stands (Lacks call s) came →
       Comes Stands Lacks (IsDone c call s) (done_in came)
-  done_comes gives None lacks = lacks
+  done_comes gives None lacks = record { call = call; system = s; at = (refl, refl); cause = lacks }
   done_comes gives (Some answers.Done) (t, is, stands) = record { system = t; is = (is, refl); stands = stands }
   done_comes gives (Some (answers.Refused e)) (t, is, stands) = record { system = t; is = is; stands = stands }
   done_comes gives (Some (answers.Id id)) (t, is, stands) = other_kind is_done _ t gives is refl
@@ -60,65 +62,65 @@ module _ (c : Caller) (call : Call) (s : State) (Stands : State → Type 0) (Lac
 -- ---- the calls that a command makes, none of which waits
 
 -- what is asked of who answers, of a call that does not wait
-abbrev pub Asks : Caller → Call → State → (State → Type 0) → Type 0 → Option Answer → Type 0
-Asks c call s Stands Lacks came = (outcome c call s ≡ None → ⊥) → IsAsked c call s Stands Lacks came
+abbrev pub Asks : Caller → Call → State → (State → Type 0) → (Call → State → Type 0) → Option Answer → Type 0
+Asks c call s Stands Lacks came = (outcome c call s ≡ None → ⊥) → IsAsked c call s Stands (Lacks call s) came
 
-module _ (c : Caller) (moment : ℕ) (s : State) (Stands : State → Type 0) (Lacks : Type 0) (came : Option Answer)
-  where
-    sent : (mtype : ℤ) (id : ℕ) (body : List ℕ) → Asks c (send_call moment mtype id body) s Stands Lacks came →
-        Comes Stands Lacks (SendsOneAs c moment mtype id body s) (serial_in came)
-    sent mtype id body asks =
-        let gives =
-        a_send_gives c (record { id = id; mtype = mtype; body = body; nowait = true; moment = moment }) s refl in
-        serial_comes c (send_call moment mtype id body) s Stands Lacks gives came (asks (never_waits is_serial _ gives))
+module _ (c : Caller) (moment : ℕ) (s : State) (Stands : State → Type 0) (Lacks : Call → State → Type 0)
+    (came : Option Answer) where
+  sent : (mtype : ℤ) (id : ℕ) (body : List ℕ) → Asks c (send_call moment mtype id body) s Stands Lacks came →
+      Comes Stands Lacks (SendsOneAs c moment mtype id body s) (serial_in came)
+  sent mtype id body asks =
+      let gives =
+      a_send_gives c (record { id = id; mtype = mtype; body = body; nowait = true; moment = moment }) s refl in
+      serial_comes c (send_call moment mtype id body) s Stands Lacks gives came (asks (never_waits is_serial _ gives))
 
-    -- of a copy of the body
-    pub sends : (mtype : ℤ) (id : ℕ) (body : List ℕ) (given : ℤ) (copy : List ℕ) → given ≡ mtype → copy ≡ body →
-        Asks c (send_call moment given id copy) s Stands Lacks came →
-        Comes Stands Lacks (SendsOneAs c moment mtype id body s) (serial_in came)
-    sends mtype id body given copy same kept asks =
-        subst (λ (t : ℤ). Comes Stands Lacks (SendsOneAs c moment t id body s) (serial_in came)) same
-        (subst (λ (b : List ℕ). Comes Stands Lacks (SendsOneAs c moment given id b s) (serial_in came)) kept
-        (sent given id copy asks))
+  -- of a copy of the body
+  pub sends : (mtype : ℤ) (id : ℕ) (body : List ℕ) (given : ℤ) (copy : List ℕ) → given ≡ mtype → copy ≡ body →
+      Asks c (send_call moment given id copy) s Stands Lacks came →
+      Comes Stands Lacks (SendsOneAs c moment mtype id body s) (serial_in came)
+  sends mtype id body given copy same kept asks =
+      subst (λ (t : ℤ). Comes Stands Lacks (SendsOneAs c moment t id body s) (serial_in came)) same
+      (subst (λ (b : List ℕ). Comes Stands Lacks (SendsOneAs c moment given id b s) (serial_in came)) kept
+      (sent given id copy asks))
 
-    taken : (a : Receiving) (id : ℕ) → Asks c (receive_call moment a id) s Stands Lacks came →
-        Comes Stands Lacks (TakesAs c moment a id s) (message_in came)
-    taken a id asks =
-        let gives = a_receive_gives c (record {
-          id = id;
-          size = a.size;
-          mtype = a.mtype;
-          nowait = true;
-          noerror = a.noerror;
-          moment = moment;
-        }) s refl in
-        message_comes c (receive_call moment a id) s Stands Lacks gives came (asks (never_waits is_message _ gives))
+  taken : (a : Receiving) (id : ℕ) → Asks c (receive_call moment a id) s Stands Lacks came →
+      Comes Stands Lacks (TakesAs c moment a id s) (message_in came)
+  taken a id asks =
+      let gives = a_receive_gives c (record {
+        id = id;
+        size = a.size;
+        mtype = a.mtype;
+        nowait = true;
+        noerror = a.noerror;
+        moment = moment;
+      }) s refl in
+      message_comes c (receive_call moment a id) s Stands Lacks gives came (asks (never_waits is_message _ gives))
 
-    pub takes : (a : Receiving) (id : ℕ) (given : ℤ) → given ≡ a.mtype →
-        Asks c (receive_call moment (record a { mtype = given }) id) s Stands Lacks came →
-        Comes Stands Lacks (TakesAs c moment a id s) (message_in came)
-    takes a id given same asks =
-        subst (λ (t : ℤ). Comes Stands Lacks (TakesAs c moment (record a { mtype = t }) id s) (message_in came)) same
-        (taken (record a { mtype = given }) id asks)
+  pub takes : (a : Receiving) (id : ℕ) (given : ℤ) → given ≡ a.mtype →
+      Asks c (receive_call moment (record a { mtype = given }) id) s Stands Lacks came →
+      Comes Stands Lacks (TakesAs c moment a id s) (message_in came)
+  takes a id given same asks =
+      subst (λ (t : ℤ). Comes Stands Lacks (TakesAs c moment (record a { mtype = t }) id s) (message_in came)) same
+      (taken (record a { mtype = given }) id asks)
 
-    pub sets : (a : Setting) (id qbytes : ℕ) → Asks c (set_call moment a id qbytes) s Stands Lacks came →
-        Comes Stands Lacks (IsDone c (set_call moment a id qbytes) s) (done_in came)
-    sets a id qbytes asks =
-        let gives = a_set_gives c (record {
-          id = id;
-          qbytes = qbytes;
-          uid = a.uid;
-          gid = a.gid;
-          mode = a.mode;
-          moment = moment;
-        }) s in
-        done_comes c (set_call moment a id qbytes) s Stands Lacks gives came (asks (never_waits is_done _ gives))
+  pub sets : (a : Setting) (id qbytes : ℕ) → Asks c (set_call moment a id qbytes) s Stands Lacks came →
+      Comes Stands Lacks (IsDone c (set_call moment a id qbytes) s) (done_in came)
+  sets a id qbytes asks =
+      let gives = a_set_gives c (record {
+        id = id;
+        qbytes = qbytes;
+        uid = a.uid;
+        gid = a.gid;
+        mode = a.mode;
+        moment = moment;
+      }) s in
+      done_comes c (set_call moment a id qbytes) s Stands Lacks gives came (asks (never_waits is_done _ gives))
 
 -- ---- two things
 
-module _ {A B : Type 0} (first : Asking A) (next : A → State → Asking B) (Lacks : Type 0) where
+module _ {A B : Type 0} (first : Asking A) (next : A → State → Asking B) (Lacks : Call → State → Type 0) where
   -- the first has a value, and the second is asked
-  pub goes_on : (x : A) (Middle Stands : State → Type 0) (Lacked : Type 0) (came : Result B AskError) →
+  pub goes_on : (x : A) (Middle Stands : State → Type 0) (Lacked : Call → State → Type 0) (came : Result B AskError) →
       Comes Middle Lacked first (Ok x) →
       ((u : State) → Middle u → Comes Stands Lacks (next x u) came) →
       Comes Stands Lacks (Then first next) came
@@ -128,7 +130,14 @@ module _ {A B : Type 0} (first : Asking A) (next : A → State → Asking B) (La
   goes_on x Middle Stands Lacked (Err (errors.Refused e)) before asks =
       let last = asks before.system before.stands in
       record { system = last.system; is = inr (x, before.system, before.is, last.is); stands = last.stands }
-  goes_on x Middle Stands Lacked (Err errors.Unanswered) before asks = asks before.system before.stands
+  goes_on x Middle Stands Lacked (Err errors.Unanswered) before asks =
+      let last = asks before.system before.stands in
+      record {
+        call = last.call;
+        system = last.system;
+        at = inr (x, before.system, before.is, last.at);
+        cause = last.cause;
+      }
   goes_on x Middle Stands Lacked (Err errors.NoMemory) before asks = tt
 
   -- the first has none
@@ -136,12 +145,13 @@ module _ {A B : Type 0} (first : Asking A) (next : A → State → Asking B) (La
       Comes Stands Lacks (Then first next) (Err error)
   ends Stands (errors.Refused e) before =
       record { system = before.system; is = inl before.is; stands = before.stands }
-  ends Stands errors.Unanswered before = before
+  ends Stands errors.Unanswered before =
+      record { call = before.call; system = before.system; at = inl before.at; cause = before.cause }
   ends Stands errors.NoMemory before = tt
 
 -- by each caller, from each system that stood first
 module _ {A B : Type 0} (first : Caller → State → Asking A) (next : Caller → A → State → Asking B)
-    (First Middle Stands : Caller → State → Type 0) (Lacked Lacks : Caller → Type 0) where
+    (First Middle Stands : Caller → State → Type 0) (Lacked Lacks : Caller → Call → State → Type 0) where
   pub asks_both : (x : A) (came : Result B AskError) →
       ((a : Caller) (s : State) → First a s → Comes (Middle a) (Lacked a) (first a s) (Ok x)) →
       ((a : Caller) (u : State) → Middle a u → Comes (Stands a) (Lacks a) (next a x u) came) →

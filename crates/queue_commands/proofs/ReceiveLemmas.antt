@@ -8,7 +8,7 @@ use Rattle.queue_model.specs.declared.answer.Answer.TheVariants as answers
 use Rattle.queue_model.specs.declared.errno.Errno.{Errno}
 use Rattle.queue_model.specs.declared.errno.Errno.TheVariants.{ENOMSG}
 use Rattle.queue_model.specs.declared.message.Message.{Message}
-use Rattle.queue_commands.specs.Asking.{IsAnswered}
+use Rattle.queue_commands.specs.Asking.{IsAnswered, Refuses}
 use Rattle.queue_commands.specs.Coming.{Comes}
 use Rattle.queue_commands.specs.Receiving.{AreTaken, TakesAllAs, shown_text, shown_texts}
 use Rattle.queue_commands.specs.declared.error.AskError.{AskError}
@@ -31,6 +31,9 @@ shown_texts-push heads (n ∷ ns) m =
     ap (λ text. shown_text heads n ++ text) (shown_texts-push heads ns m)
     ∙ sym (append_assoc (shown_text heads n) (shown_texts heads ns) (shown_text heads m))
 
+same_errno : (e : Errno) → Refuses e ≡ Refuses ENOMSG → e ≡ ENOMSG
+same_errno e is = cc
+
 no_message : (ms : List Message) → length ms ≡ 0 → ms ≡ []
 no_message [] is = refl
 no_message (m ∷ ms) is = absurd (omega (arith, is))
@@ -49,8 +52,8 @@ pub record Taken (c : Caller) (call : Call) (heads : Bool) (many : ℕ) (s : Sta
 
 module _ (c : Caller) (call : Call) (s : State) where
   -- one more was
-  pub Taken-push : (heads : Bool) (many : ℕ) (text more : List ℕ) (Before Stands : State → Type 0) (Lacks : Type 0)
-      (m : Message) → Taken c call heads many s text Before →
+  pub Taken-push : (heads : Bool) (many : ℕ) (text more : List ℕ) (Before Stands : State → Type 0)
+      (Lacks : Call → State → Type 0) (m : Message) → Taken c call heads many s text Before →
       ((u : State) → Before u → Comes Stands Lacks (IsAnswered answers.Received c call u) (Ok m)) →
       more ≡ text ++ shown_text heads m → Taken c call heads (many + 1) s more Stands
   Taken-push heads many text more Before Stands Lacks m before takes is =
@@ -68,8 +71,8 @@ module _ (c : Caller) (call : Call) (s : State) where
         stands = one.stands;
       }
 
-  module _ (a : Receiving) (many : ℕ) (text : List ℕ) (Before Stands : State → Type 0) (Lacks : Type 0)
-      (before : Taken c call a.heads many s text Before) where
+  module _ (a : Receiving) (many : ℕ) (text : List ℕ) (Before Stands : State → Type 0)
+      (Lacks : Call → State → Type 0) (before : Taken c call a.heads many s text Before) where
     -- as many as were asked for
     pub Taken-most : many ≡ a.most → Comes Before Lacks (TakesAllAs c call a s) (Ok text)
     Taken-most most =
@@ -124,12 +127,27 @@ module _ (c : Caller) (call : Call) (s : State) where
               left = before.system;
               taken = before.taken;
               few = omega (arith, as_many, below);
-              refused = one.is;
-              first = λ is. no_message before.messages (as_many ∙ first (ap errors.Refused is));
+              halts = one.is;
+              first = λ is. no_message before.messages (as_many ∙ first (ap errors.Refused (same_errno e is)));
             };
             stands = one.stands;
           }
-      Taken-refused errors.Unanswered first takes = takes before.system before.stands
+      Taken-refused errors.Unanswered first takes =
+          let one = takes before.system before.stands in
+          let as_many = before.as_many in
+          record {
+            call = one.call;
+            system = one.system;
+            at = record {
+              messages = before.messages;
+              left = before.system;
+              taken = before.taken;
+              few = omega (arith, as_many, below);
+              halts = one.at;
+              first = λ is. absurd cc;
+            };
+            cause = one.cause;
+          }
       Taken-refused errors.NoMemory first takes = tt
 
 -- ---- by each caller, from each system that stood first
@@ -140,12 +158,13 @@ TakesOn call heads many text First Stands =
     (a : Caller) (s : State) → First a s → Taken a call heads many s text (Stands a)
 
 -- what comes of the Receive of one
-abbrev pub Takes : Call → (Before Stands : Caller → State → Type 0) → (Caller → Type 0) → Result Message AskError →
-    Type 0
+abbrev pub Takes : Call → (Before Stands : Caller → State → Type 0) → (Caller → Call → State → Type 0) →
+    Result Message AskError → Type 0
 Takes call Before Stands Lacks came = (a : Caller) (u : State) → Before a u →
     Comes (Stands a) (Lacks a) (IsAnswered answers.Received a call u) came
 
-module _ (call : Call) (text : List ℕ) (First Before Stands : Caller → State → Type 0) (Lacks : Caller → Type 0) where
+module _ (call : Call) (text : List ℕ) (First Before Stands : Caller → State → Type 0)
+    (Lacks : Caller → Call → State → Type 0) where
   pub TakesOn-push : (heads : Bool) (many : ℕ) (more : List ℕ) (m : Message) →
       TakesOn call heads many text First Before → Takes call Before Stands Lacks (Ok m) →
       more ≡ text ++ shown_text heads m → TakesOn call heads (many + 1) more First Stands

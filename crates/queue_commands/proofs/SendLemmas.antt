@@ -54,8 +54,8 @@ told_none false = refl
 
 module _ (c : Caller) (call : List ℕ → Call) (tells : Bool) (s : State) where
   -- one more was
-  pub Sent-push : (bodies : List (List ℕ)) (text more : List ℕ) (Before Stands : State → Type 0) (Lacks : Type 0)
-      (body : List ℕ) (serial : ℕ) → Sent c call tells bodies s text Before →
+  pub Sent-push : (bodies : List (List ℕ)) (text more : List ℕ) (Before Stands : State → Type 0)
+      (Lacks : Call → State → Type 0) (body : List ℕ) (serial : ℕ) → Sent c call tells bodies s text Before →
       ((u : State) → Before u → Comes Stands Lacks (IsAnswered answers.Sent c (call body) u) (Ok serial)) →
       more ≡ text ++ told_text tells (serial ∷ []) →
       Sent c call tells (bodies ++ body ∷ []) s more Stands
@@ -79,13 +79,13 @@ SendsOn call tells bodies text First Stands =
     (a : Caller) (s : State) → First a s → Sent a call tells bodies s text (Stands a)
 
 -- what comes of the Send of one
-abbrev pub Sends : (List ℕ → Call) → List ℕ → (Before Stands : Caller → State → Type 0) → (Caller → Type 0) →
-    Result ℕ AskError → Type 0
+abbrev pub Sends : (List ℕ → Call) → List ℕ → (Before Stands : Caller → State → Type 0) →
+    (Caller → Call → State → Type 0) → Result ℕ AskError → Type 0
 Sends call body Before Stands Lacks came = (a : Caller) (u : State) → Before a u →
     Comes (Stands a) (Lacks a) (IsAnswered answers.Sent a (call body) u) came
 
 module _ (call : List ℕ → Call) (tells : Bool) (bodies : List (List ℕ)) (text : List ℕ)
-    (First Before Stands : Caller → State → Type 0) (Lacks : Caller → Type 0) where
+    (First Before Stands : Caller → State → Type 0) (Lacks : Caller → Call → State → Type 0) where
   pub SendsOn-push : (body more : List ℕ) (serial : ℕ) → SendsOn call tells bodies text First Before →
       Sends call body Before Stands Lacks (Ok serial) → more ≡ text ++ told_text tells (serial ∷ []) →
       SendsOn call tells (bodies ++ body ∷ []) more First Stands

@@ -8,7 +8,7 @@ use Rattle.queue_model.specs.declared.answer.QueueInfo.{QueueInfo}
 use Rattle.queue_model.specs.declared.call.Call.{Call}
 use Rattle.queue_model.specs.declared.call.Call.TheVariants as calls
 use Rattle.queue_model.specs.declared.caller.Caller.{Caller}
-use Rattle.queue_commands.specs.Asking.{Asking, FindsAs, IsAnswered, IsKnown, Then}
+use Rattle.queue_commands.specs.Asking.{Asking, FindsAs, HaltsAt, IsAnswered, IsKnown, Then}
 use Rattle.queue_commands.specs.declared.queue_name.QueueName.{QueueName}
 use Rattle.queue_commands.specs.declared.request.Setting.{Setting}
 
@@ -20,7 +20,7 @@ make_call moment key mode =
 -- a queue is made, and its id printed, as a line
 abbrev pub IsMade : State → ℕ → Asking (List ℕ)
 IsMade s id (Ok text) t = (text ≡ decimal id ++ 10 ∷ []) × (t ≡ s)
-IsMade s id (Err e) t = ⊥
+IsMade s id (Err halt) t = ⊥
 
 abbrev pub MakesAs : Caller → ℕ → Option ℕ → ℕ → State → Asking (List ℕ)
 MakesAs c moment key mode s =
@@ -29,7 +29,7 @@ MakesAs c moment key mode s =
 -- a call is done, and nothing is printed
 abbrev pub IsDone : Caller → Call → State → Asking (List ℕ)
 IsDone c call s (Ok text) t = (outcome c call s ≡ Some (answers.Done, t)) × (text ≡ [])
-IsDone c call s (Err e) t = outcome c call s ≡ Some (answers.Refused e, t)
+IsDone c call s (Err halt) t = HaltsAt c call s halt t
 
 -- the queue is found and removed
 abbrev pub RemovesAs : Caller → ℕ → QueueName → State → Asking (List ℕ)

@@ -4,23 +4,30 @@ use Rattle.queue_model.specs.State.{State}
 use Rattle.queue_model.specs.declared.answer.Answer.{Answer}
 use Rattle.queue_model.specs.declared.answer.Answer.TheVariants as answers
 use Rattle.queue_model.specs.declared.answer.QueueInfo.{QueueInfo}
-use Rattle.queue_model.specs.declared.errno.Errno.{Errno}
 use Rattle.queue_model.specs.declared.message.Message.{Message}
-use Rattle.queue_commands.specs.Asking.{Asking}
+use Rattle.queue_model.specs.declared.call.Call.{Call}
+use Rattle.queue_commands.specs.Asking.{Asking, At, Halt, Refuses}
 use Rattle.queue_commands.specs.declared.error.AskError.{AskError}
 use Rattle.queue_commands.specs.declared.error.AskError.TheVariants.{NoMemory, Refused, Unanswered}
 
 -- calls come to this, and leave a system of which this is so
-pub record Leaves {A : Type 0} (Is : Asking A) (came : Result A Errno) (Stands : State → Type 0) : Type 0 where
+pub record Leaves {A : Type 0} (Is : Asking A) (came : Result A Halt) (Stands : State → Type 0) : Type 0 where
   pub system : State
   pub is : Is came system
   pub stands : Stands system
 
+-- one was not answered, for a cause that this call has in this system
+pub record IsUnanswered {A : Type 0} (Is : Asking A) (Lacks : Call → State → Type 0) : Type 0 where
+  pub call : Call
+  pub system : State
+  pub at : Is (Err (At call)) system
+  pub cause : Lacks call system
+
 -- unless one was not answered, or there was no memory
-abbrev pub Comes : {A : Type 0} → (State → Type 0) → Type 0 → Asking A → Result A AskError → Type 0
+abbrev pub Comes : {A : Type 0} → (State → Type 0) → (Call → State → Type 0) → Asking A → Result A AskError → Type 0
 Comes Stands Lacks Is (Ok x) = Leaves Is (Ok x) Stands
-Comes Stands Lacks Is (Err (Refused e)) = Leaves Is (Err e) Stands
-Comes Stands Lacks Is (Err Unanswered) = Lacks
+Comes Stands Lacks Is (Err (Refused e)) = Leaves Is (Err (Refuses e)) Stands
+Comes Stands Lacks Is (Err Unanswered) = IsUnanswered Is Lacks
 Comes Stands Lacks Is (Err NoMemory) = ⊤
 
 -- ---- answers of one kind

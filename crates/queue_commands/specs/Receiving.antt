@@ -7,10 +7,9 @@ use Rattle.queue_model.specs.declared.answer.Answer.TheVariants as answers
 use Rattle.queue_model.specs.declared.call.Call.{Call}
 use Rattle.queue_model.specs.declared.call.Call.TheVariants as calls
 use Rattle.queue_model.specs.declared.caller.Caller.{Caller}
-use Rattle.queue_model.specs.declared.errno.Errno.{Errno}
 use Rattle.queue_model.specs.declared.errno.Errno.TheVariants.{ENOMSG}
 use Rattle.queue_model.specs.declared.message.Message.{Message}
-use Rattle.queue_commands.specs.Asking.{Asking, FindsAs, IsAnswered, Then}
+use Rattle.queue_commands.specs.Asking.{Asking, FindsAs, Halt, HaltsAt, IsAnswered, Refuses, Then}
 use Rattle.queue_commands.specs.declared.request.Receiving.{Receiving}
 
 -- the Receive of one message, which does not wait
@@ -63,19 +62,19 @@ pub record IsTaken (c : Caller) (call : Call) (a : Receiving) (s : State) (text 
   pub all : AreAll c call a.most messages left t
   pub printed : text ≡ shown_texts a.heads messages
 
--- one is refused; that there is none left is no refusal once one was taken
-pub record IsRefusedAfter (c : Caller) (call : Call) (a : Receiving) (s : State) (e : Errno) (t : State)
+-- one is not; that there is none left is no refusal once one was taken
+pub record HaltsAfter (c : Caller) (call : Call) (a : Receiving) (s : State) (halt : Halt) (t : State)
     : Type 0 where
   pub messages : List Message
   pub left : State
   pub taken : AreTaken c call s messages left
   pub few : length messages < a.most
-  pub refused : outcome c call left ≡ Some (answers.Refused e, t)
-  pub first : e ≡ ENOMSG → messages ≡ []
+  pub halts : HaltsAt c call left halt t
+  pub first : halt ≡ Refuses ENOMSG → messages ≡ []
 
 abbrev pub TakesAllAs : Caller → Call → Receiving → State → Asking (List ℕ)
 TakesAllAs c call a s (Ok text) t = IsTaken c call a s text t
-TakesAllAs c call a s (Err e) t = IsRefusedAfter c call a s e t
+TakesAllAs c call a s (Err halt) t = HaltsAfter c call a s halt t
 
 -- the queue is found, and messages are received from it
 abbrev pub ReceivesAs : Caller → ℕ → Receiving → State → Asking (List ℕ)

@@ -7,8 +7,7 @@ use Rattle.queue_model.specs.declared.answer.Answer.TheVariants as answers
 use Rattle.queue_model.specs.declared.call.Call.{Call}
 use Rattle.queue_model.specs.declared.call.Call.TheVariants as calls
 use Rattle.queue_model.specs.declared.caller.Caller.{Caller}
-use Rattle.queue_model.specs.declared.errno.Errno.{Errno}
-use Rattle.queue_commands.specs.Asking.{Asking, FindsAs, IsAnswered, Then}
+use Rattle.queue_commands.specs.Asking.{Asking, FindsAs, Halt, HaltsAt, IsAnswered, Then}
 use Rattle.queue_commands.specs.declared.request.Sending.{Sending}
 
 -- the Send of one body, which does not wait
@@ -27,15 +26,15 @@ AreSent c call (body ∷ bodies) s (serial ∷ serials) t =
     (u : State) × (outcome c (call body) s ≡ Some (answers.Sent serial, u)) × AreSent c call bodies u serials t
 AreSent c call bodies s serials t = ⊥
 
--- those before the first that is refused were taken
-pub record IsRefusedAtOne (c : Caller) (call : List ℕ → Call) (bodies : List (List ℕ)) (s : State) (e : Errno)
+-- those before the first that is not were taken
+pub record HaltsAtOne (c : Caller) (call : List ℕ → Call) (bodies : List (List ℕ)) (s : State) (halt : Halt)
     (t : State) : Type 0 where
   pub place : ℕ
   pub within : place < length bodies
   pub serials : List ℕ
   pub before : State
   pub sent : AreSent c call (take place bodies) s serials before
-  pub refused : outcome c (call (slice_index_or bodies place [])) before ≡ Some (answers.Refused e, t)
+  pub halts : HaltsAt c (call (slice_index_or bodies place [])) before halt t
 
 -- a line for each serial, or nothing
 abbrev pub serials_text : List ℕ → List ℕ
@@ -50,7 +49,7 @@ told_text false serials = []
 abbrev pub SendsAllAs : Caller → (List ℕ → Call) → Bool → List (List ℕ) → State → Asking (List ℕ)
 SendsAllAs c call tells bodies s (Ok text) t =
     (serials : List ℕ) × AreSent c call bodies s serials t × (text ≡ told_text tells serials)
-SendsAllAs c call tells bodies s (Err e) t = IsRefusedAtOne c call bodies s e t
+SendsAllAs c call tells bodies s (Err halt) t = HaltsAtOne c call bodies s halt t
 
 -- the queue is found, or made, and the bodies are sent to it
 abbrev pub SendsAs : Caller → ℕ → Sending → State → Asking (List ℕ)

@@ -21,8 +21,8 @@ pub(crate) fn find<A: Answering>(
     queue: QueueName,
     create: Option<u16>,
 ) -> Result<u32, AskError>
-    ensures { (c : Caller) (s : State) → A.stands answers.old c s →
-        Comes (A.stands answers.new c) (A.lacks answers.new c)
+    ensures { (o : A.Origin) (c : Caller) (s : State) → A.stands answers.old o c s →
+        Comes (A.stands answers.new o c) (A.lacks answers.new o c)
         (FindsAs c moment queue create s) result }
 {
     match queue {

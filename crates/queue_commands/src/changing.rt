@@ -23,8 +23,8 @@ pub(crate) fn make<A: Answering>(
     key: Option<u32>,
     mode: u16,
 ) -> Result<Text, AskError>
-    ensures { (c : Caller) (s : State) → A.stands answers.old c s →
-        Comes (A.stands answers.new c) (A.lacks answers.new c)
+    ensures { (o : A.Origin) (c : Caller) (s : State) → A.stands answers.old o c s →
+        Comes (A.stands answers.new o c) (A.lacks answers.new o c)
         (MakesAs c moment key mode s) result }
 {
     let call = GetArguments {
@@ -48,8 +48,8 @@ pub(crate) fn remove<A: Answering>(
     moment: u64,
     queue: QueueName,
 ) -> Result<Text, AskError>
-    ensures { (c : Caller) (s : State) → A.stands answers.old c s →
-        Comes (A.stands answers.new c) (A.lacks answers.new c)
+    ensures { (o : A.Origin) (c : Caller) (s : State) → A.stands answers.old o c s →
+        Comes (A.stands answers.new o c) (A.lacks answers.new o c)
         (RemovesAs c moment queue s) result }
 {
     let id = find(answers, moment, queue, None)?;
@@ -63,8 +63,8 @@ pub(crate) fn set<A: Answering>(
     moment: u64,
     setting: &Setting,
 ) -> Result<Text, AskError>
-    ensures { (c : Caller) (s : State) → A.stands answers.old c s →
-        Comes (A.stands answers.new c) (A.lacks answers.new c)
+    ensures { (o : A.Origin) (c : Caller) (s : State) → A.stands answers.old o c s →
+        Comes (A.stands answers.new o c) (A.lacks answers.new o c)
         (SetsAs c moment setting.now s) result }
 {
     let id = find(answers, moment, setting.queue, None)?;
@@ -82,8 +82,8 @@ pub(crate) fn set<A: Answering>(
 
 /// The limit that a queue is given; where none is, the one that it has.
 fn limit<A: Answering>(answers: &mut A, id: u32, given: Option<u32>) -> Result<u32, AskError>
-    ensures { (c : Caller) (s : State) → A.stands answers.old c s →
-        Comes (A.stands answers.new c) (A.lacks answers.new c)
+    ensures { (o : A.Origin) (c : Caller) (s : State) → A.stands answers.old o c s →
+        Comes (A.stands answers.new o c) (A.lacks answers.new o c)
         (LimitsAs c id given s) result }
 {
     match given {

@@ -27,8 +27,8 @@ pub fn ask<A: Answering>(
     answers: &mut A,
     request: &Request,
 ) -> Result<Text, AskError>
-    ensures { (c : Caller) (s : State) → A.stands answers.old c s →
-        Comes (A.stands answers.new c) (A.lacks answers.new c)
+    ensures { (o : A.Origin) (c : Caller) (s : State) → A.stands answers.old o c s →
+        Comes (A.stands answers.new o c) (A.lacks answers.new o c)
         (AsksAs c request.now s) result }
 {
     let moment = request.moment;

@@ -17,9 +17,11 @@ pub struct PlainLists {
 impl Answering for PlainLists {
     ghost use Rattle.std.specs.Prelude.{◌≡◌, ⊤};
 
-    ghost stands = { λ p c s. (p.caller ≡ c) × (p.system ≡ s) };
+    ghost Origin = { ⊤ };
 
-    ghost lacks = { λ _ _. ⊤ };
+    ghost stands = { λ p _ c s. (p.caller ≡ c) × (p.system ≡ s) };
+
+    ghost lacks = { λ _ _ _ _ _. ⊤ };
 
     fn answer(&mut self, call: Call) -> Option<Answer> {
         match self.system.apply(self.caller, &call) {

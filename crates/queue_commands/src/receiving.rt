@@ -22,8 +22,8 @@ pub(crate) fn receive<A: Answering>(
     moment: u64,
     receiving: &Receiving,
 ) -> Result<Text, AskError>
-    ensures { (c : Caller) (s : State) → A.stands answers.old c s →
-        Comes (A.stands answers.new c) (A.lacks answers.new c)
+    ensures { (o : A.Origin) (c : Caller) (s : State) → A.stands answers.old o c s →
+        Comes (A.stands answers.new o c) (A.lacks answers.new o c)
         (ReceivesAs c moment receiving.now s) result }
 {
     let id = find(answers, moment, receiving.queue, None)?;
@@ -38,9 +38,9 @@ fn take_all<A: Answering>(
     receiving: &Receiving,
     id: u32,
 ) -> Result<Text, AskError>
-    ensures { (c : Caller) (s : State) → A.stands answers.old c s →
-        Comes (A.stands answers.new c) (A.lacks answers.new c) (TakesAllAs c
-        (receive_call moment receiving.now id) receiving.now s) result }
+    ensures { (o : A.Origin) (c : Caller) (s : State) → A.stands answers.old o c s →
+        Comes (A.stands answers.new o c) (A.lacks answers.new o c)
+        (TakesAllAs c (receive_call moment receiving.now id) receiving.now s) result }
 {
     let mut text = Text::new(alloc);
     for taken in 0..receiving.most {
@@ -60,8 +60,8 @@ fn take<A: Answering>(
     receiving: &Receiving,
     id: u32,
 ) -> Result<Message, AskError>
-    ensures { (c : Caller) (s : State) → A.stands answers.old c s →
-        Comes (A.stands answers.new c) (A.lacks answers.new c)
+    ensures { (o : A.Origin) (c : Caller) (s : State) → A.stands answers.old o c s →
+        Comes (A.stands answers.new o c) (A.lacks answers.new o c)
         (TakesAs c moment receiving.now id s) result }
 {
     let call = ReceiveArguments {

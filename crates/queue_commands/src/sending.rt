@@ -22,8 +22,8 @@ pub(crate) fn send<A: Answering>(
     moment: u64,
     sending: &Sending,
 ) -> Result<Text, AskError>
-    ensures { (c : Caller) (s : State) → A.stands answers.old c s →
-        Comes (A.stands answers.new c) (A.lacks answers.new c)
+    ensures { (o : A.Origin) (c : Caller) (s : State) → A.stands answers.old o c s →
+        Comes (A.stands answers.new o c) (A.lacks answers.new o c)
         (SendsAs c moment sending.now s) result }
 {
     let id = find(answers, moment, sending.queue, sending.create)?;
@@ -38,8 +38,8 @@ fn send_all<A: Answering>(
     sending: &Sending,
     id: u32,
 ) -> Result<Text, AskError>
-    ensures { (c : Caller) (s : State) → A.stands answers.old c s →
-        Comes (A.stands answers.new c) (A.lacks answers.new c)
+    ensures { (o : A.Origin) (c : Caller) (s : State) → A.stands answers.old o c s →
+        Comes (A.stands answers.new o c) (A.lacks answers.new o c)
         (SendsAllAs c (send_call moment sending.now.mtype id) sending.now.tells
         sending.now.bodies.items s) result }
 {
@@ -59,8 +59,8 @@ fn send_one<A: Answering>(
     id: u32,
     body: &Body,
 ) -> Result<u64, AskError>
-    ensures { (c : Caller) (s : State) → A.stands answers.old c s →
-        Comes (A.stands answers.new c) (A.lacks answers.new c)
+    ensures { (o : A.Origin) (c : Caller) (s : State) → A.stands answers.old o c s →
+        Comes (A.stands answers.new o c) (A.lacks answers.new o c)
         (SendsOneAs c moment mtype id body.now s) result }
 {
     let call = SendArguments {

@@ -8,6 +8,6 @@ returns-clause-honest g c = λ honest.
     let was = g.D.PageDevice.fault_count c.args.device in
     let now = g.D.PageDevice.fault_count c.check-device.result.device in
     looks_on c.args.caller c.args.look.now (g.D.PageDevice.content c.args.device)
-    (seen (g.W.Write.contents c.args.writer.now) (g.W.Write.contents c.look_at-came.new.writer) was now)
+    (seen c.args.output.now.held c.look_at-came.new.output.held was now)
     c.check-device.result.found c.look_at-came.result (c.check-device.ensures.ok honest)
-    (c.check-device.ensures.err honest) c.check-device.ensures.cause (c.look_at-came.ensures was now)
+    (c.check-device.ensures.err honest) c.check-device.ensures.cause (c.look_at-came.ensures.looks was now)

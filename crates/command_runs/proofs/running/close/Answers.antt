@@ -1,7 +1,7 @@
 -- It is always closed well.
 use Rattle.std.proofs.Common.{true}
 use Rattle.command_runs.proofs.RunLemmas.{never_unclosed}
-use Rattle.command_runs.specs.Memory.{Pages}
+use Rattle.command_runs.specs.Sessions.{Pages}
 use Rattle.command_runs.proofs.running.close.Goals as goal
 
 pub returns : goal.returns

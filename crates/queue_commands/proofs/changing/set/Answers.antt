@@ -6,7 +6,7 @@ use Rattle.queue_commands.proofs.changing.set.Goals as goal
 
 -- the queue was found and its limit known, and a Set is done or refused
 pub returns : goal.returns
-returns g c =
+returns g c = λ o.
     let stands = g.A.Answering.stands in
     let lacks = g.A.Answering.lacks in
     let moment = c.args.moment in
@@ -14,10 +14,11 @@ returns g c =
     let id = c.in_ok-id.id in
     asks_both (λ d. FindsAs d moment set.queue None)
     (λ d id u. Then (LimitsAs d id set.qbytes u) (λ qbytes. IsDone d (set_call moment set id qbytes)))
-    (stands c.args.answers.now) (stands c.find.new.answers) (stands c.answer.new.self) (lacks c.find.new.answers)
-    (lacks c.answer.new.self) id c.done_in.result c.in_ok-id.ensures
+    (stands c.args.answers.now o) (stands c.find.new.answers o) (stands c.answer.new.self o)
+    (lacks c.find.new.answers o) (lacks c.answer.new.self o) id c.done_in.result (c.in_ok-id.ensures o)
     (asks_both (λ d. LimitsAs d id set.qbytes) (λ d qbytes. IsDone d (set_call moment set id qbytes))
-    (stands c.find.new.answers) (stands c.limit.new.answers) (stands c.answer.new.self) (lacks c.limit.new.answers)
-    (lacks c.answer.new.self) c.in_ok-qbytes.qbytes c.done_in.result c.in_ok-qbytes.ensures
-    (λ a v limited. rw c.done_in.ensures (sets a moment v (stands c.answer.new.self a)
-    (lacks c.answer.new.self a) c.answer.result set id c.in_ok-qbytes.qbytes (c.answer.ensures a v limited))))
+    (stands c.find.new.answers o) (stands c.limit.new.answers o) (stands c.answer.new.self o)
+    (lacks c.limit.new.answers o) (lacks c.answer.new.self o) c.in_ok-qbytes.qbytes c.done_in.result
+    (c.in_ok-qbytes.ensures o)
+    (λ a v limited. rw c.done_in.ensures (sets a moment v (stands c.answer.new.self o a)
+    (lacks c.answer.new.self o a) c.answer.result set id c.in_ok-qbytes.qbytes (c.answer.ensures o a v limited))))

@@ -8,7 +8,7 @@ use Rattle.queue_commands.proofs.sending.send_all.Goals as goal
 
 -- one more was sent
 pub loop-body-preserved : goal.loop-body-preserved
-loop-body-preserved g c =
+loop-body-preserved g c = λ o.
     let stands = g.A.Answering.stands in
     let lacks = g.A.Answering.lacks in
     let sending = c.args.sending.now in
@@ -21,8 +21,8 @@ loop-body-preserved g c =
     let more : take (i + 1) bodies ≡ take i bodies ++ body ∷ [] =
     take_more bodies i body below ∙ ap (λ b. take i bodies ++ b ∷ []) same in
     rw more (SendsOn-push (send_call c.args.moment sending.mtype c.args.id) sending.tells (take i bodies)
-    c.loop-body.text (stands c.args.answers.now) (stands c.loop-body.answers) (stands c.send_one.new.answers)
-    (lacks c.send_one.new.answers) body c.put_serial.new.text c.in_ok-serial.serial c.loop-body.invariant
-    (subst (λ (t : ℤ). Sends (send_call c.args.moment t c.args.id) body (stands c.loop-body.answers)
-    (stands c.send_one.new.answers) (lacks c.send_one.new.answers) (Ok c.in_ok-serial.serial))
-    (to_z-of_z w64 sending.mtype fits) c.in_ok-serial.ensures) c.in_ok-put_serial.ensures)
+    c.loop-body.text (stands c.args.answers.now o) (stands c.loop-body.answers o) (stands c.send_one.new.answers o)
+    (lacks c.send_one.new.answers o) body c.put_serial.new.text c.in_ok-serial.serial (c.loop-body.invariant o)
+    (subst (λ (t : ℤ). Sends (send_call c.args.moment t c.args.id) body (stands c.loop-body.answers o)
+    (stands c.send_one.new.answers o) (lacks c.send_one.new.answers o) (Ok c.in_ok-serial.serial))
+    (to_z-of_z w64 sending.mtype fits) (c.in_ok-serial.ensures o)) c.in_ok-put_serial.ensures)
