@@ -2,87 +2,34 @@
 #include "queues.h"
 
 #include <errno.h>
+#include <stdio.h>
 #include <stdlib.h>
 #include <string.h>
 #include <unistd.h>
 
-/* ---- numbers of errors */
+static const char UNOPENED[] = "it can't be opened";
 
-static _Thread_local unsigned last_fault;
+/* ---- the lock */
 
-unsigned msgq_last_fault(void) {
-    return last_fault;
-}
-
-int error_of(uint32_t code) {
-    static const int refusals[] = {0,      E2BIG,  EAGAIN, EEXIST, EIDRM,  EINTR,
-                                   EINVAL, ENOENT, ENOMSG, ENOSPC, EACCES, EPERM};
-    last_fault = 0;
-    if (code < sizeof refusals / sizeof *refusals)
-        return refusals[code];
-    last_fault = code < WAITS ? code : 0;
-    switch (code) {
-    case NO_ROOM:
-        return ENOSPC;
-    case NO_MEMORY:
-        return ENOMEM;
-    case FAILED:
-        return EIO;
-    case NO_PAGE:
-        return EINVAL;
-    case IN_USE:
-        return EBUSY;
-    case NO_SESSION:
-        return EBADF;
-    default:
-        return EBADMSG;
-    }
-}
-
-/* ---- one process */
-
-static pid_t this_process;
-
-static void note_process(void) {
-    this_process = getpid();
-}
-
-static void begin_process(void) {
-    note_process();
-    pthread_atfork(NULL, NULL, note_process);
-}
-
-static pid_t process(void) {
-    static pthread_once_t once = PTHREAD_ONCE_INIT;
-    pthread_once(&once, begin_process);
-    return this_process;
-}
-
-int enter(msgq *queues) {
-    last_fault = 0;
+int enter(msgq *queues, const struct timespec *end) {
+    nothing_is_wrong();
     if (queues == NULL)
-        return EINVAL;
-    if (queues->owner != process())
-        return ENOTSUP;
-    return pthread_mutex_lock(&queues->lock);
+        return fails(why(EINVAL, "there is none"), "the file", "the call is not made");
+    if (!is_own(queues))
+        return fails(why(ENOTSUP, "a parent of this process has opened it: the child opens it anew"), queues->name,
+                     "the call is not made");
+    lock_take(&queues->lock, end);
+    return 0;
 }
 
 int leave(msgq *queues, int wrong) {
-    pthread_mutex_unlock(&queues->lock);
+    lock_give(&queues->lock, false);
     return wrong;
 }
 
-/* Something has changed: who waits looks again. */
-static void tell_change(msgq *queues) {
-    queues->changes++;
-    if (queues->waiting > 0)
-        pthread_cond_broadcast(&queues->changed);
-}
-
-int leave_changed(msgq *queues, uint32_t code) {
-    if (code == DONE)
-        tell_change(queues);
-    return leave(queues, error_of(code));
+int leave_changed(msgq *queues, int wrong) {
+    lock_give(&queues->lock, wrong == 0);
+    return wrong;
 }
 
 /* ---- files */
@@ -94,15 +41,17 @@ static struct owner own(void) {
 int msgq_create(const char *path, uint32_t pages) {
     struct handle session = {0};
     struct owner owner = own();
-    last_fault = 0;
+    char name[NAME_BYTES];
+    nothing_is_wrong();
     if (path == NULL)
-        return EINVAL;
-    uint32_t code = msgq_session_create(&session, &owner, pages);
-    if (code != DONE)
-        return error_of(code);
-    int wrong = pair_make(path, &session);
-    msgq_session_close(&session);
-    return wrong;
+        return fails(why(EINVAL, "there is no name"), "the file", "it can't be made");
+    spell_name(name, path);
+    int wrong = error_of(msgq_session_create(&session, &owner, pages));
+    if (wrong == 0) {
+        wrong = pair_make(path, &session);
+        (void)msgq_session_close(&session);
+    }
+    return fails(wrong, name, "it can't be made");
 }
 
 static int open_session(msgq *queues) {
@@ -113,90 +62,134 @@ static int open_session(msgq *queues) {
     if (wrong != 0)
         return wrong;
     uint32_t code = msgq_session_open(&queues->session, &owner, bytes, count);
+    if ((wrong = error_of(code)) == EBADMSG)
+        tell_fault(code, bytes, count);
     free(bytes);
-    return error_of(code);
+    return wrong;
 }
 
-static int begin_waits(msgq *queues) {
-    pthread_condattr_t monotonic;
-    int wrong = pthread_condattr_init(&monotonic);
+/* Opens a file in a handle of zeros. */
+static int open_file(msgq *queues, const char *path) {
+    int wrong = pair_open(&queues->pair, path);
     if (wrong != 0)
         return wrong;
-    pthread_condattr_setclock(&monotonic, CLOCK_MONOTONIC);
-    wrong = pthread_cond_init(&queues->changed, &monotonic);
-    pthread_condattr_destroy(&monotonic);
-    if (wrong == 0 && (wrong = pthread_mutex_init(&queues->lock, NULL)) != 0)
-        pthread_cond_destroy(&queues->changed);
+    if ((wrong = open_session(queues)) == 0 && (wrong = lock_begin(&queues->lock)) != 0)
+        (void)msgq_session_close(&queues->session);
+    if (wrong != 0)
+        pair_close(&queues->pair);
+    else
+        note_open(queues);
     return wrong;
+}
+
+/* Opens a file once nobody else has it open, up to the end that there may be. */
+static int open_in_turn(msgq *queues, const char *path, const struct timespec *end) {
+    static const struct timespec nap = {0, 5000000};
+    struct timespec left = nap;
+    for (;;) {
+        int wrong = open_file(queues, path);
+        if (wrong != EBUSY)
+            return wrong;
+        if (end != NULL && (wrong = left_until(end, &left)) != 0)
+            return wrong;
+        if (left.tv_sec == 0 && left.tv_nsec == 0)
+            return ETIMEDOUT;
+        /* A signal ends a nap, and only that. */
+        (void)nanosleep(left.tv_sec > 0 || left.tv_nsec > nap.tv_nsec ? &nap : &left, NULL);
+        nothing_is_wrong();
+    }
+}
+
+/* Opens a file, at once or in its turn. */
+static int open_as(const char *path, msgq **queues, bool waits, const struct timespec *limit) {
+    char name[NAME_BYTES] = "the file";
+    struct timespec end;
+    nothing_is_wrong();
+    if (path == NULL || queues == NULL || msgq_session_handle_size() != sizeof(struct handle))
+        return fails(EINVAL, name, UNOPENED);
+    spell_name(name, path);
+    if (waits && is_wrong_limit(limit))
+        return fails(why(EINVAL, "the limit is none"), name, UNOPENED);
+    int wrong = begin_process();
+    if (wrong == 0 && waits && limit != NULL)
+        wrong = end_of(limit, &end);
+    if (wrong != 0)
+        return fails(wrong, name, UNOPENED);
+    msgq *made = calloc(1, sizeof *made);
+    if (made == NULL)
+        return fails(ENOMEM, name, UNOPENED);
+    memcpy(made->name, name, sizeof name);
+    wrong = waits ? open_in_turn(made, path, limit == NULL ? NULL : &end) : open_file(made, path);
+    if (wrong != 0)
+        free(made);
+    else
+        *queues = made;
+    return fails(wrong, name, UNOPENED);
 }
 
 int msgq_open(const char *path, msgq **queues) {
-    last_fault = 0;
-    if (path == NULL || queues == NULL || msgq_session_handle_size() != sizeof(struct handle))
-        return EINVAL;
-    msgq *made = calloc(1, sizeof *made);
-    if (made == NULL)
-        return ENOMEM;
-    made->owner = process();
-    int wrong = pair_open(&made->pair, path);
-    if (wrong == 0 && (wrong = open_session(made)) != 0)
-        pair_close(&made->pair);
-    if (wrong == 0 && (wrong = begin_waits(made)) != 0) {
-        msgq_session_close(&made->session);
-        pair_close(&made->pair);
-    }
-    if (wrong != 0) {
-        free(made);
-        return wrong;
-    }
-    *queues = made;
-    return 0;
+    return open_as(path, queues, false, NULL);
 }
 
+int msgq_open_wait(const char *path, const struct timespec *limit, msgq **queues) {
+    return open_as(path, queues, true, limit);
+}
+
+/* Saves, under the lock. */
 static int save(msgq *queues) {
     if (queues->is_half_saved)
-        return EIO;
+        return fails(why(EIO, "an earlier save has failed: it is to be opened anew"), queues->name, "it can't be saved");
     int wrong = pair_save(&queues->pair, &queues->session);
     queues->is_half_saved = wrong != 0;
-    return wrong;
+    return fails(wrong, queues->name, "it can't be saved, and is to be opened anew");
 }
 
 int msgq_save(msgq *queues) {
-    int wrong = enter(queues);
+    int wrong = enter(queues, NULL);
     return wrong != 0 ? wrong : leave(queues, save(queues));
 }
 
 static void let_go(msgq *queues) {
-    msgq_session_close(&queues->session);
+    note_closed(queues);
+    (void)msgq_session_close(&queues->session);
     pair_close(&queues->pair);
-    pthread_mutex_unlock(&queues->lock);
-    pthread_cond_destroy(&queues->changed);
-    pthread_mutex_destroy(&queues->lock);
+    lock_give(&queues->lock, false);
+    lock_end(&queues->lock);
     free(queues);
 }
 
+/* What lets a file go only where no call waits. */
+static int test_waits(const msgq *queues) {
+    if (queues->lock.waiting == 0)
+        return 0;
+    return fails(why(EBUSY, "%u of its calls wait: msgq_stop ends them", queues->lock.waiting), queues->name,
+                 "it can't be closed");
+}
+
 int msgq_close(msgq *queues) {
-    int wrong = enter(queues);
+    int wrong = enter(queues, NULL);
     if (wrong != 0)
         return wrong;
-    wrong = queues->waiting > 0 ? EBUSY : save(queues);
-    if (wrong != 0)
+    if ((wrong = test_waits(queues)) != 0 || (wrong = save(queues)) != 0)
         return leave(queues, wrong);
     let_go(queues);
     return 0;
 }
 
 int msgq_abandon(msgq *queues) {
-    int wrong = enter(queues);
+    int wrong = enter(queues, NULL);
     if (wrong != 0)
         return wrong;
-    if (queues->waiting > 0)
-        return leave(queues, EBUSY);
+    if ((wrong = test_waits(queues)) != 0)
+        return leave(queues, wrong);
     let_go(queues);
     return 0;
 }
 
 int msgq_stop(msgq *queues) {
-    int wrong = enter(queues);
-    return wrong != 0 ? wrong : leave_changed(queues, msgq_session_stop(&queues->session));
+    int wrong = enter(queues, NULL);
+    if (wrong != 0)
+        return wrong;
+    wrong = error_of(msgq_session_stop(&queues->session));
+    return leave_changed(queues, fails(wrong, queues->name, "it can't be stopped"));
 }

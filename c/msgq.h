@@ -5,9 +5,14 @@
  * which they come to the lock. What is proved speaks of memory: the file is read into it when it is opened, and written from it
  * by msgq_save. This part, the lock, the waits and the files, is tested.
  *
- * Each function gives 0 or the number of an error, as those of POSIX threads do; errno is not used. Any thread may call at any
- * time, but not a signal handler, and msgq_close is the last call. The child of a fork is refused ENOTSUP: it opens the file
- * anew, once its parent has closed it.
+ * Each function gives 0 or the number of an error, as those of POSIX threads do; errno is not used. msgq_reason has a sentence
+ * for it. Any thread may call at any time, but not a signal handler, and msgq_close is the last call.
+ *
+ * Calls are made as the process, and its effective user and group, of the moment of msgq_open: by them the modes of queues are
+ * tested (docs/QUEUES.md, "Owners and modes"). Who may read or write the file may read or change all of it.
+ *
+ * The child of a fork has none of its parent's files: each call on one is refused ENOTSUP. What it does, and its end, changes
+ * nothing for its parent. It may open the file itself once its parent has closed it, and any other file at once.
  */
 #ifndef MSGQ_H
 #define MSGQ_H
@@ -15,6 +20,9 @@
 #include <stddef.h>
 #include <stdint.h>
 #include <time.h>
+
+/* By -std=c99 alone <time.h> does not have it: msgq_within gives a limit of time there. */
+struct timespec;
 
 #ifdef __cplusplus
 extern "C" {
@@ -34,7 +42,7 @@ typedef struct msgq msgq;
 #define MSGQ_NOWAIT 04000
 #define MSGQ_NOERROR 010000
 
-/* No message has more bytes. */
+/* No message has more bytes: send the name of a file in the place of what is longer. */
 #define MSGQ_MAX_BODY 1024
 
 /* A message that was received, but for its bytes. */
@@ -56,7 +64,7 @@ struct msgq_info {
     uint16_t mode;
 };
 
-/* What msgq_set changes: qbytes always, the others where they are not below 0. */
+/* What msgq_set changes: qbytes, up to 65,536, always; the others where they are not -1. */
 struct msgq_change {
     uint32_t qbytes;
     int64_t uid, gid;
@@ -72,11 +80,19 @@ int msgq_create(const char *path, uint32_t pages);
  * killed while it saved has left is undone first. */
 int msgq_open(const char *path, msgq **queues);
 
-/* The id of a key's queue, or of a new one. */
+/* The same, but waits while another process has the file open, or this one: without end where limit is NULL, else for so long at
+ * most, and then ETIMEDOUT. It looks 200 times a second. Who of several gets it first is not said. */
+int msgq_open_wait(const char *path, const struct timespec *limit, msgq **queues);
+
+/* A limit of so many milliseconds; NULL, which is none, for a number below 0. It is the thread's, and stands until the thread
+ * calls this again: msgq_receive(queues, id, 0, room, sizeof room, 0, msgq_within(50), &got). */
+const struct timespec *msgq_within(int64_t milliseconds);
+
+/* The id of a key's queue, or of a new one, whose owner is the caller. */
 int msgq_get(msgq *queues, int64_t key, int flags, uint32_t *id);
 
-/* Puts a message last on a queue. Waits while there is no room: without end where limit is NULL, else for so long at most, and
- * then ETIMEDOUT. */
+/* Puts a message of up to MSGQ_MAX_BODY bytes, of a type from 1 on, last on a queue. Waits while there is no room: without end
+ * where limit is NULL, else for so long at most, and then ETIMEDOUT. */
 int msgq_send(msgq *queues, uint32_t id, int64_t type, const void *body, size_t length, int flags,
               const struct timespec *limit);
 
@@ -108,6 +124,11 @@ int msgq_abandon(msgq *queues);
 
 /* The number of docs/FAULTS.md that stands behind the last error that this thread was told; 0 where none does. */
 unsigned msgq_last_fault(void);
+
+/* Why the last call of this thread was not done, in a sentence that names the file and the queue or the page, as the program
+ * msgq says it: "queues: queue 77: ENOENT: no queue has this key". Empty where it was done. It stands until the thread's next
+ * call. */
+const char *msgq_reason(void);
 
 #ifdef __cplusplus
 }

@@ -1,180 +1,33 @@
-/* A file of queues and its journal: opened, recovered, saved. */
+/* A file of queues and its journal: opened, saved, made. */
 #include "pair.h"
+#include "journal.h"
+#include "reason.h"
 
 #include <errno.h>
 #include <fcntl.h>
 #include <libgen.h>
 #include <limits.h>
+#include <stdio.h>
 #include <stdlib.h>
 #include <string.h>
 #include <sys/file.h>
 #include <sys/stat.h>
+#include <sys/sysmacros.h>
 #include <unistd.h>
-
-/* A head: magic (8), version (4), count of pages (4), digest of page 0 (32), digest of all these (32). An image: the number of
- * a page (4), the page, and the digest of the digest before and of both (32). Numbers are big-endian. */
-#define HEAD_BYTES 80
-#define IMAGE_BYTES (4 + PAGE_BYTES + DIGEST_BYTES)
-
-static const uint8_t MAGIC[8] = "msgqundo";
-
-int read_at(int file, void *bytes, size_t count, uint64_t at) {
-    for (size_t done = 0; done < count;) {
-        ssize_t more = pread(file, (char *)bytes + done, count - done, (off_t)(at + done));
-        if (more < 0 && errno == EINTR)
-            continue;
-        if (more < 0)
-            return errno;
-        if (more == 0)
-            return EBADMSG;
-        done += (size_t)more;
-    }
-    return 0;
-}
-
-int write_at(int file, const void *bytes, size_t count, uint64_t at) {
-    for (size_t done = 0; done < count;) {
-        ssize_t more = pwrite(file, (const char *)bytes + done, count - done, (off_t)(at + done));
-        if (more < 0 && errno == EINTR)
-            continue;
-        if (more < 0)
-            return errno;
-        done += (size_t)more;
-    }
-    return 0;
-}
-
-static int sync_file(int file) {
-    while (fsync(file) != 0)
-        if (errno != EINTR)
-            return errno;
-    return 0;
-}
-
-static int size_of(int file, uint64_t *size) {
-    struct stat found;
-    if (fstat(file, &found) != 0)
-        return errno;
-    *size = (uint64_t)found.st_size;
-    return 0;
-}
-
-static void put_number(uint8_t *at, uint32_t number) {
-    for (int i = 0; i < 4; i++)
-        at[i] = (uint8_t)(number >> (24 - 8 * i));
-}
-
-static uint32_t number_at(const uint8_t *at) {
-    return (uint32_t)at[0] << 24 | (uint32_t)at[1] << 16 | (uint32_t)at[2] << 8 | at[3];
-}
-
-/* ---- the journal */
-
-/* An image behind the digest of what stands before it. */
-struct image {
-    uint8_t before[DIGEST_BYTES];
-    uint8_t number[4];
-    uint8_t page[PAGE_BYTES];
-};
-
-static void digest_of(const struct image *image, uint8_t *sum) {
-    msgq_session_digest((const uint8_t *)image, sizeof *image, sum);
-}
-
-/* Reads an image; false behind the last. */
-static bool read_image(int journal, uint64_t index, struct image *image, uint8_t *sum) {
-    uint8_t bytes[IMAGE_BYTES];
-    if (read_at(journal, bytes, sizeof bytes, HEAD_BYTES + index * IMAGE_BYTES) != 0)
-        return false;
-    memcpy(image->number, bytes, sizeof image->number);
-    memcpy(image->page, bytes + 4, sizeof image->page);
-    digest_of(image, sum);
-    return memcmp(sum, bytes + 4 + PAGE_BYTES, DIGEST_BYTES) == 0;
-}
-
-static int end_journal(int journal) {
-    while (ftruncate(journal, 0) != 0)
-        if (errno != EINTR)
-            return errno;
-    return sync_file(journal);
-}
-
-/* Calls a function for each image of a journal with a head, in their order. */
-static int each_image(const struct pair *pair, const uint8_t *head,
-                      int (*act)(const struct pair *, const uint8_t *head, const struct image *, void *), void *with) {
-    struct image image;
-    uint8_t sum[DIGEST_BYTES];
-    memcpy(image.before, head + HEAD_BYTES - DIGEST_BYTES, DIGEST_BYTES);
-    for (uint64_t index = 0; read_image(pair->journal, index, &image, sum); index++) {
-        int wrong = act(pair, head, &image, with);
-        if (wrong != 0)
-            return wrong;
-        memcpy(image.before, sum, DIGEST_BYTES);
-    }
-    return 0;
-}
-
-/* Whether the image is of a page that the file had; and whether it is page 0, as it was when the journal began. */
-static int fits(const struct pair *pair, const uint8_t *head, const struct image *image, void *with) {
-    (void)pair;
-    uint8_t sum[DIGEST_BYTES];
-    if (number_at(image->number) >= number_at(head + 12))
-        return EBADMSG;
-    if (number_at(image->number) == 0) {
-        msgq_session_digest(image->page, PAGE_BYTES, sum);
-        *(bool *)with = *(bool *)with || memcmp(sum, head + 16, DIGEST_BYTES) == 0;
-    }
-    return 0;
-}
-
-static int put_back(const struct pair *pair, const uint8_t *head, const struct image *image, void *with) {
-    (void)head, (void)with;
-    return write_at(pair->file, image->page, PAGE_BYTES, (uint64_t)number_at(image->number) * PAGE_BYTES);
-}
-
-/* Undoes what a save that was cut off has left. A journal of another file is refused, and nothing is written. */
-static int recover(const struct pair *pair) {
-    uint8_t head[HEAD_BYTES], page[PAGE_BYTES], sum[DIGEST_BYTES];
-    if (read_at(pair->journal, head, sizeof head, 0) != 0)
-        return 0;
-    msgq_session_digest(head, HEAD_BYTES - DIGEST_BYTES, sum);
-    if (memcmp(head, MAGIC, sizeof MAGIC) != 0 || memcmp(head + HEAD_BYTES - DIGEST_BYTES, sum, DIGEST_BYTES) != 0)
-        return 0;
-    if (number_at(head + 8) != 1)
-        return ENOTSUP;
-    uint64_t size = 0, was = (uint64_t)number_at(head + 12) * PAGE_BYTES;
-    int wrong = size_of(pair->file, &size);
-    if (wrong != 0)
-        return wrong;
-    if (size < was || read_at(pair->file, page, sizeof page, 0) != 0)
-        return EBADMSG;
-    msgq_session_digest(page, PAGE_BYTES, sum);
-    bool is_its = memcmp(sum, head + 16, DIGEST_BYTES) == 0;
-    if ((wrong = each_image(pair, head, fits, &is_its)) != 0)
-        return wrong;
-    if (!is_its)
-        return EBADMSG;
-    if ((wrong = sync_file(pair->journal)) != 0)
-        return wrong;
-    if (ftruncate(pair->file, (off_t)was) != 0)
-        return errno;
-    if ((wrong = each_image(pair, head, put_back, NULL)) != 0 || (wrong = sync_file(pair->file)) != 0)
-        return wrong;
-    return end_journal(pair->journal);
-}
 
 /* ---- both are opened */
 
 static int sync_folder(const char *path) {
     char name[PATH_MAX];
+    struct opened folder;
     if (strlen(path) >= sizeof name)
         return ENAMETOOLONG;
     strcpy(name, path);
-    int folder = open(dirname(name), O_RDONLY | O_DIRECTORY | O_CLOEXEC);
-    if (folder < 0)
-        return errno;
-    int wrong = sync_file(folder);
-    close(folder);
+    int wrong = open_it(&folder, dirname(name), O_RDONLY | O_DIRECTORY, 0);
+    if (wrong != 0)
+        return wrong;
+    wrong = sync_it(&folder);
+    close_it(&folder);
     return wrong;
 }
 
@@ -183,12 +36,13 @@ static int guard(int journal, const struct stat *like) {
     struct stat now;
     if (fstat(journal, &now) != 0)
         return errno;
-    if (now.st_uid != like->st_uid || now.st_gid != like->st_gid)
-        /* Only a superuser gives a file away. */
-        if (fchown(journal, like->st_uid, like->st_gid) != 0 && fchown(journal, (uid_t)-1, like->st_gid) != 0)
-            errno = 0;
-    if (fstat(journal, &now) != 0)
-        return errno;
+    if (now.st_uid != like->st_uid || now.st_gid != like->st_gid) {
+        /* Only a superuser gives a file away; where neither works the mode below keeps the group out. */
+        if (fchown(journal, like->st_uid, like->st_gid) != 0)
+            (void)!fchown(journal, (uid_t)-1, like->st_gid);
+        if (fstat(journal, &now) != 0)
+            return errno;
+    }
     mode_t mode = like->st_mode & (now.st_gid == like->st_gid ? 0666 : 0606);
     if ((now.st_mode & 0777) != mode && fchmod(journal, mode) != 0)
         return errno;
@@ -208,23 +62,22 @@ static int find_journal(struct pair *pair, const char *name, const struct stat *
         return errno;
     if (!S_ISREG(found.st_mode) || !may_write(&found, file))
         return EACCES;
-    pair->journal = open(name, O_RDWR | O_CLOEXEC | O_NOFOLLOW);
-    return pair->journal < 0 ? errno : guard(pair->journal, file);
+    int wrong = open_it(&pair->journal, name, O_RDWR | O_NOFOLLOW, 0);
+    return wrong != 0 ? wrong : guard(pair->journal.file, file);
 }
 
 /* Makes a journal; EEXIST where there is one. */
 static int make_journal(struct pair *pair, const char *name, const struct stat *file) {
-    pair->journal = open(name, O_RDWR | O_CLOEXEC | O_CREAT | O_EXCL, 0600);
-    if (pair->journal < 0)
-        return errno;
-    int wrong = guard(pair->journal, file);
+    int wrong = open_it(&pair->journal, name, O_RDWR | O_CREAT | O_EXCL, 0600);
+    if (wrong == 0)
+        wrong = guard(pair->journal.file, file);
     return wrong != 0 ? wrong : sync_folder(name);
 }
 
-static int open_journal(struct pair *pair, const char *path) {
-    char name[PATH_MAX + sizeof ".journal"];
+/* Opens the journal, whose name is that of the file, where no link leads on, and a suffix. */
+static int open_journal(struct pair *pair, const char *path, char *name) {
     struct stat file;
-    if (realpath(path, name) == NULL || fstat(pair->file, &file) != 0)
+    if (realpath(path, name) == NULL || fstat(pair->file.file, &file) != 0)
         return errno;
     strcat(name, ".journal");
     int wrong = find_journal(pair, name, &file);
@@ -234,86 +87,104 @@ static int open_journal(struct pair *pair, const char *path) {
     return wrong;
 }
 
-int pair_open(struct pair *pair, const char *path) {
+/* The process that holds a lock, by the system's list, whose lines are as `1: FLOCK  ADVISORY  WRITE 4711 fe:00:1095 0 EOF`; 0
+ * where it is not told. */
+static unsigned holder_of(const struct opened *locked) {
+    char line[256], kind[16];
+    unsigned holder = 0, process, major, minor;
+    unsigned long inode;
+    FILE *locks = fopen("/proc/locks", "re");
+    if (locks == NULL)
+        return 0;
+    while (holder == 0 && fgets(line, sizeof line, locks) != NULL)
+        if (sscanf(line, "%*u: %15s %*s %*s %u %x:%x:%lu", kind, &process, &major, &minor, &inode) == 5
+            && strcmp(kind, "FLOCK") == 0 && makedev(major, minor) == locked->device && inode == locked->inode)
+            holder = process;
+    (void)fclose(locks);
+    return holder;
+}
+
+static int lock(const struct opened *journal) {
+    unsigned holder;
+    if (flock(journal->file, LOCK_EX | LOCK_NB) == 0)
+        return 0;
+    if (errno != EWOULDBLOCK)
+        return of_journal(errno);
+    if ((holder = holder_of(journal)) == 0)
+        return why(EBUSY, "it is in use by another process");
+    if (holder == (unsigned)getpid())
+        return why(EBUSY, "it is open in this process");
+    return why(EBUSY, "it is in use by process %u", holder);
+}
+
+/* Whether a name is that of another file than was opened. */
+static bool is_moved(const char *name, const struct opened *it) {
     struct stat found;
-    *pair = (struct pair){-1, -1};
-    int wrong = 0;
+    return stat(name, &found) != 0 || found.st_dev != it->device || found.st_ino != it->inode;
+}
+
+/* Opens and locks both. ESTALE where one of them was put in the place of another before it was locked. */
+static int open_both(struct pair *pair, const char *path) {
+    char name[PATH_MAX + sizeof ".journal"];
+    struct stat found;
     /* A fifo would wait for a writer. */
     if (stat(path, &found) != 0)
         return errno;
     if (!S_ISREG(found.st_mode))
-        return S_ISDIR(found.st_mode) ? EISDIR : EINVAL;
-    if ((pair->file = open(path, O_RDWR | O_CLOEXEC)) < 0)
-        return errno;
-    if ((wrong = open_journal(pair, path)) == 0 && flock(pair->journal, LOCK_EX | LOCK_NB) != 0)
-        wrong = errno == EWOULDBLOCK ? EBUSY : errno;
+        return S_ISDIR(found.st_mode) ? EISDIR : why(EINVAL, "it is no file");
+    int wrong = open_it(&pair->file, path, O_RDWR, 0);
     if (wrong == 0)
-        wrong = recover(pair);
+        wrong = of_journal(open_journal(pair, path, name));
+    if (wrong == 0)
+        wrong = lock(&pair->journal);
+    if (wrong == 0 && (is_moved(path, &pair->file) || is_moved(name, &pair->journal)))
+        wrong = ESTALE;
+    return wrong;
+}
+
+int pair_open(struct pair *pair, const char *path) {
+    /* More than one that moves the file has to come between, each time. */
+    enum { MOST_TRIES = 100 };
+    int wrong = ESTALE;
+    *pair = (struct pair){NOT_OPENED, NOT_OPENED};
+    for (int tries = 0; wrong == ESTALE && tries < MOST_TRIES; tries++) {
+        pair_close(pair);
+        wrong = open_both(pair, path);
+    }
+    if (wrong == 0)
+        wrong = journal_recover(&pair->file, &pair->journal);
     if (wrong != 0)
         pair_close(pair);
     return wrong;
 }
 
 void pair_close(struct pair *pair) {
-    if (pair->journal >= 0)
-        close(pair->journal);
-    if (pair->file >= 0)
-        close(pair->file);
-    *pair = (struct pair){-1, -1};
+    /* A child of this process may have what was locked open too: it would hold the lock as long as it lives. */
+    if (pair->journal.file >= 0 && test_opened(&pair->journal) != EBADF)
+        (void)flock(pair->journal.file, LOCK_UN);
+    pair_leave(pair);
+}
+
+void pair_leave(struct pair *pair) {
+    close_it(&pair->journal);
+    close_it(&pair->file);
 }
 
 int pair_read(const struct pair *pair, uint8_t **bytes, size_t *count) {
     uint64_t size = 0;
-    int wrong = size_of(pair->file, &size);
+    int wrong = size_of(&pair->file, &size);
     if (wrong != 0)
         return wrong;
     /* More than a file can have need not be read. */
     *count = size > (uint64_t)65537 * PAGE_BYTES ? (size_t)65537 * PAGE_BYTES : (size_t)size;
     if ((*bytes = malloc(*count + 1)) == NULL)
         return ENOMEM;
-    if ((wrong = read_at(pair->file, *bytes, *count, 0)) != 0)
+    if ((wrong = read_at(&pair->file, *bytes, *count, 0)) != 0)
         free(*bytes);
     return wrong;
 }
 
 /* ---- a save */
-
-struct journal {
-    int file;
-    uint64_t length;
-    struct image image; /* behind its last */
-};
-
-static int begin_journal(struct journal *journal, const struct pair *pair, struct handle *session) {
-    uint8_t head[HEAD_BYTES], first[PAGE_BYTES];
-    uint32_t pages;
-    if (msgq_session_pages(session, &pages) != DONE)
-        return EIO;
-    int wrong = read_at(pair->file, first, sizeof first, 0);
-    if (wrong != 0)
-        return wrong;
-    memcpy(head, MAGIC, sizeof MAGIC);
-    put_number(head + 8, 1);
-    put_number(head + 12, pages);
-    msgq_session_digest(first, PAGE_BYTES, head + 16);
-    msgq_session_digest(head, HEAD_BYTES - DIGEST_BYTES, head + HEAD_BYTES - DIGEST_BYTES);
-    memcpy(journal->image.before, head + HEAD_BYTES - DIGEST_BYTES, DIGEST_BYTES);
-    journal->length = HEAD_BYTES;
-    return write_at(journal->file, head, sizeof head, 0);
-}
-
-/* Adds the page as it was. */
-static int add_image(struct journal *journal, uint32_t page, const uint8_t *was) {
-    uint8_t bytes[IMAGE_BYTES];
-    put_number(journal->image.number, page);
-    memcpy(journal->image.page, was, PAGE_BYTES);
-    memcpy(bytes, journal->image.number, 4 + PAGE_BYTES);
-    digest_of(&journal->image, bytes + 4 + PAGE_BYTES);
-    memcpy(journal->image.before, bytes + 4 + PAGE_BYTES, DIGEST_BYTES);
-    int wrong = write_at(journal->file, bytes, sizeof bytes, journal->length);
-    journal->length += sizeof bytes;
-    return wrong;
-}
 
 static int page_of(struct handle *session, uint32_t page, uint8_t *into) {
     return msgq_session_page(session, page, into) == DONE ? 0 : EIO;
@@ -329,38 +200,54 @@ static int each_changed(const struct pair *pair, struct handle *session,
     return wrong == 0 && code != NO_PAGE ? EIO : wrong;
 }
 
+static int begin_journal(struct journal *journal, const struct pair *pair, struct handle *session) {
+    uint8_t first[PAGE_BYTES];
+    uint32_t pages;
+    if (msgq_session_pages(session, &pages) != DONE)
+        return EIO;
+    int wrong = read_at(&pair->file, first, sizeof first, 0);
+    return wrong != 0 ? wrong : journal_begin(journal, pages, first);
+}
+
 /* Brings the page, as the file has it, to the journal, which is begun for the first. */
 static int journal_page(const struct pair *pair, struct handle *session, uint32_t page, void *with) {
     struct journal *journal = with;
     uint8_t was[PAGE_BYTES];
     int wrong = journal->length == 0 ? begin_journal(journal, pair, session) : 0;
     if (wrong == 0)
-        wrong = read_at(pair->file, was, sizeof was, (uint64_t)page * PAGE_BYTES);
-    return wrong != 0 ? wrong : add_image(journal, page, was);
+        wrong = read_at(&pair->file, was, sizeof was, (uint64_t)page * PAGE_BYTES);
+    return wrong != 0 ? wrong : journal_add(journal, page, was);
 }
 
 static int write_page(const struct pair *pair, struct handle *session, uint32_t page, void *with) {
     (void)with;
     uint8_t is[PAGE_BYTES];
     int wrong = page_of(session, page, is);
-    return wrong != 0 ? wrong : write_at(pair->file, is, sizeof is, (uint64_t)page * PAGE_BYTES);
+    return wrong != 0 ? wrong : write_at(&pair->file, is, sizeof is, (uint64_t)page * PAGE_BYTES);
+}
+
+/* Sees to it that both numbers are still those of the files: the program may have closed them, and opened others. */
+static int test_both(const struct pair *pair) {
+    int wrong = test_opened(&pair->file);
+    if (wrong == 0)
+        wrong = test_opened(&pair->journal);
+    return wrong == 0 ? 0 : why(wrong, "the program has closed its descriptor");
 }
 
 int pair_save(const struct pair *pair, struct handle *session) {
-    struct journal journal = {.file = pair->journal};
-    /* What stands in it, where it was opened so, is no whole journal. */
-    uint64_t torn = 0;
-    int wrong = size_of(pair->journal, &torn);
-    if (wrong == 0 && torn > 0)
-        wrong = end_journal(pair->journal);
+    struct journal journal = {.file = &pair->journal};
+    int wrong = test_both(pair);
+    /* What stands in the journal, where it was opened so, is no whole one. */
+    if (wrong == 0)
+        wrong = journal_clear(&pair->journal);
     if (wrong == 0)
         wrong = each_changed(pair, session, journal_page, &journal);
     if (wrong != 0 || journal.length == 0)
         return wrong;
-    if ((wrong = sync_file(pair->journal)) != 0
+    if ((wrong = journal_sync(&journal)) != 0
         || (wrong = each_changed(pair, session, write_page, NULL)) != 0
-        || (wrong = sync_file(pair->file)) != 0
-        || (wrong = end_journal(pair->journal)) != 0)
+        || (wrong = sync_it(&pair->file)) != 0
+        || (wrong = journal_end(&pair->journal)) != 0)
         return wrong;
     return msgq_session_note_saved(session) == DONE ? 0 : EIO;
 }
@@ -368,22 +255,21 @@ int pair_save(const struct pair *pair, struct handle *session) {
 int pair_make(const char *path, struct handle *session) {
     uint32_t pages;
     uint8_t bytes[PAGE_BYTES];
+    struct opened file;
     if (msgq_session_pages(session, &pages) != DONE)
         return EIO;
-    int file = open(path, O_RDWR | O_CREAT | O_EXCL | O_CLOEXEC, 0666);
-    if (file < 0)
-        return errno;
-    int wrong = 0;
+    int wrong = open_it(&file, path, O_RDWR | O_CREAT | O_EXCL, 0666);
+    if (wrong != 0)
+        return wrong;
     for (uint32_t page = 0; wrong == 0 && page < pages; page++)
         if ((wrong = page_of(session, page, bytes)) == 0)
-            wrong = write_at(file, bytes, sizeof bytes, (uint64_t)page * PAGE_BYTES);
+            wrong = write_at(&file, bytes, sizeof bytes, (uint64_t)page * PAGE_BYTES);
     if (wrong == 0)
-        wrong = sync_file(file);
-    if (close(file) != 0 && wrong == 0)
-        wrong = errno;
+        wrong = sync_it(&file);
     if (wrong == 0)
         wrong = sync_folder(path);
+    close_it(&file);
     if (wrong != 0)
-        unlink(path);
+        (void)unlink(path);
     return wrong;
 }

@@ -3,9 +3,10 @@
 #define MSGQ_PAIR_H
 
 #include "session.h"
+#include "transfers.h"
 
 struct pair {
-    int file, journal;
+    struct opened file, journal;
 };
 
 /* Opens both, locks the journal and undoes what a save that was cut off has left. EBUSY where another has them. */
@@ -17,13 +18,13 @@ int pair_read(const struct pair *pair, uint8_t **bytes, size_t *count);
 /* Writes the pages of a session that have changed since it was opened from the file, or last saved to it. */
 int pair_save(const struct pair *pair, struct handle *session);
 
+/* Unlocks and closes both, for the process that opened them. */
 void pair_close(struct pair *pair);
+
+/* Closes both for the child of a fork. The lock is its parent's, and stays. */
+void pair_leave(struct pair *pair);
 
 /* Makes a file of the pages of a session. EEXIST where there is one. */
 int pair_make(const char *path, struct handle *session);
-
-/* Reads or writes all of so many bytes at a place. EBADMSG where the file ends before. */
-int read_at(int file, void *bytes, size_t count, uint64_t at);
-int write_at(int file, const void *bytes, size_t count, uint64_t at);
 
 #endif

@@ -2,33 +2,53 @@
 #ifndef MSGQ_QUEUES_H
 #define MSGQ_QUEUES_H
 
+#include "lock.h"
 #include "msgq.h"
 #include "pair.h"
-
-#include <pthread.h>
-#include <sys/types.h>
+#include "reason.h"
 
 struct msgq {
-    pthread_mutex_t lock;
-    pthread_cond_t changed;
+    struct lock lock;
     struct handle session;
     struct pair pair;
-    pid_t owner;
-    uint64_t changes; /* the calls that have changed something */
-    unsigned waiting; /* the calls that sleep until something changes */
+    char name[NAME_BYTES]; /* for sentences */
+    unsigned forks;        /* as many had led to the process that opened it */
     bool is_half_saved;
+    struct msgq *next; /* of those that this process has open */
 };
 
-/* What the numbers of a session are here: those of refusals from 1 on, then faults. */
-int error_of(uint32_t code);
+/* ---- processes */
 
-/* Takes the lock, unless the file was opened by the parent of this process. */
-int enter(msgq *queues);
+/* Before the first file of a process is opened. */
+int begin_process(void);
+
+/* A file of this process from here on, or no longer. */
+void note_open(msgq *queues);
+void note_closed(msgq *queues);
+
+/* Whether a file was opened by this process, and not by one that it was forked from. */
+bool is_own(const msgq *queues);
+
+/* ---- the lock */
+
+/* Takes the lock, unless the file was opened by the parent of this process. Whose end there is goes first once it is over. */
+int enter(msgq *queues, const struct timespec *end);
 
 /* Gives the lock back, and the number of an error on. */
 int leave(msgq *queues, int wrong);
 
-/* The same behind a call that may have changed something: then who waits looks again. */
-int leave_changed(msgq *queues, uint32_t code);
+/* The same behind a call that has changed something where it went well: then who waits looks again. */
+int leave_changed(msgq *queues, int wrong);
+
+/* ---- time */
+
+/* Whether a limit is none that there can be. */
+bool is_wrong_limit(const struct timespec *limit);
+
+/* The moment at which a wait that begins now ends. */
+int end_of(const struct timespec *limit, struct timespec *end);
+
+/* Tells how long it is to a moment, 0 where that is over. */
+int left_until(const struct timespec *end, struct timespec *left);
 
 #endif

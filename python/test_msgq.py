@@ -4,27 +4,21 @@ import errno
 import os
 import sys
 import threading
+from pathlib import Path
 
 import msgq
+import test_arguments
+import test_endings
+import test_loading
+from expecting import expect, finish, refusal
 
-passed = failed = 0
-
-
-def expect(found, expected, what):
-    global passed, failed
-    if found == expected:
-        passed += 1
-    else:
-        failed += 1
-        print(f"{what}: {found!r}, not {expected!r}", file=sys.stderr)
-
-
-def refusal(call, *arguments, **more):
+def expect_words(call, arguments, *words):
     try:
-        call(*arguments, **more)
+        call(*arguments)
+        expect("nothing", words, "what is raised")
     except OSError as error:
-        return error.errno
-    return 0
+        for word in words:
+            expect(word in str(error), True, f"{word!r} in {str(error)!r}")
 
 
 path = sys.argv[1]
@@ -32,6 +26,9 @@ msgq.create(path)
 expect(refusal(msgq.create, path), errno.EEXIST, "a file that is there")
 with msgq.open(path) as queues:
     expect(refusal(msgq.open, path), errno.EBUSY, "a file that is open")
+    expect(refusal(queues.get, 77), errno.ENOENT, "a key that no queue has")
+    expect_words(queues.get, (77,), "77: ", "no queue has this key")
+    expect_words(queues.queue(9).stat, (), "queue ", "9: ")
     queue = queues.get(7, create=True, mode=0o640)
     queue.send(b"one\0two", type=2)
     queue.send(b"", type=1)
@@ -70,6 +67,12 @@ try:
     msgq.open(path)
     expect("opened", "refused", "a file that is cut")
 except msgq.Fault as fault:
-    expect(fault.fault, 22, "its fault")
-print(f"{passed} passed, {failed} failed")
-sys.exit(failed > 0)
+    expect((fault.fault, fault.filename), (22, path), "its fault")
+expect_words(msgq.open, (path,), "fault 22", path)
+expect_words(msgq.open, ("/etc/passwd",), "fault 2", "/etc/passwd")
+manual = Path(__file__).resolve().parent.parent / "man" / "msgq.3"
+expect(f'"msgq {msgq.__version__}"' in manual.read_text(encoding="utf-8").splitlines()[0], True, "the version of the manual")
+test_arguments.try_all(path + ".arguments")
+test_endings.try_all(path + ".endings")
+test_loading.try_all(path + ".loading")
+finish()

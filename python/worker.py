@@ -29,7 +29,11 @@ def main(path):
         jobs = queues.get(KEY, create=True)
         for line in sys.stdin:
             line = line.rstrip("\n")
-            jobs.send(line.encode()[:1024], URGENT if line.startswith("urgent:") else USUAL)
+            body = line.encode()
+            if len(body) > 1024:
+                print(f"worker.py: a job of {len(body):,} bytes; 1,024 are possible", file=sys.stderr)
+                continue
+            jobs.send(body, URGENT if line.startswith("urgent:") else USUAL)
             queues.save()
         workers = [threading.Thread(target=work, args=(jobs,)) for _ in range(4)]
         for worker in workers:

@@ -1,7 +1,6 @@
 /* The time of a send and of a receive of 64 bytes by turns, in nanoseconds of the processor a call: by libmsgq, by its session without
  * the lock, by the system's msgsnd and msgrcv, and by SQLite and GDBM, a row or a record for each message, where they are at hand. The
- * least of five rounds of each, beside the kernel's own where that is told, else beside the session's. And that of a digest of 4,068
- * bytes, by which processors are compared.
+ * least of five rounds of each, beside the session's. And that of a digest of 4,068 bytes, by which processors are compared.
  *     c/bench/run */
 #include "../msgq.h"
 #include "../session.h"
@@ -23,13 +22,10 @@
 
 enum { TURNS = 20000, ROUNDS = 5, BYTES = 64 };
 
-/* So many times the kernel's own a call of libmsgq takes at most. */
+/* So many times the session's a call of libmsgq takes at most. */
 static const double MOST = 1.15;
 
 static char body[BYTES];
-
-/* Whose time the others are told beside. */
-static const char *whose = "session's";
 
 static void must(int holds, const char *what) {
     if (!holds) {
@@ -57,7 +53,7 @@ static double tell(const char *who, void (*turn)(void *), void *with, double tha
     }
     printf("%-10s %8.0f", who, least);
     if (than > 0)
-        printf("   %.2f of the %s", least / than, whose);
+        printf("   %.2f of the session's", least / than);
     putchar('\n');
     return least;
 }
@@ -150,18 +146,11 @@ int main(int argc, char **argv) {
     struct get_call get = {.create = true, .mode = 0600, .moment = 1};
     msgq *queues;
     uint8_t sum[DIGEST_BYTES];
-    must(argc == 3 || argc == 4, "usage: turns NEW_FILE NEW_GDBM_FILE [NANOSECONDS_OF_THE_KERNEL]");
-    double kernel = argc == 4 ? atof(argv[3]) : 0, than = kernel;
+    must(argc == 3, "usage: turns NEW_FILE NEW_GDBM_FILE");
     must(msgq_session_create(&session, &owner, 352) == DONE, "a session");
     must(msgq_session_get(&session, &get, &id) == DONE, "a queue");
     tell("a digest", by_digest, sum, 0);
-    if (kernel > 0) {
-        printf("%-10s %8.0f\n", "the kernel", kernel);
-        whose = "kernel's";
-    }
-    double alone = tell("session", by_session, &session, than);
-    if (kernel <= 0)
-        than = alone;
+    double than = tell("session", by_session, &session, 0);
     msgq_session_close(&session);
     must(msgq_create(argv[1], 352) == 0 && msgq_open(argv[1], &queues) == 0, "a file");
     must(msgq_get(queues, MSGQ_PRIVATE, 0600, &id) == 0, "a queue");
@@ -178,7 +167,6 @@ int main(int argc, char **argv) {
 #ifdef HAS_GDBM
     tell_gdbm(argv[2], than);
 #endif
-    if (kernel > 0)
-        printf("a call of libmsgq takes %.2f of the kernel's time; %.2f is the most\n", library / kernel, MOST);
+    printf("a call of libmsgq takes %.2f of the session's time; %.2f is the most\n", library / than, MOST);
     return 0;
 }

@@ -44,7 +44,48 @@ static void refusals(msgq *queues, uint32_t id) {
     is(msgq_set(queues, id, &change), EINVAL, "qbytes above the limit");
     is(msgq_stat(queues, 0, &info), EINVAL, "id 0");
     is(msgq_stat(queues, id, NULL), EINVAL, "no room for what is known");
+    change.qbytes = 1;
+    is(msgq_get(NULL, 7, 0, &other), EINVAL, "no queues");
+    is(msgq_send(NULL, id, 1, "x", 1, 0, NULL), EINVAL, "no queues");
+    is(msgq_receive(NULL, id, 0, room, sizeof room, 0, &SOON, NULL), EINVAL, "no queues");
     is(msgq_stat(NULL, id, &info), EINVAL, "no queues");
+    is(msgq_set(NULL, id, &change), EINVAL, "no queues");
+    is(msgq_remove(NULL, id), EINVAL, "no queues");
+    is(msgq_list(NULL, id, &other), EINVAL, "no queues");
+    is(msgq_save(NULL), EINVAL, "no queues");
+    is(msgq_stop(NULL), EINVAL, "no queues");
+    is(msgq_close(NULL), EINVAL, "no queues");
+    is(msgq_abandon(NULL), EINVAL, "no queues");
+    is(msgq_open(NULL, NULL), EINVAL, "no name");
+    is(msgq_create(NULL, 352), EINVAL, "no name");
+}
+
+/* A number is never cut to one of another queue, type, user or mode. */
+static void numbers_stay(msgq *queues, uint32_t id) {
+    char room[4];
+    uint32_t other = 0;
+    struct msgq_info info;
+    struct msgq_change change = {.qbytes = 16384, .uid = -2, .gid = -1, .mode = -1};
+    is(msgq_get(queues, ((int64_t)1 << 32) + 7, 0, &other), EINVAL, "a key of 33 bits");
+    is(msgq_get(queues, INT64_MIN, MSGQ_CREATE, &other), EINVAL, "the least key");
+    is(msgq_set(queues, id, &change), EINVAL, "a user below -1");
+    change = (struct msgq_change){.qbytes = 16384, .uid = -1, .gid = (int64_t)1 << 32, .mode = -1};
+    is(msgq_set(queues, id, &change), EINVAL, "a group of 33 bits");
+    change = (struct msgq_change){.qbytes = 16384, .uid = -1, .gid = -1, .mode = 0x10000};
+    is(msgq_set(queues, id, &change), EINVAL, "a mode of 17 bits");
+    is(msgq_send(queues, id, INT64_MAX, "most", 4, 0, NULL), 0, "the greatest type");
+    is(msgq_receive(queues, id, 5, room, SIZE_MAX, MSGQ_NOWAIT, NULL, NULL), ENOMSG, "another type");
+    struct msgq_message got;
+    is(msgq_receive(queues, id, INT64_MIN, room, SIZE_MAX, MSGQ_NOWAIT, NULL, &got), 0, "the lowest type, and more room than there can be");
+    is(got.type, INT64_MAX, "its type");
+    change = (struct msgq_change){.qbytes = 16384, .uid = UINT32_MAX, .gid = UINT32_MAX, .mode = 0};
+    is(msgq_get(queues, UINT32_MAX, MSGQ_CREATE | 0600, &other), 0, "the greatest key");
+    is(msgq_set(queues, other, &change), 0, "the greatest user and group");
+    is(msgq_stat(queues, other, &info), 0, "stat");
+    is(info.key, UINT32_MAX, "its key");
+    is(info.uid, UINT32_MAX, "its user");
+    is(info.gid, UINT32_MAX, "its group");
+    is(msgq_remove(queues, other), 0, "remove");
 }
 
 static void a_message_comes_and_goes(msgq *queues, uint32_t id) {
@@ -66,7 +107,7 @@ static void a_message_comes_and_goes(msgq *queues, uint32_t id) {
     is(msgq_receive(queues, id, -3, room, 3, MSGQ_NOERROR, NULL, &got), 0, "one that is cut");
     is(got.length, 3, "its length");
     is(memcmp(room, "sec", 3), 0, "its bytes");
-    is(got.serial, 2, "its serial");
+    is(got.serial, 3, "its serial");
     is(got.type, 2, "its type");
     is(msgq_receive(queues, id, 3, room, sizeof room, 0, NULL, &got), 0, "one of a type");
     is(memcmp(room, "third", 5), 0, "its bytes");
@@ -212,6 +253,7 @@ int main(int argc, char **argv) {
     is(msgq_get(queues, 7, MSGQ_CREATE | 0600, &id), 0, "get");
     is(id, 1, "the first id");
     refusals(queues, id);
+    numbers_stay(queues, id);
     a_message_comes_and_goes(queues, id);
     lists(queues, id);
     a_child_is_refused(queues);

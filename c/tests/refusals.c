@@ -60,7 +60,8 @@ static void no_queue_more(const char *path) {
 static void another_user(const char *path) {
     struct msgq_info info;
     struct msgq_change change = {.qbytes = 16384, .uid = -1, .gid = -1, .mode = -1};
-    uint32_t id, own;
+    struct msgq_change none = {.qbytes = 0, .uid = -1, .gid = -1, .mode = -1};
+    uint32_t id, own, full;
     if (geteuid() != 0) {
         puts("refusals: who runs this is not user 0, so no other user is tried");
         return;
@@ -68,11 +69,16 @@ static void another_user(const char *path) {
     is(chmod(path, 0666), 0, "a file for all");
     msgq *queues = opened(path);
     is(msgq_get(queues, 7, MSGQ_CREATE | 0600, &id), 0, "get");
+    /* Another user may write to it, and not read it; it holds no byte. */
+    is(msgq_get(queues, 9, MSGQ_CREATE | 0622, &full), 0, "get");
+    is(msgq_set(queues, full, &none), 0, "set");
     is(msgq_close(queues), 0, "close");
     is(seteuid(NOBODY), 0, "another user");
     queues = opened(path);
     is(msgq_get(queues, 7, 0, &id), 0, "the queue of a key");
     is(msgq_stat(queues, id, &info), EACCES, "stat");
+    is(msgq_send(queues, full, 1, "x", 1, MSGQ_NOWAIT, NULL), EAGAIN, "a full queue that may not be read");
+    is(strstr(msgq_reason(), "EAGAIN: there is no room on it") != NULL && strstr(msgq_reason(), "bytes") == NULL, 1, msgq_reason());
     is(msgq_send(queues, id, 1, "x", 1, 0, NULL), EACCES, "send");
     is(msgq_receive(queues, id, 0, NULL, 0, 0, NULL, NULL), EACCES, "receive");
     is(msgq_set(queues, id, &change), EPERM, "set");
@@ -82,6 +88,31 @@ static void another_user(const char *path) {
     is(msgq_set(queues, own, &change), EPERM, "more bytes than it has");
     is(msgq_abandon(queues), 0, "abandon");
     is(seteuid(0), 0, "user 0 again");
+}
+
+/* The file is given to another user, with his group: its journal follows. One who can't give his own away lets the group have it. */
+static void a_file_is_given(const char *path) {
+    char name[300];
+    struct stat found;
+    if (geteuid() != 0)
+        return;
+    snprintf(name, sizeof name, "%s.journal", path);
+    is(chown(path, NOBODY, NOBODY), 0, "a file that is given away");
+    is(chmod(path, 0660), 0, "its mode");
+    is(msgq_abandon(opened(path)), 0, "abandon");
+    is(stat(name, &found), 0, "its journal");
+    is(found.st_uid, NOBODY, "its user");
+    is(found.st_gid, NOBODY, "its group");
+    is(found.st_mode & 0777, 0660, "its mode");
+    is(chown(path, 0, 0), 0, "it is given back");
+    is(chmod(path, 0666), 0, "its mode");
+    is(seteuid(NOBODY), 0, "another user");
+    is(msgq_abandon(opened(path)), 0, "abandon");
+    is(seteuid(0), 0, "user 0 again");
+    is(stat(name, &found), 0, "its journal");
+    is(found.st_uid, NOBODY, "its user");
+    is(found.st_mode & 0777, found.st_gid == 0 ? 0666 : 0606, "its mode");
+    is(chown(name, 0, 0), 0, "it is given back");
 }
 
 static void set_limit(int which, rlim_t soft) {
@@ -143,6 +174,7 @@ int main(int argc, char **argv) {
     no_save(argv[1]);
     no_memory(argv[1]);
     another_user(argv[1]);
+    a_file_is_given(argv[1]);
     printf("%d passed, %d failed\n", passed, failed);
     return failed > 0;
 }

@@ -11,162 +11,61 @@
 //! # }
 //! ```
 //!
-//! What each call is answered stands in docs/QUEUES.md.
+//! What each call is answered stands in docs/QUEUES.md, and so do the limits of its arguments. Of numbers that their types can say and
+//! the rules do not know each is refused with `EINVAL`, and so is a path with a zero byte.
+//!
+//! Each call on a file is refused with `ENOTSUP` in the child of a fork whose parent has opened it.
 
+#[cfg(not(target_pointer_width = "64"))]
+compile_error!("the structs of msgq.h are known for targets of 64 bits alone");
+
+mod error;
 mod raw;
+mod values;
 
+pub use error::Error;
+use error::{must, must_or, ENOENT};
 use std::ffi::{c_int, CString};
 use std::fmt;
-use std::io;
 use std::os::unix::ffi::OsStrExt;
 use std::path::Path;
 use std::ptr;
-use std::time::Duration;
+pub use values::{Change, Create, Info, Key, Message, Wait};
 
 const CREATE: c_int = 0o1000;
 const EXCLUSIVE: c_int = 0o2000;
-const NOWAIT: c_int = 0o4000;
 const MAX_BODY: usize = 1024;
 const PRIVATE: i64 = -1;
-
-/// A refusal, or what the system said.
-#[derive(Clone, Copy, Debug, PartialEq, Eq)]
-pub struct Error {
-    /// The number of the system's `errno.h`.
-    pub errno: i32,
-    /// The number of docs/FAULTS.md, where one stands behind it.
-    pub fault: Option<u32>,
-}
-
-impl fmt::Display for Error {
-    fn fmt(&self, to: &mut fmt::Formatter<'_>) -> fmt::Result {
-        write!(to, "{}", io::Error::from_raw_os_error(self.errno))?;
-        match self.fault {
-            Some(fault) => write!(to, " (fault {fault})"),
-            None => Ok(()),
-        }
-    }
-}
-
-impl std::error::Error for Error {}
-
-impl From<Error> for io::Error {
-    fn from(error: Error) -> io::Error {
-        io::Error::from_raw_os_error(error.errno)
-    }
-}
-
-fn must(errno: c_int) -> Result<(), Error> {
-    if errno == 0 {
-        return Ok(());
-    }
-    // SAFETY: it reads a number of this thread.
-    let fault = unsafe { raw::msgq_last_fault() };
-    Err(Error {
-        errno,
-        fault: (fault > 0).then_some(fault),
-    })
-}
-
-/// The key of a queue.
-#[derive(Clone, Copy, Debug, PartialEq, Eq)]
-pub enum Key {
-    /// None leads to it (`IPC_PRIVATE`).
-    Private,
-    Of(u32),
-}
-
-/// Whether a queue is made.
-#[derive(Clone, Copy, Debug, PartialEq, Eq)]
-pub enum Create {
-    Never,
-    /// `IPC_CREAT`.
-    IfMissing,
-    /// `IPC_CREAT` and `IPC_EXCL`.
-    New,
-}
-
-/// For how long a call waits.
-#[derive(Clone, Copy, Debug, PartialEq, Eq)]
-pub enum Wait {
-    /// Not at all (`IPC_NOWAIT`).
-    Never,
-    /// For so long at most; then `ETIMEDOUT`.
-    For(Duration),
-    Forever,
-}
-
-impl Wait {
-    fn flags(self) -> c_int {
-        match self {
-            Wait::Never => NOWAIT,
-            Wait::For(_) | Wait::Forever => 0,
-        }
-    }
-
-    fn limit(self) -> Option<raw::Timespec> {
-        match self {
-            Wait::For(time) => Some(raw::Timespec {
-                seconds: time.as_secs().try_into().unwrap_or(i64::MAX),
-                nanoseconds: time.subsec_nanos().into(),
-            }),
-            Wait::Never | Wait::Forever => None,
-        }
-    }
-}
-
-/// A message that was received.
-#[derive(Clone, Debug, PartialEq, Eq)]
-pub struct Message {
-    pub body: Vec<u8>,
-    pub mtype: i64,
-    /// The process that sent it.
-    pub sender: u32,
-    /// Its number on its queue.
-    pub serial: u64,
-}
-
-/// What is known of a queue (`struct msqid_ds`).
-#[derive(Clone, Copy, Debug, PartialEq, Eq)]
-pub struct Info {
-    pub id: u32,
-    pub key: Key,
-    pub qnum: u32,
-    pub cbytes: u32,
-    pub qbytes: u32,
-    pub lspid: u32,
-    pub lrpid: u32,
-    pub stime: u64,
-    pub rtime: u64,
-    pub ctime: u64,
-    pub uid: u32,
-    pub gid: u32,
-    pub cuid: u32,
-    pub cgid: u32,
-    pub mode: u16,
-}
-
-/// What is set of a queue.
-#[derive(Clone, Copy, Debug, PartialEq, Eq)]
-pub struct Change {
-    pub qbytes: u32,
-    pub uid: Option<u32>,
-    pub gid: Option<u32>,
-    pub mode: Option<u16>,
-}
+const MODES: u16 = 0o777;
 
 fn c_path(path: &Path) -> Result<CString, Error> {
-    CString::new(path.as_os_str().as_bytes()).map_err(|_| Error {
-        errno: 2,
-        fault: None,
-    })
+    CString::new(path.as_os_str().as_bytes())
+        .map_err(|_| Error::invalid(&format!("{path:?}: a path has no zero byte")))
 }
 
-/// Makes a file of so many pages of 4,096 bytes, without queues.
+/// A mode's bits: those beyond them are flags of the call.
+fn bits(mode: u16) -> Result<u16, Error> {
+    if mode > MODES {
+        return Err(Error::invalid(&format!(
+            "mode {mode:o}: a mode has nine bits"
+        )));
+    }
+    Ok(mode)
+}
+
+/// Makes a file of so many pages of 4,096 bytes, 258 to 65,536, without queues.
+///
+/// # Errors
+/// `EEXIST` where there is one of this name, `EINVAL` for another number of pages or a path with a zero byte, `ENOMEM`, or what the
+/// system says.
 pub fn create(path: impl AsRef<Path>, pages: u32) -> Result<(), Error> {
-    let path = c_path(path.as_ref())?;
+    let path = path.as_ref();
+    let name = c_path(path)?;
     // SAFETY: the path ends in a zero.
-    must(unsafe { raw::msgq_create(path.as_ptr(), pages) })
+    must(
+        unsafe { raw::msgq_create(name.as_ptr(), pages) },
+        path.display(),
+    )
 }
 
 /// A file of queues that is open. Where it is let go without `close` what was not saved is lost.
@@ -180,22 +79,34 @@ unsafe impl Send for Queues {}
 unsafe impl Sync for Queues {}
 
 impl Queues {
-    /// Opens a file.
+    /// Opens a file, which is checked whole.
+    ///
+    /// # Errors
+    /// `EBADMSG` and a fault where something is wrong with it, `EBUSY` where a process has it open, `EINVAL` for a path with a zero
+    /// byte, `ENOTSUP` where its journal is of another version, `ENOMEM`, or what the system says.
     pub fn open(path: impl AsRef<Path>) -> Result<Queues, Error> {
-        let path = c_path(path.as_ref())?;
+        let path = path.as_ref();
+        let name = c_path(path)?;
         let mut at = ptr::null_mut();
         // SAFETY: the path ends in a zero, and there is room for the pointer.
-        must(unsafe { raw::msgq_open(path.as_ptr(), &mut at) })?;
+        must(
+            unsafe { raw::msgq_open(name.as_ptr(), &mut at) },
+            path.display(),
+        )?;
         Ok(Queues { at })
     }
 
-    /// The id of a key's queue, or of a new one.
+    /// The id of a key's queue, or of a new one with this mode.
+    ///
+    /// # Errors
+    /// `ENOENT` where no queue has the key and none is made, `EEXIST` where one has it and a new one is asked for, `ENOSPC` where
+    /// there are no more queues or ids, or the file is full (fault 50), `EINVAL` for a mode of more than nine bits, `ENOMEM`.
     pub fn get(&self, key: Key, create: Create, mode: u16) -> Result<u32, Error> {
-        let key = match key {
+        let number = match key {
             Key::Private => PRIVATE,
             Key::Of(key) => key.into(),
         };
-        let flags = c_int::from(mode)
+        let flags = c_int::from(bits(mode)?)
             | match create {
                 Create::Never => 0,
                 Create::IfMissing => CREATE,
@@ -203,29 +114,51 @@ impl Queues {
             };
         let mut id = 0;
         // SAFETY: the file is open, and there is room for the id.
-        must(unsafe { raw::msgq_get(self.at, key, flags, &mut id) })?;
+        let told = unsafe { raw::msgq_get(self.at, number, flags, &mut id) };
+        match told {
+            ENOENT => must_or(told, || format!("{key}: no queue has this key"))?,
+            _ => must(told, key)?,
+        }
         Ok(id)
     }
 
     /// Puts a message last on a queue.
+    ///
+    /// # Errors
+    /// `EINVAL` for a type below 1, a body of more than 1,024 bytes or an id that was never given out, `EIDRM` where the queue was
+    /// removed, `EACCES` where its mode does not let the caller write, `EAGAIN` where there is no room and it does not wait,
+    /// `ETIMEDOUT`, `EINTR` once the file is stopped, `ENOSPC` where it is full (fault 50), `ENOMEM`.
     pub fn send(&self, id: u32, mtype: i64, body: &[u8], wait: Wait) -> Result<(), Error> {
         let limit = wait.limit();
         let limit = limit.as_ref().map_or(ptr::null(), ptr::from_ref);
         // SAFETY: the file is open, and the body and the limit outlive the call.
-        must(unsafe {
-            raw::msgq_send(self.at, id, mtype, body.as_ptr(), body.len(), wait.flags(), limit)
-        })
+        let told = unsafe {
+            raw::msgq_send(
+                self.at,
+                id,
+                mtype,
+                body.as_ptr(),
+                body.len(),
+                wait.flags(),
+                limit,
+            )
+        };
+        must(told, on(id))
     }
 
     /// Takes the first message (type 0), the first of a type, or the first of the lowest type up to
     /// -type.
+    ///
+    /// # Errors
+    /// `EINVAL` for an id that was never given out, `EIDRM` where the queue was removed, `EACCES` where its mode does not let the
+    /// caller read, `ENOMSG` where there is none and it does not wait, `ETIMEDOUT`, `EINTR` once the file is stopped, `ENOMEM`.
     pub fn receive(&self, id: u32, mtype: i64, wait: Wait) -> Result<Message, Error> {
         let limit = wait.limit();
         let limit = limit.as_ref().map_or(ptr::null(), ptr::from_ref);
         let mut room = [0; MAX_BODY];
         let mut got = raw::Message::default();
         // SAFETY: the file is open, and there is room for what is told.
-        must(unsafe {
+        let told = unsafe {
             raw::msgq_receive(
                 self.at,
                 id,
@@ -236,7 +169,8 @@ impl Queues {
                 limit,
                 &mut got,
             )
-        })?;
+        };
+        must(told, on(id))?;
         Ok(Message {
             body: room[..got.length].to_vec(),
             mtype: got.mtype,
@@ -246,10 +180,14 @@ impl Queues {
     }
 
     /// What is known of a queue.
+    ///
+    /// # Errors
+    /// `EINVAL` for an id that was never given out, `EIDRM` where the queue was removed, `EACCES` where its mode does not let the
+    /// caller read.
     pub fn stat(&self, id: u32) -> Result<Info, Error> {
         let mut info = raw::Info::default();
         // SAFETY: the file is open, and there is room for what is told.
-        must(unsafe { raw::msgq_stat(self.at, id, &mut info) })?;
+        must(unsafe { raw::msgq_stat(self.at, id, &mut info) }, on(id))?;
         Ok(Info {
             id: info.id,
             key: u32::try_from(info.key).map_or(Key::Private, Key::Of),
@@ -270,47 +208,64 @@ impl Queues {
     }
 
     /// Changes `qbytes`, and owner and mode where they are given.
+    ///
+    /// # Errors
+    /// `EINVAL` for `qbytes` above 65,536, a mode of more than nine bits or an id that was never given out, `EIDRM` where the queue
+    /// was removed, `EPERM` for who is neither owner, creator nor user 0, and for who raises `qbytes` and is not user 0.
     pub fn set(&self, id: u32, change: &Change) -> Result<(), Error> {
         let change = raw::Change {
             qbytes: change.qbytes,
             uid: change.uid.map_or(-1, i64::from),
             gid: change.gid.map_or(-1, i64::from),
-            mode: change.mode.map_or(-1, i32::from),
+            mode: change.mode.map(bits).transpose()?.map_or(-1, i32::from),
         };
         // SAFETY: the file is open, and the change outlives the call.
-        must(unsafe { raw::msgq_set(self.at, id, &change) })
+        must(unsafe { raw::msgq_set(self.at, id, &change) }, on(id))
     }
 
     /// Removes a queue and all its messages.
+    ///
+    /// # Errors
+    /// `EINVAL` for an id that was never given out, `EIDRM` where the queue was removed before, `EPERM` for who is neither owner,
+    /// creator nor user 0.
     pub fn remove(&self, id: u32) -> Result<(), Error> {
         // SAFETY: the file is open.
-        must(unsafe { raw::msgq_remove(self.at, id) })
+        must(unsafe { raw::msgq_remove(self.at, id) }, on(id))
     }
 
-    /// The ids of the queues that are alive, in ascending order.
+    /// The ids of the queues that are alive, in ascending order. An error, which only a fault of the file is, is the last.
     pub fn ids(&self) -> Ids<'_> {
         Ids {
             queues: self,
-            after: 0,
+            after: Some(0),
         }
     }
 
     /// Writes what has changed to the file.
+    ///
+    /// # Errors
+    /// What the system says, and `EIO` from then on: the file is to be opened anew.
     pub fn save(&self) -> Result<(), Error> {
         // SAFETY: the file is open.
-        must(unsafe { raw::msgq_save(self.at) })
+        must(unsafe { raw::msgq_save(self.at) }, "a save")
     }
 
     /// From here on a call that would wait is told `EINTR`.
+    ///
+    /// # Errors
+    /// None but those of every call.
     pub fn stop(&self) -> Result<(), Error> {
         // SAFETY: the file is open.
-        must(unsafe { raw::msgq_stop(self.at) })
+        must(unsafe { raw::msgq_stop(self.at) }, "a stop")
     }
 
     /// Saves, and lets go of the file. Where it can't be saved what has changed is lost.
+    ///
+    /// # Errors
+    /// Those of `save`.
     pub fn close(self) -> Result<(), Error> {
         // SAFETY: the file is open, and nobody else has it: so no call waits.
-        must(unsafe { raw::msgq_close(self.at) })?;
+        must(unsafe { raw::msgq_close(self.at) }, "a save")?;
         // It is gone.
         std::mem::forget(self);
         Ok(())
@@ -324,23 +279,33 @@ impl Drop for Queues {
     }
 }
 
+/// The queue of an id, in words.
+fn on(id: u32) -> impl fmt::Display {
+    format!("queue {id}")
+}
+
 /// The ids of queues, in ascending order.
+#[derive(Debug)]
 pub struct Ids<'a> {
     queues: &'a Queues,
-    after: u32,
+    after: Option<u32>,
 }
 
 impl Iterator for Ids<'_> {
-    type Item = u32;
+    type Item = Result<u32, Error>;
 
-    fn next(&mut self) -> Option<u32> {
+    fn next(&mut self) -> Option<Result<u32, Error>> {
+        let after = self.after.take()?;
         let mut id = 0;
         // SAFETY: the file is open, and there is room for the id.
-        let told = unsafe { raw::msgq_list(self.queues.at, self.after, &mut id) };
-        if told != 0 {
-            return None;
+        let told = unsafe { raw::msgq_list(self.queues.at, after, &mut id) };
+        match must(told, "the next queue") {
+            Ok(()) => {
+                self.after = Some(id);
+                Some(Ok(id))
+            }
+            Err(error) if error.errno == ENOENT => None,
+            Err(error) => Some(Err(error)),
         }
-        self.after = id;
-        Some(id)
     }
 }

@@ -79,4 +79,6 @@ extern "C" {
     pub fn msgq_close(queues: Handle) -> c_int;
     pub fn msgq_abandon(queues: Handle) -> c_int;
     pub fn msgq_last_fault() -> c_uint;
+    #[cfg(has_reason)]
+    pub fn msgq_reason() -> *const c_char;
 }

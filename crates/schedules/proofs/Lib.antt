@@ -1,3 +1,2 @@
-pub mod HexadecimalLemmas
 pub mod NumberLemmas
 pub mod WordLemmas

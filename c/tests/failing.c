@@ -1,0 +1,444 @@
+/* Each call of the system that the library makes fails in turn, while a file is recovered, opened, saved and made; what is expected
+ * stands in msgq.h: the number of the failure, and at the next opening the file as before or as after. Run with the path of a new
+ * file. It is linked so that the calls below come here first (-Wl,--wrap). */
+#include "../msgq.h"
+
+#include <errno.h>
+#include <fcntl.h>
+#include <limits.h>
+#include <pthread.h>
+#include <stdarg.h>
+#include <stdbool.h>
+#include <stdio.h>
+#include <stdlib.h>
+#include <string.h>
+#include <sys/file.h>
+#include <sys/stat.h>
+#include <sys/wait.h>
+#include <time.h>
+#include <unistd.h>
+
+static int passed, failed;
+
+static void is(long long found, long long expected, const char *what) {
+    if (found == expected) {
+        passed++;
+        return;
+    }
+    failed++;
+    fprintf(stderr, "%s: %lld, not %lld\n", what, found, expected);
+}
+
+/* ---- calls that fail */
+
+enum call {
+    NONE, PREAD, PWRITE, FSYNC, FTRUNCATE, FSTAT, STAT, LSTAT, OPEN, REALPATH, FLOCK, FOPEN, FCHMOD, MALLOC, CALLOC, CLOCK,
+    ATTR_INIT, ATTR_CLOCK, COND_INIT, MUTEX_INIT, CALLS
+};
+
+static const char *const names[CALLS] = {
+    "none", "pread", "pwrite", "fsync", "ftruncate", "fstat", "stat", "lstat", "open", "realpath", "flock", "fopen", "fchmod", "malloc",
+    "calloc", "clock_gettime", "pthread_condattr_init", "pthread_condattr_setclock", "pthread_cond_init", "pthread_mutex_init",
+};
+
+static enum call which;
+static int when, seen, number, writes;
+static bool dies;
+
+/* Whether this call is the one that fails; the process may end at it. */
+static bool is_now(enum call call) {
+    if (call == PWRITE || call == FTRUNCATE)
+        writes++;
+    if (call != which || ++seen != when)
+        return false;
+    if (dies)
+        _exit(9);
+    errno = number;
+    return true;
+}
+
+static void arm(enum call call, int at, int wrong) {
+    which = call;
+    when = at;
+    number = wrong;
+    seen = writes = 0;
+}
+
+/* Whether the call was come to. */
+static bool disarm(void) {
+    bool was = which != NONE && seen >= when;
+    which = NONE;
+    return was;
+}
+
+#define WRAP(kind, name, call, fails, parameters, arguments) \
+    kind __real_##name parameters; \
+    kind __wrap_##name parameters; \
+    kind __wrap_##name parameters { return is_now(call) ? (fails) : __real_##name arguments; }
+
+/* (a read or a write of nothing, where there is no number) */
+WRAP(ssize_t, pread, PREAD, number == 0 ? 0 : -1, (int file, void *to, size_t count, off_t at), (file, to, count, at))
+WRAP(ssize_t, pwrite, PWRITE, number == 0 ? 0 : -1, (int file, const void *from, size_t count, off_t at), (file, from, count, at))
+WRAP(int, fsync, FSYNC, -1, (int file), (file))
+WRAP(int, ftruncate, FTRUNCATE, -1, (int file, off_t size), (file, size))
+WRAP(int, fstat, FSTAT, -1, (int file, struct stat *to), (file, to))
+WRAP(int, stat, STAT, -1, (const char *path, struct stat *to), (path, to))
+WRAP(int, lstat, LSTAT, -1, (const char *path, struct stat *to), (path, to))
+WRAP(char *, realpath, REALPATH, NULL, (const char *path, char *to), (path, to))
+WRAP(int, flock, FLOCK, -1, (int file, int how), (file, how))
+WRAP(FILE *, fopen, FOPEN, NULL, (const char *path, const char *how), (path, how))
+WRAP(int, fchmod, FCHMOD, -1, (int file, mode_t mode), (file, mode))
+WRAP(void *, malloc, MALLOC, NULL, (size_t size), (size))
+WRAP(void *, calloc, CALLOC, NULL, (size_t count, size_t size), (count, size))
+WRAP(int, clock_gettime, CLOCK, -1, (clockid_t clock, struct timespec *to), (clock, to))
+WRAP(int, pthread_condattr_init, ATTR_INIT, number, (pthread_condattr_t *it), (it))
+WRAP(int, pthread_condattr_setclock, ATTR_CLOCK, number, (pthread_condattr_t *it, clockid_t clock), (it, clock))
+WRAP(int, pthread_cond_init, COND_INIT, number, (pthread_cond_t *it, const pthread_condattr_t *with), (it, with))
+WRAP(int, pthread_mutex_init, MUTEX_INIT, number, (pthread_mutex_t *it, const pthread_mutexattr_t *with), (it, with))
+
+int __real_open(const char *path, int flags, ...);
+int __wrap_open(const char *path, int flags, ...);
+int __wrap_open(const char *path, int flags, ...) {
+    va_list rest;
+    va_start(rest, flags);
+    mode_t mode = (flags & O_CREAT) != 0 ? va_arg(rest, mode_t) : 0;
+    va_end(rest);
+    return is_now(OPEN) ? -1 : __real_open(path, flags, mode);
+}
+
+/* ---- files */
+
+static char path[4000], journal[4096];
+
+struct bytes {
+    char *at;
+    long count; /* -1 where there is no file */
+};
+
+static struct bytes read_all(const char *name) {
+    struct bytes it = {NULL, -1};
+    FILE *file = fopen(name, "r");
+    if (file == NULL)
+        return it;
+    fseek(file, 0, SEEK_END);
+    it.count = ftell(file);
+    rewind(file);
+    it.at = malloc((size_t)it.count + 1);
+    if (it.at == NULL || fread(it.at, 1, (size_t)it.count, file) != (size_t)it.count)
+        exit(2);
+    fclose(file);
+    return it;
+}
+
+static void write_all(const char *name, struct bytes it) {
+    if (it.count < 0) {
+        unlink(name);
+        return;
+    }
+    FILE *file = fopen(name, "w");
+    if (file == NULL || fwrite(it.at, 1, (size_t)it.count, file) != (size_t)it.count || fclose(file) != 0)
+        exit(2);
+}
+
+static bool has_bytes(const char *name, struct bytes it) {
+    struct bytes now = read_all(name);
+    bool same = now.count == it.count && (now.count < 0 || memcmp(now.at, it.at, (size_t)now.count) == 0);
+    free(now.at);
+    return same;
+}
+
+/* A file and its journal. */
+struct both {
+    struct bytes file, journal;
+};
+
+static struct both keep(void) {
+    return (struct both){read_all(path), read_all(journal)};
+}
+
+static void put(struct both it) {
+    write_all(path, it.file);
+    write_all(journal, it.journal);
+}
+
+/* What is on all queues of a file, by a clean opening; 0 where it is not opened. */
+static unsigned long long state(void) {
+    unsigned long long sum = 1469598103934665603ull;
+    char body[MSGQ_MAX_BODY];
+    struct msgq_message got;
+    msgq *queues;
+    int wrong = msgq_open(path, &queues);
+    if (wrong != 0) {
+        fprintf(stderr, "a clean opening: %s\n", strerror(wrong));
+        return 0;
+    }
+    for (uint32_t id = 0; msgq_list(queues, id, &id) == 0;)
+        while (msgq_receive(queues, id, 0, body, sizeof body, MSGQ_NOWAIT, NULL, &got) == 0) {
+            sum = (sum ^ id ^ (unsigned long long)got.type << 8 ^ got.length << 16) * 1099511628211ull;
+            for (size_t n = 0; n < got.length; n++)
+                sum = (sum ^ (unsigned char)body[n]) * 1099511628211ull;
+        }
+    is(msgq_abandon(queues), 0, "abandon");
+    return sum;
+}
+
+/* What the save changes. */
+static void change(msgq *queues) {
+    char body[1000];
+    uint32_t id;
+    memset(body, 'b', sizeof body);
+    is(msgq_receive(queues, 1, 0, NULL, 0, MSGQ_NOERROR, NULL, NULL), 0, "receive");
+    is(msgq_remove(queues, 2), 0, "remove");
+    is(msgq_get(queues, 3, MSGQ_CREATE | 0600, &id), 0, "get");
+    for (int n = 0; n < 9; n++)
+        is(msgq_send(queues, id, 1 + n, body, sizeof body, 0, NULL), 0, "send");
+}
+
+static msgq *opened(void) {
+    msgq *queues = NULL;
+    int wrong = msgq_open(path, &queues);
+    is(wrong, 0, "open");
+    if (wrong != 0)
+        exit(1);
+    return queues;
+}
+
+/* The file before all saves that are tried. */
+static struct both first_file(void) {
+    uint32_t id;
+    is(msgq_create(path, 300), 0, "create");
+    msgq *queues = opened();
+    for (int key = 1; key < 3; key++) {
+        is(msgq_get(queues, key, MSGQ_CREATE | 0600, &id), 0, "get");
+        for (int n = 0; n < 4; n++)
+            is(msgq_send(queues, id, 1, "first", 5, 0, NULL), 0, "send");
+    }
+    is(msgq_close(queues), 0, "close");
+    return keep();
+}
+
+/* A save in another process that ends at a call; whether it came to it. */
+static bool cut_off(struct both start, enum call call, int at) {
+    int status = 0;
+    put(start);
+    pid_t child = fork();
+    if (child == 0) {
+        msgq *queues = opened();
+        change(queues);
+        dies = true;
+        arm(call, at, EIO);
+        _exit(msgq_save(queues) == 0 ? 0 : 1);
+    }
+    waitpid(child, &status, 0);
+    return WIFEXITED(status) && WEXITSTATUS(status) == 9;
+}
+
+/* ---- each call in turn */
+
+static unsigned long long before, after;
+
+static void is_whole(const char *what) {
+    unsigned long long now = state();
+    bool whole = now != 0 && (now == before || now == after);
+    if (!whole)
+        fprintf(stderr, "%s: call %d of %s fails: ", what, when, names[which == NONE ? 0 : which]);
+    is(whole, true, "the file is whole");
+}
+
+/* Opens a file with a journal, of which each call of a kind fails in turn. */
+static void recovery_fails(struct both left, enum call call, int wrong) {
+    bool was_come_to = true;
+    for (int at = 1; was_come_to; at++) {
+        char what[80];
+        msgq *queues = NULL;
+        snprintf(what, sizeof what, "an opening where call %d of %s fails", at, names[call]);
+        put(left);
+        arm(call, at, wrong);
+        int told = msgq_open(path, &queues);
+        int wrote = writes;
+        was_come_to = disarm();
+        if (told == 0)
+            is(msgq_abandon(queues), 0, "abandon");
+        /* Where it is not known whether the file was moved meanwhile, it is opened once more; the folder that a new journal's
+         * name was brought to needs no look before it is closed. */
+        bool matters = call == STAT ? at == 1 : call != FSTAT || left.journal.count >= 0 || told != 0;
+        /* What the session asks for last only spares it later work: where that is refused it opens without. */
+        bool is_spared = told == 0 && at > 1 && (call == MALLOC || call == CALLOC);
+        if (was_come_to && matters && !is_spared)
+            is(told, wrong, what);
+        if (told != 0 && wrote == 0)
+            is(has_bytes(path, left.file) && (left.journal.count < 0 || has_bytes(journal, left.journal)), true, what);
+        is_whole(what);
+    }
+}
+
+/* Saves, while each call of a kind fails in turn. */
+static void save_fails(struct both start, enum call call, int wrong) {
+    bool was_come_to = true;
+    for (int at = 1; was_come_to; at++) {
+        char what[80];
+        snprintf(what, sizeof what, "a save where call %d of %s fails", at, names[call]);
+        put(start);
+        msgq *queues = opened();
+        change(queues);
+        arm(call, at, wrong);
+        int told = msgq_save(queues);
+        was_come_to = disarm();
+        is(told, was_come_to ? wrong : 0, what);
+        if (told != 0) {
+            is(msgq_save(queues), EIO, "a save behind it");
+            is(msgq_close(queues), EIO, "a close behind it");
+        }
+        is(msgq_abandon(queues), 0, "abandon");
+        is_whole(what);
+        if (told == 0)
+            is(state() == after, true, "what was saved");
+    }
+}
+
+/* Makes a file, while each call of a kind fails in turn: then there is none. */
+static void making_fails(enum call call, int wrong) {
+    bool was_come_to = true;
+    /* It has 300 pages, of which some do. */
+    for (int at = 1; was_come_to && at < 400; at += at > 4 && at < 290 ? 40 : 1) {
+        char what[80];
+        snprintf(what, sizeof what, "a making where call %d of %s fails", at, names[call]);
+        unlink(path);
+        unlink(journal);
+        arm(call, at, wrong);
+        int told = msgq_create(path, 300);
+        was_come_to = disarm();
+        /* What is closed was synced. */
+        if (call != FSTAT || at < 3)
+            is(told, was_come_to ? wrong : 0, what);
+        is(access(path, F_OK), told == 0 ? 0 : -1, what);
+    }
+}
+
+/* An opening that finds no journal may not know that this is on the disk: it syncs it before it tells anything. */
+static void emptiness_is_synced(struct both left) {
+    msgq *queues;
+    put(left);
+    arm(FSYNC, INT_MAX, 0);
+    is(msgq_open(path, &queues), 0, "open");
+    is(seen, 1, "syncs of an opening without a journal");
+    (void)disarm();
+    is(msgq_abandon(queues), 0, "abandon");
+}
+
+/* A transfer that is interrupted goes on, and one of nothing is none. */
+static void transfers(struct both start, struct both left) {
+    static const enum call interrupted[] = {PREAD, PWRITE, FSYNC, FTRUNCATE};
+    msgq *queues;
+    for (int n = 0; n < 4; n++) {
+        put(left);
+        arm(interrupted[n], 1, EINTR);
+        is(msgq_open(path, &queues), 0, "a recovery that is interrupted");
+        is(disarm(), true, "it is interrupted");
+        change(queues);
+        arm(interrupted[n], 1, EINTR);
+        is(msgq_save(queues), 0, "a save that is interrupted");
+        is(disarm(), true, "it is interrupted");
+        is(msgq_abandon(queues), 0, "abandon");
+        is(state() == after, true, "what was saved");
+    }
+    put(left);
+    arm(PREAD, 1, 0);
+    is(msgq_open(path, &queues), EIO, "a journal that ends before its length");
+    (void)disarm();
+    put(start);
+    queues = opened();
+    change(queues);
+    arm(PWRITE, 1, 0);
+    is(msgq_save(queues), EIO, "a write of nothing");
+    (void)disarm();
+    is(msgq_abandon(queues), 0, "abandon");
+    is_whole("a write of nothing");
+}
+
+/* What is told of who has the file, and of a journal that another is said to have made. */
+static void others(struct both start) {
+    msgq *queues, *again;
+    put(start);
+    queues = opened();
+    arm(FOPEN, 1, ENOENT);
+    is(msgq_open(path, &again), EBUSY, "a file that is open, where the system has no list of locks");
+    is(disarm(), true, "it is asked");
+    is(strstr(msgq_reason(), ": it can't be opened: it is in use by another process") != NULL, true, msgq_reason());
+    is(msgq_abandon(queues), 0, "abandon");
+    unlink(journal);
+    arm(OPEN, 2, EEXIST);
+    is(msgq_open(path, &again), ENOENT, "a journal that was made and is gone");
+    is(disarm(), true, "it is opened");
+}
+
+/* A wait whose clock can't be read. */
+static void clock_fails(struct both start) {
+    put(start);
+    msgq *queues = opened(), *other;
+    uint32_t id;
+    is(msgq_get(queues, 5, MSGQ_CREATE | 0600, &id), 0, "get");
+    for (int at = 1; at < 3; at++) {
+        arm(CLOCK, at, EINVAL);
+        is(msgq_receive(queues, id, 0, NULL, 0, 0, msgq_within(1), NULL), EINVAL, "a wait without a clock");
+        is(disarm(), true, "it is asked");
+        arm(CLOCK, at, EINVAL);
+        is(msgq_open_wait(path, msgq_within(1), &other), EINVAL, "an opening without a clock");
+        is(disarm(), true, "it is asked");
+    }
+    is(msgq_abandon(queues), 0, "abandon");
+}
+
+int main(int argc, char **argv) {
+    if (argc != 2)
+        return 2;
+    snprintf(path, sizeof path, "%s", argv[1]);
+    snprintf(journal, sizeof journal, "%s.journal", path);
+    struct both start = first_file();
+    before = state();
+    put(start);
+    msgq *queues = opened();
+    change(queues);
+    arm(PWRITE, INT_MAX, 0);
+    is(msgq_close(queues), 0, "close");
+    (void)disarm();
+    /* A head, the images, and as many pages. */
+    int pages = (seen - 1) / 2;
+    after = state();
+    is(before != after, true, "the save changes the file");
+    const struct {
+        enum call call;
+        int at;
+    } ends[] = {{PWRITE, 3}, {FSYNC, 1}, {PWRITE, pages + 2}, {PWRITE, 2 * pages + 1}, {FSYNC, 2}, {FTRUNCATE, 1}, {FSYNC, 3}};
+    for (size_t n = 0; n < sizeof ends / sizeof *ends; n++) {
+        is(cut_off(start, ends[n].call, ends[n].at), true, "a save is cut off");
+        struct both left = keep();
+        if (left.journal.count == 0)
+            emptiness_is_synced(left);
+        if (n == 3)
+            transfers(start, left);
+        for (enum call call = PREAD; call < CALLS; call++)
+            if (call != CLOCK && call != FOPEN)
+                recovery_fails(left, call, call == MALLOC || call == CALLOC ? ENOMEM : call == FSTAT ? ENOSPC : EIO);
+        free(left.file.at);
+        free(left.journal.at);
+    }
+    /* There is no journal yet. */
+    struct both alone = {start.file, {NULL, -1}};
+    for (enum call call = FSYNC; call < CALLS; call++)
+        if (call != CLOCK && call != FLOCK && call != FOPEN)
+            recovery_fails(alone, call, call == MALLOC || call == CALLOC ? ENOMEM : EIO);
+    for (enum call call = PREAD; call <= FSTAT; call++)
+        save_fails(start, call, ENOSPC);
+    making_fails(OPEN, EMFILE);
+    making_fails(PWRITE, ENOSPC);
+    making_fails(FSYNC, EIO);
+    making_fails(FSTAT, EIO);
+    making_fails(MALLOC, ENOMEM);
+    others(start);
+    clock_fails(start);
+    free(start.file.at);
+    free(start.journal.at);
+    printf("%d passed, %d failed\n", passed, failed);
+    return failed > 0;
+}

@@ -1,0 +1,304 @@
+/* Journals and pages written by hand from docs/FORMAT.md: what is put back, what is refused, and what is said of it (docs/FAULTS.md).
+ * Run with the name of a new file, in the folder where it is to be. */
+#include "../msgq.h"
+
+#include <errno.h>
+#include <stdio.h>
+#include <stdlib.h>
+#include <string.h>
+#include <unistd.h>
+
+enum { PAGE = 4096, PAYLOAD = 4064, SUM = 32, HEAD = 80, IMAGE = 4 + PAGE + SUM, PAGES = 300, ROOT = 257, MOST = 4 };
+
+static int passed, failed;
+static char path[200], journal[220];
+
+static void is(long long found, long long expected, const char *what) {
+    if (found == expected) {
+        passed++;
+        return;
+    }
+    failed++;
+    fprintf(stderr, "%s: %lld, not %lld\n", what, found, expected);
+}
+
+/* ---- SHA-256 (FIPS 180-4) */
+
+static uint32_t turned(uint32_t word, int by) {
+    return word >> by | word << (32 - by);
+}
+
+/* The first 32 bits of the fractional part of a root of each of the first primes. */
+static void constants(uint32_t *square, uint32_t *cube) {
+    int count = 0;
+    for (unsigned prime = 2; count < 64; prime++) {
+        unsigned divisor = 2;
+        while (divisor < prime && prime % divisor != 0)
+            divisor++;
+        if (divisor < prime)
+            continue;
+        /* The greatest number whose power is at most the prime's, with 32 bits behind the point. */
+        unsigned __int128 root = 0, third = 0;
+        for (int bit = 36; bit >= 0; bit--) {
+            unsigned __int128 more = root | (unsigned __int128)1 << bit;
+            if (more * more <= (unsigned __int128)prime << 64)
+                root = more;
+            more = third | (unsigned __int128)1 << bit;
+            if (more * more * more <= (unsigned __int128)prime << 96)
+                third = more;
+        }
+        if (count < 8)
+            square[count] = (uint32_t)root;
+        cube[count++] = (uint32_t)third;
+    }
+}
+
+static void digest_block(uint32_t *state, const uint32_t *cube, const uint8_t *block) {
+    uint32_t words[64], now[8];
+    for (int n = 0; n < 64; n++)
+        if (n < 16)
+            words[n] = (uint32_t)block[4 * n] << 24 | (uint32_t)block[4 * n + 1] << 16 | (uint32_t)block[4 * n + 2] << 8 | block[4 * n + 3];
+        else
+            words[n] = words[n - 16] + words[n - 7] + (turned(words[n - 15], 7) ^ turned(words[n - 15], 18) ^ words[n - 15] >> 3)
+                + (turned(words[n - 2], 17) ^ turned(words[n - 2], 19) ^ words[n - 2] >> 10);
+    memcpy(now, state, sizeof now);
+    for (int n = 0; n < 64; n++) {
+        uint32_t e = now[4], a = now[0];
+        uint32_t one = now[7] + (turned(e, 6) ^ turned(e, 11) ^ turned(e, 25)) + ((e & now[5]) ^ (~e & now[6])) + cube[n] + words[n];
+        uint32_t two = (turned(a, 2) ^ turned(a, 13) ^ turned(a, 22)) + ((a & now[1]) ^ (a & now[2]) ^ (now[1] & now[2]));
+        memmove(now + 1, now, 7 * sizeof *now);
+        now[4] += one;
+        now[0] = one + two;
+    }
+    for (int n = 0; n < 8; n++)
+        state[n] += now[n];
+}
+
+static void digest(const uint8_t *bytes, size_t count, uint8_t *into) {
+    uint32_t state[8], cube[64];
+    uint8_t end[128] = {0};
+    size_t whole = count / 64 * 64, rest = count - whole, last = rest < 56 ? 64 : 128;
+    constants(state, cube);
+    for (size_t at = 0; at < whole; at += 64)
+        digest_block(state, cube, bytes + at);
+    memcpy(end, bytes + whole, rest);
+    end[rest] = 0x80;
+    for (int n = 0; n < 8; n++)
+        end[last - 1 - n] = (uint8_t)((uint64_t)count * 8 >> (8 * n));
+    for (size_t at = 0; at < last; at += 64)
+        digest_block(state, cube, end + at);
+    for (int n = 0; n < SUM; n++)
+        into[n] = (uint8_t)(state[n / 4] >> (24 - 8 * (n % 4)));
+}
+
+/* ---- files */
+
+static void number(uint8_t *at, uint32_t value) {
+    for (int n = 0; n < 4; n++)
+        at[n] = (uint8_t)(value >> (24 - 8 * n));
+}
+
+static uint8_t good[PAGES * PAGE], bytes[PAGES * PAGE];
+
+static void write_all(const char *name, const uint8_t *from, size_t count) {
+    FILE *file = fopen(name, "w");
+    if (file == NULL || fwrite(from, 1, count, file) != count || fclose(file) != 0)
+        exit(2);
+}
+
+static int holds(const char *name, const uint8_t *wanted, size_t count) {
+    static uint8_t found[PAGES * PAGE + 1];
+    FILE *file = fopen(name, "r");
+    if (file == NULL)
+        return 0;
+    size_t had = fread(found, 1, sizeof found, file);
+    fclose(file);
+    return had == count && (count == 0 || memcmp(found, wanted, count) == 0);
+}
+
+/* Seals a page of the bytes. */
+static void seal(uint32_t page) {
+    uint8_t all[4 + PAYLOAD];
+    number(all, page);
+    memcpy(all + 4, bytes + (size_t)page * PAGE, PAYLOAD);
+    digest(all, sizeof all, bytes + (size_t)page * PAGE + PAYLOAD);
+}
+
+/* ---- journals */
+
+struct left {
+    uint8_t bytes[HEAD + MOST * IMAGE], sum[SUM];
+    size_t count;
+};
+
+static void begin(struct left *it, uint32_t version, uint32_t pages, const uint8_t *first) {
+    memcpy(it->bytes, "msgqundo", 8);
+    number(it->bytes + 8, version);
+    number(it->bytes + 12, pages);
+    digest(first, PAGE, it->bytes + 16);
+    digest(it->bytes, 48, it->bytes + 48);
+    memcpy(it->sum, it->bytes + 48, SUM);
+    it->count = HEAD;
+}
+
+static void add(struct left *it, uint32_t page, const uint8_t *was) {
+    uint8_t all[SUM + 4 + PAGE];
+    memcpy(all, it->sum, SUM);
+    number(all + SUM, page);
+    memcpy(all + SUM + 4, was, PAGE);
+    digest(all, sizeof all, it->sum);
+    memcpy(it->bytes + it->count, all + SUM, 4 + PAGE);
+    memcpy(it->bytes + it->count + 4 + PAGE, it->sum, SUM);
+    it->count += IMAGE;
+}
+
+static void says(const char *words) {
+    char whole[400];
+    snprintf(whole, sizeof whole, "%s: %s", path, words);
+    is(strcmp(msgq_reason(), whole), 0, words);
+    if (strcmp(msgq_reason(), whole) != 0)
+        fprintf(stderr, "said: %s\n", msgq_reason());
+}
+
+/* Opens the bytes with a journal, which is refused, and nothing is written. */
+static void is_refused(const struct left *it, int wrong, const char *words) {
+    msgq *queues;
+    write_all(path, bytes, sizeof bytes);
+    write_all(journal, it->bytes, it->count);
+    is(msgq_open(path, &queues), wrong, words);
+    says(words);
+    is(holds(path, bytes, sizeof bytes), 1, "the file is as it was");
+    is(holds(journal, it->bytes, it->count), 1, "the journal is as it was");
+}
+
+/* Opens the bytes with a journal, which leads to the good file and is empty then. */
+static void is_put_back(const struct left *it, size_t count, const char *what) {
+    msgq *queues;
+    write_all(path, bytes, count);
+    write_all(journal, it->bytes, it->count);
+    is(msgq_open(path, &queues), 0, what);
+    is(msgq_abandon(queues), 0, "abandon");
+    is(holds(path, good, sizeof good), 1, what);
+    is(holds(journal, NULL, 0), 1, "the journal is empty");
+}
+
+/* The same of what is no whole journal: both stay, and the next save empties it. */
+static void is_none(const struct left *it, size_t count, const char *what) {
+    msgq *queues;
+    write_all(path, good, sizeof good);
+    write_all(journal, it->bytes, count);
+    is(msgq_open(path, &queues), 0, what);
+    is(holds(path, good, sizeof good), 1, what);
+    is(holds(journal, it->bytes, count), 1, what);
+    is(msgq_save(queues), 0, "save");
+    is(holds(journal, NULL, 0), 1, "the journal is empty");
+    is(msgq_close(queues), 0, "close");
+}
+
+static void journals(void) {
+    static const char FOREIGN[] = "it can't be opened: its journal is of another file: put the file or the journal that belongs there";
+    static struct left it;
+    static uint8_t more[(PAGES + 1) * PAGE];
+    uint8_t *page = bytes + ROOT * PAGE, *first = bytes;
+    memcpy(bytes, good, sizeof bytes);
+    memset(page, 'x', PAGE);
+    begin(&it, 1, PAGES, good);
+    is_none(&it, 1, "a journal of one byte");
+    is_none(&it, HEAD - 1, "a journal without a head");
+    it.bytes[13]++;
+    is_none(&it, HEAD, "a journal whose head is wrong");
+    it.bytes[13]--;
+    add(&it, ROOT, good + ROOT * PAGE);
+    is_put_back(&it, sizeof bytes, "a page is put back");
+    add(&it, 0, good);
+    memset(first, 'y', PAGE);
+    is_put_back(&it, sizeof bytes, "page 0 is put back");
+    add(&it, 1, page);
+    it.bytes[it.count - 1]++;
+    is_put_back(&it, sizeof bytes, "behind a wrong image there is none");
+    it.count -= 1;
+    is_put_back(&it, sizeof bytes, "nor is one that is cut");
+    memcpy(more, bytes, sizeof bytes);
+    write_all(path, more, sizeof more);
+    write_all(journal, it.bytes, it.count);
+    msgq *queues;
+    is(msgq_open(path, &queues), 0, "a file that had grown");
+    is(msgq_abandon(queues), 0, "abandon");
+    is(holds(path, good, sizeof good), 1, "it is cut");
+
+    begin(&it, 1, PAGES, good);
+    add(&it, ROOT, good + ROOT * PAGE);
+    is_refused(&it, EBADMSG, FOREIGN);
+    memcpy(first, good, PAGE);
+    begin(&it, 2, PAGES, good);
+    is_refused(&it, ENOTSUP, "it can't be opened: its journal is of another version");
+    begin(&it, 1, PAGES + 1, good);
+    is_refused(&it, EBADMSG, FOREIGN);
+    begin(&it, 1, PAGES, good);
+    add(&it, ROOT, good + ROOT * PAGE);
+    add(&it, PAGES, good);
+    is_refused(&it, EBADMSG, FOREIGN);
+    is(unlink(journal), 0, "no journal");
+}
+
+/* ---- pages */
+
+/* Opens the bytes, of which a page was changed and sealed anew. */
+static void is_wrong(uint32_t page, unsigned fault, const char *words) {
+    msgq *queues;
+    seal(page);
+    write_all(path, bytes, sizeof bytes);
+    is(msgq_open(path, &queues), EBADMSG, words);
+    is(msgq_last_fault(), fault, words);
+    says(words);
+    memcpy(bytes, good, sizeof bytes);
+}
+
+static void pages(void) {
+    uint8_t *root = bytes + ROOT * PAGE;
+    memcpy(bytes, good, sizeof bytes);
+    bytes[0] = 9;
+    is_wrong(0, 41, "it can't be opened (fault 41): page 0 is not the header of this file; 'msgq check' says where");
+    bytes[4] = 'm';
+    is_wrong(0, 41, "it can't be opened (fault 41): page 0 is not the header of this file; it is no file of message queues");
+    bytes[1] = 1;
+    is_wrong(0, 42, "it can't be opened (fault 42): it is of version 1: 'msgq migrate' makes a file of today's version of it");
+    bytes[1] = 3;
+    is_wrong(0, 42, "it can't be opened (fault 42): the file is of another version; 'msgq check' says where");
+    root[0] = 9;
+    is_wrong(ROOT, 40, "it can't be opened (fault 40): a page is malformed; 'msgq check' says where");
+    number(root + 8, ROOT + 1);
+    is_wrong(ROOT, 70, "it can't be opened (fault 70): a page does not go on with the chain of buckets; 'msgq check' says where");
+    number(bytes + 16, 0);
+    is_wrong(0, 71, "it can't be opened (fault 71): a page is neither on the chain nor on the list of free pages, or is on the list and "
+                    "not free; 'msgq check' says where");
+    number(bytes + 20, 2);
+    is_wrong(0, 72, "it can't be opened (fault 72): a bucket, an entry or a count of the directory is wrong; 'msgq check' says where");
+    /* The first record is the Counter: its length (2), its key (13), the next id and how many queues are alive. */
+    number(root + 16 + 15 + 4, 7);
+    is_wrong(ROOT, 73, "it can't be opened (fault 73): the records are those of no system of queues; 'msgq check' says where");
+    root[16 + 2 + 4] = 1;
+    is_wrong(ROOT, 43, "it can't be opened (fault 43): a record has no such value; 'msgq check' says where");
+}
+
+int main(int argc, char **argv) {
+    msgq *queues;
+    uint32_t id;
+    if (argc < 2)
+        return 2;
+    snprintf(path, sizeof path, "%s", argv[1]);
+    snprintf(journal, sizeof journal, "%s.journal", path);
+    is(msgq_create(path, PAGES), 0, "create");
+    is(msgq_open(path, &queues), 0, "open");
+    is(msgq_get(queues, 7, MSGQ_CREATE | 0600, &id), 0, "get");
+    is(msgq_send(queues, id, 1, "good", 4, 0, NULL), 0, "send");
+    is(msgq_close(queues), 0, "close");
+    FILE *file = fopen(path, "r");
+    if (file == NULL || fread(good, 1, sizeof good, file) != sizeof good || fclose(file) != 0)
+        return 2;
+    journals();
+    if (argc == 2)
+        pages();
+    printf("%d passed, %d failed\n", passed, failed);
+    return failed > 0;
+}

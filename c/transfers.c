@@ -1,0 +1,88 @@
+/* Transfers of files, over the calls of the system. */
+#include "transfers.h"
+
+#include <errno.h>
+#include <fcntl.h>
+#include <sys/stat.h>
+#include <unistd.h>
+
+int open_it(struct opened *it, const char *path, int flags, mode_t mode) {
+    struct stat found;
+    *it = NOT_OPENED;
+    int file = open(path, flags | O_CLOEXEC, mode);
+    if (file < 0)
+        return errno;
+    if (fstat(file, &found) != 0) {
+        int wrong = errno;
+        (void)close(file);
+        if ((flags & O_EXCL) != 0)
+            (void)unlink(path);
+        return wrong;
+    }
+    *it = (struct opened){file, found.st_dev, found.st_ino};
+    return 0;
+}
+
+int test_opened(const struct opened *it) {
+    struct stat found;
+    if (fstat(it->file, &found) != 0)
+        return errno;
+    return found.st_dev == it->device && found.st_ino == it->inode ? 0 : EBADF;
+}
+
+void close_it(struct opened *it) {
+    /* What had to outlast it was synced, so that nothing is lost where this fails. */
+    if (it->file >= 0 && test_opened(it) != EBADF)
+        (void)close(it->file);
+    *it = NOT_OPENED;
+}
+
+int read_at(const struct opened *it, void *bytes, size_t count, uint64_t at) {
+    for (size_t done = 0; done < count;) {
+        ssize_t more = pread(it->file, (char *)bytes + done, count - done, (off_t)(at + done));
+        if (more < 0 && errno == EINTR)
+            continue;
+        if (more < 0)
+            return errno;
+        if (more == 0)
+            return EIO;
+        done += (size_t)more;
+    }
+    return 0;
+}
+
+int write_at(const struct opened *it, const void *bytes, size_t count, uint64_t at) {
+    for (size_t done = 0; done < count;) {
+        ssize_t more = pwrite(it->file, (const char *)bytes + done, count - done, (off_t)(at + done));
+        if (more < 0 && errno == EINTR)
+            continue;
+        if (more < 0)
+            return errno;
+        if (more == 0)
+            return EIO;
+        done += (size_t)more;
+    }
+    return 0;
+}
+
+int cut_at(const struct opened *it, uint64_t size) {
+    while (ftruncate(it->file, (off_t)size) != 0)
+        if (errno != EINTR)
+            return errno;
+    return 0;
+}
+
+int size_of(const struct opened *it, uint64_t *size) {
+    struct stat found;
+    if (fstat(it->file, &found) != 0)
+        return errno;
+    *size = (uint64_t)found.st_size;
+    return 0;
+}
+
+int sync_it(const struct opened *it) {
+    while (fsync(it->file) != 0)
+        if (errno != EINTR)
+            return errno;
+    return 0;
+}
