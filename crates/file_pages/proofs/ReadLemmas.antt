@@ -35,6 +35,7 @@ only_reads ok s t u page right ready pinned is = subst (OnlyReads ok s) (sym is)
   honest = pinned.keeps.honest;
   later = pinned.later;
   stored = spared_is t (record t { pins = slice_set t.pins right (pins_at t right - 1) }) refl refl ∙ pinned.stored;
+  as_many = pinned.keeps.as_many;
   images = pinned.keeps.images;
   file = λ honest done f. file_kept s (record t { pins = slice_set t.pins right (pins_at t right - 1) })
       (pinned.keeps.images honest) (pinned.keeps.seals honest refl) f;
@@ -192,6 +193,7 @@ reads_on ok s t u first next = record {
   honest = next.honest ∙ first.honest;
   later = omega (arith, first.later, next.later);
   stored = next.stored ∙ first.stored;
+  as_many = next.as_many ∙ first.as_many;
   images = λ honest. next.images (first.honest ∙ honest) ∙ first.images honest;
   file = λ honest done f. next.file (first.honest ∙ honest) done (first.file honest refl f);
 }

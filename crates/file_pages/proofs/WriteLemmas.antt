@@ -134,6 +134,7 @@ only_writes ok s t v page right new ready pinned keeps is = subst (OnlyWrites ok
     images = slice_set t.images right new;
     pins = slice_set t.pins right (pins_at t right - 1);
   }) refl refl ∙ pinned.stored;
+  as_many = length-set t.images right new ∙ pinned.keeps.as_many;
   file = λ honest done f.
       let same = written_is honest in
       record {
@@ -161,6 +162,7 @@ writes_on ok s t u first next = record {
   honest = next.honest ∙ first.honest;
   later = omega (arith, first.later, next.later);
   stored = next.stored ∙ first.stored;
+  as_many = next.as_many ∙ first.as_many;
   file = λ honest done f. next.file (first.honest ∙ honest) done (first.file honest refl f);
 }
 
@@ -171,6 +173,7 @@ fails_to_write s t reads = record {
   honest = reads.honest;
   later = reads.later;
   stored = reads.stored;
+  as_many = reads.as_many;
   file = λ honest done f. absurd cc;
 }
 

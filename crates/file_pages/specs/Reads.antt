@@ -15,12 +15,13 @@ use Rattle.file_pages.specs.declared.sight.Sight.{Sight}
 use Rattle.file_pages.specs.declared.sight.Sight.TheVariants.{Covering, Naming}
 
 -- nothing but frames has changed, and the count of faults has not fallen; where there is a frame for each page the
--- device has what it had
+-- device has what it had. Whatever the device gives, there are as many pages as before
 pub record OnlyReads (succeeded : Bool) (old new : PoolState) : Type 0 where
   pub ready : IsReady new
   pub honest : new.honest ≡ old.honest
   pub later : old.faults ≤ new.faults
   pub stored : spared new ≡ spared old
+  pub as_many : length new.images ≡ length old.images
   pub images : IsTrue old.honest → new.images ≡ old.images
   pub file : IsTrue old.honest → IsTrue succeeded → IsFilePool old → IsFilePool new
 

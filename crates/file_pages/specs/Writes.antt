@@ -9,12 +9,14 @@ use Rattle.hash_file.specs.Store.{Store, has_bucket, records_at}
 use Rattle.file_pages.specs.Files.{IsFilePool, IsReady}
 
 -- no page is pinned, the device is as honest as it was, the count of faults has not fallen, and what was a file is
--- one where the write succeeded; where there is a frame for each page the device has what it had
+-- one where the write succeeded; where there is a frame for each page the device has what it had. Whatever the device
+-- gives, there are as many pages as before
 pub record OnlyWrites (succeeded : Bool) (old new : PoolState) : Type 0 where
   pub ready : IsReady new
   pub honest : new.honest ≡ old.honest
   pub later : old.faults ≤ new.faults
   pub stored : spared new ≡ spared old
+  pub as_many : length new.images ≡ length old.images
   pub file : IsTrue old.honest → IsTrue succeeded → IsFilePool old → IsFilePool new
 
 -- a page of buckets is there, and is one

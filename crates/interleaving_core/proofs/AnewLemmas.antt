@@ -166,6 +166,7 @@ module _ (seat : ℕ) (did : Step) (a again : ActiveView) (left : Option ActiveV
     honest = last.honest ∙ first.honest;
     later = let was = first.later in let is = last.later in omega (arith, was, is);
     stored = last.stored ∙ first.stored;
+    pages = last.pages ∙ first.pages;
     row = λ row. last.row (row ∙ sym held);
     caller = λ c same. last.caller c (first.caller c same);
     call = λ some. last.call some ∙ same_call;

@@ -236,6 +236,7 @@ module _ {K : Type 0} (seat : ℕ) (did : Step) (left : Option ActiveView) (old 
         honest = does.honest;
         later = does.later;
         stored = does.stored;
+        pages = does.pages;
       };
     }
 

@@ -31,7 +31,15 @@ stays_put seat s row = record {
   added = [];
   journal = sym (append-nil s.journal);
   owed = append-nil (untold seat (call_at s.seats seat)) ∙ by (call_at s.seats seat);
-  rest = record { keys = refl; callers = refl; stopped = refl; honest = refl; later = omega arith; stored = refl };
+  rest = record {
+    keys = refl;
+    callers = refl;
+    stopped = refl;
+    honest = refl;
+    later = omega arith;
+    stored = refl;
+    pages = refl;
+  };
 }
   where
     by : (at : Option ActiveView) → untold seat at ≡ told seat at None ++ untold seat at
@@ -140,6 +148,7 @@ runs_on seat did a b c r t =
         honest = q.rest.honest ∙ r.rest.honest;
         later = let first = r.rest.later in let last = q.rest.later in omega (arith, first, last);
         stored = q.rest.stored ∙ r.rest.stored;
+        pages = q.rest.pages ∙ r.rest.pages;
       };
     }
   where

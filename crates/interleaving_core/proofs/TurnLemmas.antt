@@ -33,6 +33,7 @@ pub record Does (seat : ℕ) (did : Step) (at left : Option ActiveView) (pool po
   pub honest : pool'.honest ≡ pool.honest
   pub later : pool.faults ≤ pool'.faults
   pub stored : spared pool' ≡ spared pool
+  pub pages : length pool'.images ≡ length pool.images
   pub row : row_of locks seat ≡ locks_of at → locks' ≡ with_row locks seat (locks_of left)
   pub caller : (c : Option Caller) → IsCallOf c at → IsCallOf c left
   pub call : IsSome (call_of left) → call_of left ≡ call_of at
@@ -315,6 +316,7 @@ call_does hash seat stopped did a left pool pool' locks locks' journal journal' 
       honest = t.makes.writes.honest;
       later = t.makes.writes.later;
       stored = t.makes.writes.stored;
+      pages = t.makes.writes.as_many;
       row = λ row. t.makes.row ∙ ap (with_row locks seat) (sym leaves.locks);
       caller = λ c same. leaves.caller c (same ∙ ap (λ (y : Caller). Some y) (sym keeps.caller));
       call = λ some. leaves.call some ∙ ap (λ (y : Call). Some y) keeps.call;
@@ -345,6 +347,7 @@ idle_does seat did left pool pool' locks locks' journal journal' t = record {
   honest = ap (λ (p : PoolState). p.honest) t.same_pool;
   later = let same = ap (λ (p : PoolState). p.faults) t.same_pool in omega (arith, same);
   stored = ap spared t.same_pool;
+  pages = ap (λ (p : PoolState). length p.images) t.same_pool;
   row = λ row. t.same_locks ∙ sym (with_row-own locks seat) ∙ ap (with_row locks seat) row
       ∙ ap (λ (x : Option ActiveView). with_row locks seat (locks_of x)) (sym t.left_is);
   caller = λ c same. subst (IsCallOf c) (sym t.left_is) tt;
@@ -370,6 +373,7 @@ waits_does seat did a left pool pool' locks locks' journal journal' stays t = re
   honest = ap (λ (p : PoolState). p.honest) t.same_pool;
   later = let same = ap (λ (p : PoolState). p.faults) t.same_pool in omega (arith, same);
   stored = ap spared t.same_pool;
+  pages = ap (λ (p : PoolState). length p.images) t.same_pool;
   row = λ row. t.same_locks ∙ sym (with_row-own locks seat) ∙ ap (with_row locks seat) row
       ∙ ap (λ (x : Option ActiveView). with_row locks seat (locks_of x)) (sym t.left_is);
   caller = λ c same. subst (IsCallOf c) (sym t.left_is) same;

@@ -88,7 +88,7 @@ abbrev pub told_of_failure : Option ActiveView → Step
 told_of_failure None = steps.Idle
 told_of_failure (Some a) = failed
 
--- what no step changes; nor, where there is a frame for each page, what the device has
+-- what no step changes, whatever the device gives; nor, where there is a frame for each page, what the device has
 pub record KeepsRest {K : Type 0} (old new : KernelState K) : Type 0 where
   pub keys : new.keys ≡ old.keys
   pub callers : new.callers ≡ old.callers
@@ -96,6 +96,7 @@ pub record KeepsRest {K : Type 0} (old new : KernelState K) : Type 0 where
   pub honest : new.pool.honest ≡ old.pool.honest
   pub later : old.pool.faults ≤ new.pool.faults
   pub stored : spared new.pool ≡ spared old.pool
+  pub pages : length new.pool.images ≡ length old.pool.images
 
 -- steps of one seat, in which it was told this answer, or none
 pub record IsRun {K : Type 0} (seat : ℕ) (answer : Option Answer) (old new : KernelState K) : Type 0 where

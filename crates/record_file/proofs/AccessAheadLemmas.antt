@@ -36,6 +36,7 @@ untouched pool ready = record {
   honest = refl;
   later = omega arith;
   stored = refl;
+  as_many = refl;
   images = λ honest. refl;
   file = λ honest fine file. file;
 }

@@ -25,6 +25,7 @@ only_writes ok s t r = record {
   honest = r.honest;
   later = r.later;
   stored = r.stored;
+  as_many = r.as_many;
   file = r.file;
 }
 
@@ -34,6 +35,7 @@ writes_behind ok s t u r w = record {
   honest = w.honest ∙ r.honest;
   later = omega (arith, r.later, w.later);
   stored = w.stored ∙ r.stored;
+  as_many = w.as_many ∙ r.as_many;
   file = λ honest done f. w.file (r.honest ∙ honest) done (r.file honest refl f);
 }
 

@@ -94,6 +94,7 @@ module _ (hash : RecordKey → ℕ) (seat : ℕ) (key : RecordKey) (k bytes : �
             honest = reads.honest;
             later = reads.later;
             stored = reads.stored;
+            as_many = reads.as_many;
             images = reads.images;
             file = λ honest fine. absurd cc;
           }))

@@ -298,6 +298,7 @@ module _ {X : Type 0} (hash : RecordKey → ℕ) (seat : ℕ) (did : Progress Fi
       honest = t.reads.honest ∙ op.writes.writes.honest;
       later = omega (arith, op.writes.writes.later, t.reads.later);
       stored = t.reads.stored ∙ op.writes.writes.stored;
+      as_many = t.reads.as_many ∙ op.writes.writes.as_many;
       file = λ honest done f. t.reads.file (honest_on honest) (subst IsTrue (sym well) refl)
           (op.writes.writes.file honest done f);
     };
@@ -343,6 +344,7 @@ module _ {X : Type 0} (hash : RecordKey → ℕ) (seat : ℕ) (did : Progress Fi
       honest = t.reads.honest ∙ op.writes.writes.honest;
       later = omega (arith, op.writes.writes.later, t.reads.later);
       stored = t.reads.stored ∙ op.writes.writes.stored;
+      as_many = t.reads.as_many ∙ op.writes.writes.as_many;
       file = λ honest done f. absurd cc;
     };
     cause = told_cause fault pool pool'' (cause_after pool pool' pool'' fault op.writes.writes.later

@@ -129,6 +129,7 @@ module _ (o : RecordOperation) (links : Option Links) (old_bytes bytes : List �
       honest = reads.honest;
       later = reads.later;
       stored = reads.stored;
+      as_many = reads.as_many;
       images = reads.images;
       file = λ honest done f. absurd cc;
     };
@@ -257,6 +258,7 @@ unread pool ready =
       honest = refl;
       later = omega arith;
       stored = refl;
+      as_many = refl;
       images = λ honest. refl;
       file = λ honest done f. f;
     }

@@ -54,6 +54,7 @@ module _ (seat : ℕ) (key : RecordKey) (a : ApproachView) (pool pool' : PoolSta
             honest = reads.honest;
             later = reads.later;
             stored = reads.stored;
+            as_many = reads.as_many;
             file = λ honest fine. absurd cc;
           })
           reads.images (λ same. absurd cc) refl
@@ -165,6 +166,7 @@ module _ (seat : ℕ) (key : RecordKey) (a : ApproachView) (pool pool' : PoolSta
             honest = reads.honest;
             later = reads.later;
             stored = reads.stored;
+            as_many = reads.as_many;
             file = λ honest fine. absurd cc;
           })
           reads.images (λ same. absurd cc) refl

@@ -172,6 +172,7 @@ read_then_written fine pool middle pool' reads writes = record {
   honest = writes.honest ∙ reads.honest;
   later = omega (arith, reads.later, writes.later);
   stored = writes.stored ∙ reads.stored;
+  as_many = writes.as_many ∙ reads.as_many;
   file = λ honest done file. writes.file (reads.honest ∙ honest) done (reads.file honest refl file);
 }
 

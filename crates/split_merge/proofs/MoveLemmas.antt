@@ -22,6 +22,7 @@ nothing_written pool ready = record {
   honest = refl;
   later = omega arith;
   stored = refl;
+  as_many = refl;
   file = λ honest fine file. file;
 }
 
@@ -31,6 +32,7 @@ nothing_read pool ready = record {
   honest = refl;
   later = omega arith;
   stored = refl;
+  as_many = refl;
   images = λ honest. refl;
   file = λ honest fine file. file;
 }
@@ -41,6 +43,7 @@ read_only fine pool pool' reads = record {
   honest = reads.honest;
   later = reads.later;
   stored = reads.stored;
+  as_many = reads.as_many;
   file = reads.file;
 }
 

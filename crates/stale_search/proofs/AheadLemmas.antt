@@ -35,6 +35,7 @@ same_pool pool ready = record {
   honest = refl;
   later = omega arith;
   stored = refl;
+  as_many = refl;
   images = λ _. refl;
   file = λ _ _ f. f;
 }

@@ -250,6 +250,7 @@ module _ (hash : RecordKey → ℕ) (seat : ℕ) (stopped : Bool) (caller : Call
       honest = writes.honest;
       later = writes.later;
       stored = writes.stored;
+      as_many = writes.as_many;
       file = λ honest done file. absurd cc;
     };
     cause = failed_cause pool pool';

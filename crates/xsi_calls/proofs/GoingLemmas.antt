@@ -377,6 +377,7 @@ module _ (hash : RecordKey → ℕ) (seat : ℕ) (call : Call) (i : AnyInquiry) 
         honest = makes.writes.honest;
         later = makes.writes.later;
         stored = makes.writes.stored;
+        as_many = makes.writes.as_many;
         file = λ honest done file. absurd (true≢false (sym done));
       };
       cause = failed_cause pool pool';

@@ -28,6 +28,7 @@ module _ (hash : RecordKey → ℕ) (seat : ℕ) (p : Plan) (did : Progress File
     honest = refl;
     later = omega arith;
     stored = refl;
+    as_many = refl;
     file = λ honest fine' was. was;
   })
 

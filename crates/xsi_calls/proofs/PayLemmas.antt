@@ -214,6 +214,7 @@ module _ (hash : RecordKey → ℕ) (seat : ℕ) (caller : Caller) (call : Call)
               honest = first.honest;
               later = first.later;
               stored = first.stored;
+              as_many = first.as_many;
               file = λ honest done file. first.file honest refl file;
             };
             cause = λ fault is. absurd (true≢false (sym (ap is_fault is) ∙ released.fine));

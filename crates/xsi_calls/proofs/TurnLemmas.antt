@@ -31,6 +31,7 @@ writes_none pool ready = record {
   honest = refl;
   later = omega arith;
   stored = refl;
+  as_many = refl;
   file = λ honest done file. file;
 }
 

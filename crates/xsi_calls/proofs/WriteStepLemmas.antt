@@ -27,6 +27,7 @@ module _ (hash : RecordKey → ℕ) (seat : ℕ) (p : Plan) (did : Progress File
     honest = refl;
     later = omega arith;
     stored = refl;
+    as_many = refl;
     file = λ honest fine' was. was;
   })
 
@@ -37,6 +38,7 @@ module _ (hash : RecordKey → ℕ) (seat : ℕ) (p : Plan) (did : Progress File
     honest = writes.honest;
     later = writes.later;
     stored = writes.stored;
+    as_many = writes.as_many;
     file = λ honest fine was. absurd (true≢false (sym fine));
   })
 

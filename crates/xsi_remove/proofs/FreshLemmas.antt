@@ -104,6 +104,7 @@ faulted pool pool' writes = record {
   honest = writes.honest;
   later = writes.later;
   stored = writes.stored;
+  as_many = writes.as_many;
   file = λ honest none. absurd cc;
 }
 
