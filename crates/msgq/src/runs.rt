@@ -50,6 +50,7 @@ pub fn run_on<
         (record {
           content = D.content device;
           left = D.content result.device;
+          synced = D.is_synced result.device;
           was = D.fault_count device;
           faults = D.fault_count result.device;
           old = output.old;
@@ -92,6 +93,7 @@ fn run_prepared<
         (record {
           content = prepared.content;
           left = D.content result.device;
+          synced = D.is_synced result.device;
           was = was;
           faults = D.fault_count result.device;
           old = output.old;

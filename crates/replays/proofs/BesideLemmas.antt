@@ -1,6 +1,7 @@
 -- What a run told, beside the journal of its service.
 use Rattle.std.proofs.Common.{◌≡◌, ◌<◌, ◌≤◌, ℕ, zero, suc, ◌+◌, Bool, true, false, IsTrue, inl, inr, List, [], ◌∷◌, Option, length, map, refl, sym, ap, ◌∙◌, subst, append-nil, arith}
 use Rattle.std.specs.Prelude.{slice_index_or}
+use Rattle.std.specs.List.{All}
 use Rattle.msgq_cli.proofs.OutputLemmas.{Prints-then}
 use Rattle.numbers.specs.declared.faults.TheConstants.{NO_MEMORY}
 use Rattle.bucket_page.specs.Pseudokeys.{sha_key}
@@ -20,13 +21,14 @@ use Rattle.replays.specs.Texts.{Effects}
 use Rattle.workers.specs.Views.{nobody}
 use Rattle.replays.specs.Serves.{RunsOn}
 use Rattle.workers.specs.Opening.{PreparedView, origin_of}
-use Rattle.workers.specs.Closing.{IsUnwritten, Remains}
+use Rattle.workers.specs.Closing.{Remains}
 use Rattle.workers.specs.Origins.{IsJournalOf, LeavesFile, Origin}
 use Rattle.workers.specs.Told.{Sitter}
+use Rattle.replays.proofs.FitLemmas.{FitsAt, IsWithin, fits_all}
 use Rattle.replays.proofs.PairLemmas.{HasDone, long_sitters, sitter_there, sitters}
 use Rattle.replays.specs.Beside.{HasEnded, IsPart, RunsAsOne, RunsBeside, RunsBesideOn, RunsFrom, RunsScriptOn, counted_from, is_of_one_seat, origin_on, told_to}
 use Rattle.replays.specs.Desks.{DeskView, IsPreparedFor, desk_at}
-use Rattle.replays.specs.Lines.{entries_to, lines_of, replies_to}
+use Rattle.replays.specs.Lines.{AreFitting, entries_to, lines_of, replies_to}
 use Rattle.replays.specs.Printing.{IsPrintedOf}
 
 -- ---- where transfers had failed before
@@ -38,16 +40,6 @@ module _ (was : ℕ) (o : Origin) (journal : List Entry) where
   file_from : (content : List (List ℕ)) → LeavesFile o journal content →
       LeavesFile (counted_from was o) journal content
   file_from content l = record { plain = journal_from l.plain; left = l.left }
-
-  unwritten_from : (content : List (List ℕ)) → IsUnwritten ShaKey o journal content →
-      IsUnwritten ShaKey (counted_from was o) journal content
-  unwritten_from content u = record {
-    kernel = u.kernel;
-    refines = u.refines;
-    journal_is = u.journal_is;
-    stored = u.stored;
-    before = u.before;
-  }
 
 -- ---- what each seat was told
 
@@ -82,8 +74,20 @@ module _ (script : Parts) (made : List DeskView) (many : length made ≡ greates
       (ended.parts place (omega (arith, here, long))))
       (own place here))
 
+  fits_at : (replies : List Reply) →
+      ((place : ℕ) → place < length made →
+      replies_to (place + 1) script.lines replies ≡ (desk_at made place).lines.replies) →
+      FitsAt (greatest_seat script.lines) script.lines replies
+  fits_at replies own zero some few = absurd (omega arith)
+  fits_at replies own (suc place) some few =
+      let up : place + 1 ≡ suc place = omega arith in
+      let below : place < greatest_seat script.lines = omega (arith, few) in
+      let here : place < length made = omega (arith, below, many) in
+      subst (λ (n : ℕ). AreFitting (lines_of n script.lines) (replies_to n script.lines replies)) up
+      (subst (AreFitting (lines_of (place + 1) script.lines)) (sym (own place here)) (done place below).fits)
+
   -- and the whole of it
-  pub beside : (o : Origin) (c : Effects) (ending so_far : Ending) (fault : Option ℕ) (journal : List Entry)
+  pub beside : All (IsWithin (greatest_seat script.lines)) script.lines → (o : Origin) (c : Effects) (ending so_far : Ending) (fault : Option ℕ) (journal : List Entry)
       (seats : List Sitter) (failure : Option Failure) (first told : OutputState) →
       IsPrintedOf script.lines made c.old first so_far → Prints first told [] → c.untold ≡ told.refused →
       (told.refused ≡ false → told.handed ≡ told.known) →
@@ -95,10 +99,11 @@ module _ (script : Parts) (made : List DeskView) (many : length made ≡ greates
         faults = c.faults;
       }) → EndsWith fault told so_far c.new ending → o.content ≡ c.content → IsTrue o.spares → c.was ≤ o.faults →
       RunsBeside script (counted_from c.was o) c ending
-  beside o c ending so_far fault journal seats failure first told p flushed untold handed ended ends same spared was =
+  beside within o c ending so_far fault journal seats failure first told p flushed untold handed ended ends same spared was =
       record {
         replies = p.replies;
         as_many = p.as_many;
+        fits = fits_all (greatest_seat script.lines) script.lines p.replies within (fits_at p.replies p.own);
         journal = journal;
         fault = fault;
         plain = λ honest. journal_from c.was o journal (ended.plain honest);
@@ -109,8 +114,7 @@ module _ (script : Parts) (made : List DeskView) (many : length made ≡ greates
         untold = untold;
         handed = λ is. handed (sym untold ∙ is);
         kept = λ is none honest. file_from c.was o journal c.left (ended.kept is none honest);
-        unwritten = λ either. unwritten_from c.was o journal c.left (ended.unwritten either);
-        before = λ either. (ended.unwritten either).before spared ∙ same;
+        before = λ either. ended.before either spared ∙ same;
         number = ended.number;
         reason = record {
           device = λ is. risen_since was (ended.reason.device is);

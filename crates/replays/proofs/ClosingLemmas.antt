@@ -39,13 +39,15 @@ idle_closed k sound not_busy =
     no_calls k.seats (not_true (list_any has_one k.seats) (λ e. not_busy (record { sound = sound; call = e })))
 
 -- no step has failed, and it is not busy, so no seat has a call
-pub closed_well : {K : Type 0} (k : KernelState K) (left : List (List ℕ)) → ((false ≡ true) ↔ IsBusy k) →
-    ((◌≡◌ {A = Option CloseFault} None (Some Failed)) ↔ (k.failed ≡ true)) →
-    (IsTrue k.pool.honest → IsFlushedTo k.pool left) → IsClosedWell k left
-closed_well k left busy failed flushed = record {
+pub closed_well : {K : Type 0} (k : KernelState K) (left : List (List ℕ)) (is_synced : Bool) →
+    ((false ≡ true) ↔ IsBusy k) → ((◌≡◌ {A = Option CloseFault} None (Some Failed)) ↔ (k.failed ≡ true)) →
+    (IsTrue k.pool.honest → IsFlushedTo k.pool left) → (IsTrue k.pool.honest → IsTrue is_synced) →
+    IsClosedWell k left is_synced
+closed_well k left is_synced busy failed flushed synced = record {
   sound = sound;
   idle = idle_closed k sound (λ is. let told : false ≡ true = busy.1 is in absurd cc);
   flushed = flushed;
+  synced = synced;
 }
   where
     sound : k.failed ≡ false
@@ -72,14 +74,20 @@ module _ (leads : EventsRefine ShaKey) (words : List Event) (first played last :
     told = sound.told;
   }
 
-  module _ (closes : ClosesRefine ShaKey) (left : List (List ℕ)) (well : IsClosedWell last.kernel left) where
-    pub left_well : IsLeftWell first last left
-    left_well = record {
+  module _ (left : List (List ℕ)) (is_synced : Bool) (well : IsClosedWell last.kernel left is_synced) where
+    honest_still : IsTrue first.kernel.pool.honest → IsTrue last.kernel.pool.honest
+    honest_still honest = subst IsTrue (sym (replay_keeps words first played last plays goes).honest) honest
+
+    pub synced_well : IsTrue first.kernel.pool.honest → IsTrue is_synced
+    synced_well honest = well.synced (honest_still honest)
+
+    pub left_well : ClosesRefine ShaKey → IsLeftWell first last left
+    left_well closes = record {
       told = λ seat. sound.told seat
           ∙ ap (λ (es : List Entry). part_of seat (entries_at last.script.lines last.script.replies) ++ es)
           (ap (untold seat) (well.idle seat))
           ∙ append-nil (part_of seat (entries_at last.script.lines last.script.replies));
       file = λ base led honest. closes sha_key base left last.kernel
           (replay_leads leads base words first played last plays goes led) well.idle well.sound
-          (well.flushed (subst IsTrue (sym (replay_keeps words first played last plays goes).honest) honest));
+          (well.flushed (honest_still honest));
     }

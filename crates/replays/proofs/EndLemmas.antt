@@ -64,7 +64,7 @@ let_go o given left untold fault g parts never only = record {
   plain = g.plain;
   parts = parts;
   kept = λ told none honest. absurd (never told none);
-  unwritten = λ either. g.unwritten;
+  before = λ either spared. g.unwritten.before spared;
   number = λ n is. inr (only n is).0;
   reason = record {
     device = λ is. let no = (only DEVICE is).0 in absurd (omega (arith, no));
@@ -89,7 +89,7 @@ closed_ends o given left e = record {
   plain = e.sound.plain;
   parts = wholes None left.journal given left.seats e.sound.same e.sound.parts;
   kept = λ told none honest. e.file honest;
-  unwritten = λ either. elim either [ inl is ↦ absurd cc | inr is ↦ none_told FAILED is ];
+  before = λ either spared. elim either [ inl is ↦ absurd cc | inr is ↦ none_told FAILED is ];
   number = λ n is. none_told n is;
   reason = record { device = λ is. none_told DEVICE is; step = λ honest is. none_told FAILED is };
 }
@@ -100,7 +100,7 @@ faulted_ends closes.Device o given left e = record {
   plain = e.sound.plain;
   parts = wholes _ left.journal given left.seats e.sound.same e.sound.parts;
   kept = λ told none honest. absurd cc;
-  unwritten = λ either. elim either [ inl is ↦ absurd cc | inr is ↦ no_step is ];
+  before = λ either spared. elim either [ inl is ↦ absurd cc | inr is ↦ no_step is ];
   number = λ n is. inl (sym (same_number _ _ is));
   reason = record { device = λ is. e.cause; step = λ honest is. no_step is };
 }

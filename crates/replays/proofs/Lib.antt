@@ -21,6 +21,7 @@ pub mod RoomLemmas
 pub mod CallLemmas
 pub mod ServeLemmas
 pub mod LineLemmas
+pub mod FitLemmas
 pub mod MakeLemmas
 pub mod ServicePrintLemmas
 pub mod PairLemmas

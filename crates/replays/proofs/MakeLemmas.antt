@@ -1,5 +1,5 @@
 -- A desk that makes its lines.
-use Rattle.std.proofs.Common.{◌≡◌, ◌<◌, ◌≤◌, ℕ, ◌+◌, true, false, List, [], ◌∷◌, ◌++◌, Some, length, take, get_or, refl, sym, ap, ◌∙◌, append-nil, length-append, arith}
+use Rattle.std.proofs.Common.{◌≡◌, ◌<◌, ◌≤◌, ℕ, ◌+◌, true, false, List, [], ◌∷◌, ◌++◌, Some, length, take, get_or, refl, sym, ap, ◌∙◌, subst, length-append, arith}
 use Rattle.msgq_cli.specs.declared.command.Command.{Command}
 use Rattle.msgq_cli.specs.declared.command.Command.TheVariants as commands
 use Rattle.msgq_cli.specs.declared.line.Line.{Line}
@@ -7,9 +7,10 @@ use Rattle.msgq_cli.specs.declared.reply.Reply.{Reply}
 use Rattle.msgq_cli.specs.declared.reply.Reply.TheVariants.{Failed}
 use Rattle.queue_model.specs.declared.entry.Entry.{Entry}
 use Rattle.replays.specs.Journal.{entry_at}
+use Rattle.replays.proofs.FitLemmas.{fits_more}
 use Rattle.replays.proofs.LineLemmas.{entries_more, other_more, own_more, room_at}
 use Rattle.replays.specs.Desks.{DeskView, IsFresh, IsMadeOf}
-use Rattle.replays.specs.Lines.{HasMade, entries_to, is_line_of, lines_of}
+use Rattle.replays.specs.Lines.{AreFitting, Fits, HasMade, entries_to, is_line_of, lines_of}
 
 -- of the lines of its script these were made
 pub record IsMaking (taken : List Line) (old d : DeskView) : Type 0 where
@@ -17,6 +18,7 @@ pub record IsMaking (taken : List Line) (old d : DeskView) : Type 0 where
   pub lines_are : d.lines.lines ≡ old.lines.lines
   pub at_seat : d.sitter.seat ≡ d.lines.seat
   pub all : length d.lines.replies ≡ length (lines_of old.lines.seat taken)
+  pub fits : AreFitting (lines_of old.lines.seat taken) d.lines.replies
   pub told : d.sitter.list ≡ entries_to (lines_of old.lines.seat taken) d.lines.replies
 
 pub making_starts : (d : DeskView) → IsFresh d → d.sitter.seat ≡ d.lines.seat → IsMaking [] d d
@@ -25,6 +27,7 @@ making_starts d fresh at = record {
   lines_are = refl;
   at_seat = at;
   all = ap length fresh.unmade;
+  fits = tt;
   told = fresh.list ∙ sym (ap (entries_to []) fresh.unmade);
 }
 
@@ -36,14 +39,15 @@ making_skips taken old d line m other =
       lines_are = m.lines_are;
       at_seat = m.at_seat;
       all = m.all ∙ sym (ap length own);
+      fits = subst (λ (l : List Line). AreFitting l d.lines.replies) (sym own) m.fits;
       told = m.told ∙ sym (ap (λ (l : List Line). entries_to l d.lines.replies) own);
     }
 
 pub making_goes : (taken : List Line) (old d e : DeskView) (line : Line) (reply : Reply) → IsMaking taken old d →
     is_line_of old.lines.seat line ≡ true → e.sitter.list ≡ d.sitter.list ++ entry_at line (Some reply) →
-    e.sitter.seat ≡ d.sitter.seat → e.lines ≡ record d.lines { replies = d.lines.replies ++ reply ∷ [] } →
-    IsMaking (taken ++ line ∷ []) old e
-making_goes taken old d e line reply m its told same lines =
+    e.sitter.seat ≡ d.sitter.seat → Fits line.command reply →
+    e.lines ≡ record d.lines { replies = d.lines.replies ++ reply ∷ [] } → IsMaking (taken ++ line ∷ []) old e
+making_goes taken old d e line reply m its told same fits lines =
     let own = own_more old.lines.seat taken line its in
     let replies : e.lines.replies ≡ d.lines.replies ++ reply ∷ [] = ap (λ v. v.replies) lines in
     let number : e.lines.seat ≡ d.lines.seat = ap (λ v. v.seat) lines in
@@ -54,6 +58,9 @@ making_goes taken old d e line reply m its told same lines =
       at_seat = same ∙ m.at_seat ∙ sym number;
       all = ap length replies ∙ length-append d.lines.replies (reply ∷ []) ∙ ap (λ (n : ℕ). n + 1) m.all
           ∙ sym (length-append more (line ∷ [])) ∙ sym (ap length own);
+      fits = subst (λ (l : List Line). AreFitting l e.lines.replies) (sym own)
+          (subst (AreFitting (more ++ line ∷ [])) (sym replies)
+          (fits_more more d.lines.replies line reply m.all m.fits fits));
       told = told ∙ ap (λ (l : List Entry). l ++ entry_at line (Some reply)) m.told
           ∙ sym (entries_more more d.lines.replies line reply m.all)
           ∙ sym (ap (λ (l : List Line). entries_to l (d.lines.replies ++ reply ∷ [])) own)
@@ -80,6 +87,7 @@ making_ends old d m =
       at_seat = m.at_seat;
       made = record {
         all = m.all ∙ sym (ap length same);
+        fits = subst (λ (l : List Line). AreFitting l d.lines.replies) (sym same) m.fits;
         told = m.told ∙ sym (ap (λ (l : List Line). entries_to l d.lines.replies) same);
       };
     }

@@ -11,7 +11,7 @@ use Rattle.replays.specs.Texts.{Effects, IsPlayed, PlaysSchedule, PlaysScript, P
 
 pub is_played : (script : Parts) (events : List Event) (honest : Bool) (c : Effects) (ending : Ending)
     (first : ReplayState) → IsOpenedFor script c.content honest first →
-    IsReplayed events first c.old c.new c.left c.untold ending → IsPlayed script events honest c ending
+    IsReplayed events first c.old c.new c.left c.synced c.untold ending → IsPlayed script events honest c ending
 is_played script events honest c ending first opened replayed =
     let pool = opened.kernel.opened.pool in
     record {

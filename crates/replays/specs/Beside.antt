@@ -4,7 +4,6 @@ use Rattle.std.specs.List.{list_all}
 use Rattle.numbers.specs.declared.faults.TheConstants.{DEVICE, FAILED, NO_MEMORY}
 use Rattle.page_device.specs.Device.{HasRisen}
 use Rattle.bucket_page.specs.Pseudokeys.{sha_key}
-use Rattle.bucket_page.specs.declared.pseudokey.ShaKey.{ShaKey}
 use Rattle.msgq_cli.specs.Outputs.{OutputState, Prints}
 use Rattle.msgq_cli.specs.Runs.{ending_of, printed}
 use Rattle.msgq_cli.specs.Refusals.{AreKnownAs, IsFaultAlone}
@@ -20,10 +19,10 @@ use Rattle.replays.specs.Replays.{EndsWith, callers_of}
 use Rattle.replays.specs.Texts.{Effects, IsUnopened}
 use Rattle.replays.specs.Serves.{RunsNew, RunsOn}
 use Rattle.replays.specs.declared.serving.TheConstants.{MEMORY_PAGES}
-use Rattle.workers.specs.Closing.{Each, IsUnwritten, Remains}
+use Rattle.workers.specs.Closing.{Each, Remains}
 use Rattle.workers.specs.Origins.{IsJournalOf, LeavesFile, Origin}
 use Rattle.workers.specs.Told.{Sitter}
-use Rattle.replays.specs.Lines.{entries_to, lines_of, replies_to}
+use Rattle.replays.specs.Lines.{AreFitting, entries_to, lines_of, replies_to}
 
 -- ---- what is told
 
@@ -55,8 +54,9 @@ pub record HasEnded (o : Origin) (given : List Sitter) (untold : Bool) (fault : 
     pub parts : Each (λ (x : Sitter). IsPart fault left.journal x.seat x.list) given
     -- the file is that of the system after them
     pub kept : untold ≡ false → fault ≡ None → IsTrue o.honest → LeavesFile o left.journal left.content
-    -- where a step has failed or the answers can't be told nothing was written
-    pub unwritten : (untold ≡ true) ⊎ (fault ≡ Some FAILED) → IsUnwritten ShaKey o left.journal left.content
+    -- where a step has failed or the answers can't be told nothing was written: a device that is spared has the pages
+    -- of before
+    pub before : (untold ≡ true) ⊎ (fault ≡ Some FAILED) → IsTrue o.spares → left.content ≡ o.content
     -- else the last transfers failed
     pub number : (n : ℕ) → fault ≡ Some n → (n ≡ DEVICE) ⊎ (n ≡ FAILED)
     pub reason : HasReason o.honest o.faults left.faults fault
@@ -83,6 +83,8 @@ counted_from was o = record o { faults = was }
 pub record RunsBeside (script : Parts) (o : Origin) (c : Effects) (ending : Ending) : Type 0 where
   pub replies : List Reply
   pub as_many : length replies ≡ length script.lines
+  -- a stop as a stop, a call by its answer or by why it has none
+  pub fits : AreFitting script.lines replies
   pub journal : List Entry
   pub fault : Option ℕ
   pub plain : IsTrue o.honest → IsJournalOf o journal
@@ -95,10 +97,7 @@ pub record RunsBeside (script : Parts) (o : Origin) (c : Effects) (ending : Endi
   pub untold : c.untold ≡ told.refused
   pub handed : c.untold ≡ false → told.handed ≡ told.known
   pub kept : c.untold ≡ false → fault ≡ None → IsTrue o.honest → LeavesFile o journal c.left
-  -- what can't be told has not happened, nor where a line failed: the pages are those that the kernel's pool knew to be
-  -- stored
-  pub unwritten : (c.untold ≡ true) ⊎ (fault ≡ Some FAILED) → IsUnwritten ShaKey o journal c.left
-  -- which are those of before
+  -- what can't be told has not happened, nor where a step has failed: the pages are those of before
   pub before : (c.untold ≡ true) ⊎ (fault ≡ Some FAILED) → c.left ≡ c.content
   pub number : (n : ℕ) → fault ≡ Some n → (n ≡ DEVICE) ⊎ (n ≡ FAILED)
   pub reason : HasReason o.honest c.was c.faults fault

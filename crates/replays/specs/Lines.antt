@@ -1,7 +1,11 @@
 -- The lines of one seat, and what they were replied. docs/SCRIPTS.md, "Runs".
-use Rattle.std.specs.Prelude.{ℕ, ◌≡◌, ◌≤◌, ◌==◌, Bool, List, [], ◌∷◌, Some, filter, if◌then◌else◌, length, map}
+use Rattle.std.specs.Prelude.{ℕ, ◌≡◌, ◌⊎◌, ◌≤◌, ◌==◌, Bool, List, [], ◌∷◌, Some, filter, if◌then◌else◌, length, map, ⊤}
+use Rattle.numbers.specs.declared.faults.TheConstants.{FAILED, NO_MEMORY, NO_ROOM, SESSION_FULL}
+use Rattle.msgq_cli.specs.declared.command.Command.{Command}
+use Rattle.msgq_cli.specs.declared.command.Command.TheVariants as commands
 use Rattle.msgq_cli.specs.declared.line.Line.{Line}
 use Rattle.msgq_cli.specs.declared.reply.Reply.{Reply}
+use Rattle.msgq_cli.specs.declared.reply.Reply.TheVariants.{Answered, Failed, Stopped}
 use Rattle.queue_model.specs.declared.entry.Entry.{Entry}
 use Rattle.replays.specs.Journal.{entries_at}
 
@@ -22,6 +26,24 @@ replies_to seat lines replies = []
 abbrev pub entries_to : List Line → List Reply → List Entry
 entries_to lines replies = entries_at lines (map Some replies)
 
+-- why a call is not answered: there is no room, no memory, the session is full, or a step has failed
+abbrev pub IsOfCall : ℕ → Type 0
+IsOfCall fault = (fault ≡ NO_ROOM) ⊎ (fault ≡ NO_MEMORY) ⊎ (fault ≡ SESSION_FULL) ⊎ (fault ≡ FAILED)
+
+-- what a command may be replied: a stop is made, or lacks memory; a call is answered, or is told why it is not
+abbrev pub Fits : Command → Reply → Type 0
+Fits commands.Stop Stopped = ⊤
+Fits commands.Stop (Answered answer) = ⊥
+Fits commands.Stop (Failed fault) = fault ≡ NO_MEMORY
+Fits (commands.Call call) Stopped = ⊥
+Fits (commands.Call call) (Answered answer) = ⊤
+Fits (commands.Call call) (Failed fault) = IsOfCall fault
+
+-- so each of these lines was replied
+abbrev pub AreFitting : List Line → List Reply → Type 0
+AreFitting (line ∷ lines) (reply ∷ replies) = Fits line.command reply × AreFitting lines replies
+AreFitting lines replies = ⊤
+
 -- a seat, the lines of a script, and what those of the seat that were made were replied
 pub record LinesView : Type 0 where
   pub seat : ℕ
@@ -36,4 +58,5 @@ pub record HasRoom (seat : ℕ) (lines : List Line) (replies : List Reply) (room
 -- all of them were made, and the seat was told these entries
 pub record HasMade (s : LinesView) (list : List Entry) : Type 0 where
   pub all : length s.replies ≡ length (lines_of s.seat s.lines)
+  pub fits : AreFitting (lines_of s.seat s.lines) s.replies
   pub told : list ≡ entries_to (lines_of s.seat s.lines) s.replies

@@ -100,10 +100,12 @@ abbrev pub may_write : {K : Type 0} → (over refused : Bool) → KernelState K 
 may_write over refused k = over && not refused && not k.failed
 
 -- a kernel that was closed with no fault, and the pages that are left on its device
-pub record IsClosedWell {K : Type 0} (k : KernelState K) (left : List (List ℕ)) : Type 0 where
+pub record IsClosedWell {K : Type 0} (k : KernelState K) (left : List (List ℕ)) (is_synced : Bool) : Type 0 where
   pub sound : k.failed ≡ false
   pub idle : (seat : ℕ) → call_at k.seats seat ≡ None
   pub flushed : IsTrue k.pool.honest → IsFlushedTo k.pool left
+  -- nothing was written behind its last sync
+  pub synced : IsTrue k.pool.honest → IsTrue is_synced
 
 -- a fault is printed after the replies, or none
 abbrev pub EndsWith : Option ℕ → OutputState → Ending → OutputState → Ending → Type 0
@@ -115,7 +117,7 @@ EndsWith (Some fault) told so_far new ending = IsFaultAlone fault told new endin
 -- the words of a schedule were played, and then rounds; the replies were printed and handed on, and only then the
 -- kernel was closed, or was let go; a fault was printed, or none
 pub record IsReplayed (events : List Event) (first : ReplayState) (old new : OutputState) (left : List (List ℕ))
-    (untold : Bool) (ending : Ending) : Type 0 where
+    (is_synced untold : Bool) (ending : Ending) : Type 0 where
   pub played : ReplayState
   pub plays : PlaysAll events first played
   pub last : ReplayState
@@ -132,6 +134,7 @@ pub record IsReplayed (events : List Event) (first : ReplayState) (old new : Out
   pub stuck : (fault ≡ Some BUSY) ↔ (is_over last ≡ false)
   -- what was told has happened
   pub well : untold ≡ false → fault ≡ None → IsLeftWell first last left
+  pub synced : untold ≡ false → fault ≡ None → IsTrue first.kernel.pool.honest → IsTrue is_synced
   -- what can't be told has not: the pages are those that the kernel's pool knew to be stored
   pub unwritten : may_write (is_over last) untold last.kernel ≡ false → left ≡ last.kernel.pool.stored
   -- which are those of before, where there is a frame for each

@@ -63,6 +63,8 @@ pub record IsRunOn (script : Parts) (honest : Bool) (c : Effects) (ending : Endi
   pub ends : EndsWith fault told so_far c.new ending
   -- what was told has happened, on an honest device
   pub rules : IsTrue honest → GoesOnFile script c run.replies first last fault
+  -- and the device is synced behind the last write
+  pub synced : c.untold ≡ false → fault ≡ None → IsTrue honest → IsTrue c.synced
   -- what can't be told has not, nor where a line failed: the pages are those that the kernel's pool knew to be stored
   pub unwritten : (c.untold ≡ true) ⊎ (last.failed ≡ true) → c.left ≡ last.pool.stored
   -- which are those of before

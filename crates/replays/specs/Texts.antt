@@ -21,11 +21,12 @@ use Rattle.replays.specs.Rounds.{is_over}
 
 -- ---- what is left
 
--- the pages of a device, how often its transfers have failed, and what was printed, before and after; and whether the
--- output refused what was to be told
+-- the pages of a device, how often its transfers have failed, and what was printed, before and after; whether it is
+-- synced after; and whether the output refused what was to be told
 pub record Effects : Type 0 where
   pub content : List (List ℕ)
   pub left : List (List ℕ)
+  pub synced : Bool
   pub was : ℕ
   pub faults : ℕ
   pub old : OutputState
@@ -51,7 +52,7 @@ pub record IsPlayed (script : Parts) (events : List Event) (honest : Bool) (c : 
     : Type 0 where
   pub first : ReplayState
   pub opened : IsOpenedFor script c.content honest first
-  pub replayed : IsReplayed events first c.old c.new c.left c.untold ending
+  pub replayed : IsReplayed events first c.old c.new c.left c.synced c.untold ending
   -- where nothing was to be written, the file has what it had
   pub before : may_write (is_over replayed.last) c.untold replayed.last.kernel ≡ false → c.left ≡ c.content
 

@@ -4,6 +4,7 @@ ghost use Rattle.std.specs.Prelude.{◌≡◌, ◌<◌, ◌≤◌, ℕ, ◌++◌
 ghost use Rattle.replays.specs.Journal.{entry_at};
 ghost use Rattle.workers.specs.Views.{nobody};
 ghost use Rattle.replays.specs.Desks.{ArePaired, DeskView, IsFresh, IsMadeOf, lines_at};
+ghost use Rattle.replays.specs.Lines.{Fits};
 
 use crate::seat_lines::SeatLines;
 use crate::waiter::{Shared, Waiter};
@@ -121,6 +122,7 @@ fn reply<C: Waiter, D: PageDevice + Drop, N: Room + Base>(
 ) -> Reply
     requires { seat.old.seat ≡ line.now.seat }
     ensures told { seat.new.list ≡ seat.old.list ++ entry_at line.now (Some result) }
+    ensures fits { Fits line.now.command result }
     ensures same { seat.new.seat ≡ seat.old.seat }
 {
     let call = match &line.command {

@@ -57,9 +57,10 @@ impl<D: PageDevice> Ran<D> {
 /// Whatever the schedule: where the kernel refines a lawful system, as one does that was opened
 /// over an honest device, the answers are those of plain lists asked one call at a time, and seat
 /// by seat the lines are replied its part of them. Where the output took all replies, and no fault
-/// is told after them, an honest device has the file of the system that the lists come to. Where
-/// the kernel is let go the device has what its pool knew to be stored, which is what it had before
-/// where there is a frame for each page. It is as honest as it was. All this is so whoever looks on.
+/// is told after them, an honest device has the file of the system that the lists come to, and is
+/// synced. Where the kernel is let go the device has what its pool knew to be stored, which is what
+/// it had before where there is a frame for each page. It is as honest as it was. All this is so
+/// whoever looks on.
 pub fn run<D: PageDevice + Drop, W: Write + Drop, O: Onlooker>(
     replay: Replay<D>,
     events: &[Event],
@@ -67,7 +68,7 @@ pub fn run<D: PageDevice + Drop, W: Write + Drop, O: Onlooker>(
     onlooker: &mut O,
 ) -> Ran<D>
     ensures replayed { IsReplayed events.now replay.entry output.old output.new
-        (D.content result.device) result.is_untold result.ending }
+        (D.content result.device) (D.is_synced result.device) result.is_untold result.ending }
     ensures same { D.is_honest result.device ≡ replay.entry.kernel.pool.honest }
 {
     events_refine::<FileKeys>();
@@ -102,7 +103,7 @@ fn end_kernel<D: PageDevice + Drop>(
 ) -> (D, Option<u8>)
     ensures closes { MayEndWith is_over is_untold kernel result.1 }
     ensures well { is_untold ≡ false → result.1 ≡ None →
-        IsClosedWell kernel (D.content result.0) }
+        IsClosedWell kernel (D.content result.0) (D.is_synced result.0) }
     ensures unwritten { may_write is_over is_untold kernel ≡ false →
         D.content result.0 ≡ kernel.pool.stored }
     ensures same { D.is_honest result.0 ≡ kernel.pool.honest }

@@ -1,6 +1,6 @@
 //! Scripts run on the file of a device, and on a file in memory.
 
-ghost use Rattle.std.specs.Prelude.{◌≡◌, ◌⊎◌, ℕ, true, IsTrue, Option};
+ghost use Rattle.std.specs.Prelude.{◌≡◌, ◌⊎◌, ℕ, false, true, IsTrue, None, Option};
 ghost use Rattle.interleavings.specs.LoneKernelWords.{State};
 ghost use Rattle.replays.specs.Runs.{Stands};
 ghost use Rattle.replays.specs.Serves.{EndsWell, RunsInput, RunsOn, RunsText, RunsTextOn};
@@ -87,6 +87,7 @@ pub fn run_text_on<D: PageDevice + Drop, W: Write + Drop, E: Write>(
         (record {
           content = D.content device;
           left = D.content result.device;
+          synced = D.is_synced result.device;
           was = D.fault_count device;
           faults = D.fault_count result.device;
           old = output.old;
@@ -106,12 +107,12 @@ pub fn run_text_on<D: PageDevice + Drop, W: Write + Drop, E: Write>(
 /// The file is checked first. Where the device is honest, it is that of one system, from which the
 /// script is run; or the first thing that is wrong is told by its number alone. Fault 60 alone where
 /// there is no memory to open it. What is told has happened: the output took all answers, and the
-/// file is then one of the system that the script leaves. What can't be told did not: where the
-/// output refuses a write, the kernel is let go, and nothing was written: the file is as it was
-/// before. So it is where a line fails. The device may fail when the file is opened, then fault 20
-/// stands alone; while a line is run, which is then replied 62, as is each after it, and the kernel
-/// is let go, which fault 62 after the answers tells; or when it is closed, then fault 20 stands
-/// after the answers.
+/// file is then one of the system that the script leaves, on a device that is synced. What can't be
+/// told did not: where the output refuses a write, the kernel is let go, and nothing was written:
+/// the file is as it was before. So it is where a line fails. The device may fail when the file is
+/// opened, then fault 20 stands alone; while a line is run, which is then replied 62, as is each
+/// after it, and the kernel is let go, which fault 62 after the answers tells; or when it is closed,
+/// then fault 20 stands after the answers.
 ///
 /// Of any device: a line is printed for each line of the script, with what its seat was told, and
 /// one fault after them where the file is not closed well; or one fault alone. The device is as
@@ -126,6 +127,7 @@ pub fn run_on<D: PageDevice + Drop, W: Write + Drop>(
         (record {
           content = D.content device;
           left = D.content result.device;
+          synced = D.is_synced result.device;
           was = D.fault_count device;
           faults = D.fault_count result.device;
           old = output.old;
@@ -162,6 +164,8 @@ fn end_kernel<D: PageDevice + Drop>(kernel: Kernel<D, FileKeys>, is_untold: bool
         was (D.fault_count result.0) result.1 }
     ensures unwritten { (is_untold ≡ true) ⊎ (kernel.failed ≡ true) →
         D.content result.0 ≡ kernel.pool.stored }
+    ensures synced { is_untold ≡ false → result.1 ≡ None → IsTrue kernel.pool.honest →
+        IsTrue (D.is_synced result.0) }
     ensures same { D.is_honest result.0 ≡ kernel.pool.honest }
 {
     a_kernel_at_rest_closes_on_its_file::<FileKeys>();

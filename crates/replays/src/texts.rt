@@ -46,6 +46,7 @@ pub fn replay_on<D: PageDevice + Drop, W: Write + Drop, E: Write>(
         (record {
           content = D.content device;
           left = D.content result.device;
+          synced = D.is_synced result.device;
           was = D.fault_count device;
           faults = D.fault_count result.device;
           old = output.old;

@@ -141,7 +141,8 @@ returns g c =
     let pages = sym (ap (λ (o : Origin). o.content) c.requires.origin) in
     let spared = sym (ap (λ (o : Origin). o.spares) c.requires.origin) in
     λ was before. from_origin _ _ (counted_from was g.N.Base.origin) _ _ (ap (counted_from was) c.requires.origin)
-    (beside c.args.plan.script.now c.make_all-desks.result.items made done g.N.Base.origin _ _
+    (beside c.args.plan.script.now c.make_all-desks.result.items made done
+    (seats_within c.args.plan.script.now.lines c.keeps_seats.ensures.seats) g.N.Base.origin _ _
     c.print_all-so_far.result c.end_service-ended.result.1 c.end_service-ended.result.0.journal.items
     c.end_service-ended.result.0.seats.items c.end_service-ended.result.0.failure first told printed
     c.flush.ensures.same c.has_refused-is_untold.ensures c.flush.ensures.handed ended c.tell_end-ending.ensures pages

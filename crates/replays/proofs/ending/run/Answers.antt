@@ -1,4 +1,4 @@
-use Rattle.std.proofs.Common.{◌≡◌, ◌∙◌, [], sym, ap, subst, append-nil, Bool, false, List, Option}
+use Rattle.std.proofs.Common.{◌≡◌, ◌∙◌, [], sym, ap, subst, append-nil, Bool, false, List, None, Option}
 use Rattle.bucket_page.specs.declared.pseudokey.ShaKey.{ShaKey}
 use Rattle.interleavings.proofs.of_interleaving_core.SparedLemmas.{stored_kept}
 use Rattle.interleavings.specs.interleaving_core.Kernel.{KernelState}
@@ -9,7 +9,7 @@ use Rattle.msgq_cli.proofs.OutputLemmas.{Prints-then}
 use Rattle.replays.specs.Places.{ProgressState}
 use Rattle.replays.specs.Replays.{IsClosedWell, MayEndWith, ending_by, may_write, replies_text}
 use Rattle.replays.specs.Rounds.{is_over}
-use Rattle.replays.proofs.ClosingLemmas.{answers_plain, left_well}
+use Rattle.replays.proofs.ClosingLemmas.{answers_plain, left_well, synced_well}
 use Rattle.replays.proofs.FreeLemmas.{busy_if_left}
 use Rattle.replays.proofs.LeadLemmas.{replay_keeps}
 use Rattle.replays.proofs.ending.run.Goals as goal
@@ -34,6 +34,10 @@ returns-clause-replayed g c =
     let over = c.finish-is_over.result in
     let fault = c.end_kernel-device.result.1 in
     let left = g.D.PageDevice.content c.end_kernel-device.result.0 in
+    let synced = g.D.PageDevice.is_synced c.end_kernel-device.result.0 in
+    let closed : untold ≡ false → fault ≡ None → IsClosedWell last.kernel left synced =
+    λ taken none. subst (λ (k : KernelState ShaKey). IsClosedWell k left synced) kernel
+    (c.end_kernel-device.ensures.well taken none) in
     let closes : MayEndWith (is_over last) untold last.kernel fault =
     subst (λ (b : Bool). MayEndWith b untold last.kernel fault) c.finish-is_over.ensures.over
     (subst (λ (k : KernelState ShaKey). MayEndWith over untold k fault) kernel
@@ -65,9 +69,9 @@ returns-clause-replayed g c =
       closes = closes;
       stuck = busy_if_left last untold fault c.is_sound.ensures closes;
       well = λ taken none. left_well c.events_refine.ensures words c.args.replay c.play_all.new.self last plays rounds
-          c.is_sound.ensures c.a_refining_kernel_closes_on_its_file.ensures left
-          (subst (λ (k : KernelState ShaKey). IsClosedWell k left) kernel
-          (c.end_kernel-device.ensures.well taken none));
+          c.is_sound.ensures left synced (closed taken none) c.a_refining_kernel_closes_on_its_file.ensures;
+      synced = λ taken none. synced_well c.events_refine.ensures words c.args.replay c.play_all.new.self last plays
+          rounds c.is_sound.ensures left synced (closed taken none);
       unwritten = unwritten;
       before = λ away roomy. unwritten away
           ∙ stored_kept c.args.replay.kernel.pool last.kernel.pool

@@ -21,6 +21,7 @@ returns-clause-served g c =
     let within = greatest_within c.args.script.now c.keeps_seats.ensures in
     let some = within.0 in
     let few = within.1 in
+    let still = c.run_lines-so_far.ensures.honest ∙ ap (λ (p : PoolState). p.honest) for.opened.pool in
     let long = length-callers_of c.args.script.now.ids (greatest_seat c.args.script.now.lines) in
     inl (record {
       first = first;
@@ -47,7 +48,6 @@ returns-clause-served g c =
           let rests = c.a_kernel_opens_at_rest.ensures sha_key for.with_keys _ _ _ for.frames first for.opened
           honest has.0 has.1 (omega (arith, long, some)) (omega (arith, long, few)) in
           let goes = ran.rules has.0 0 rests (opened_decided for) in
-          let still = c.run_lines-so_far.ensures.honest ∙ ap (λ (p : PoolState). p.honest) for.opened.pool in
           record {
             system = has.0;
             file = has.1;
@@ -56,6 +56,8 @@ returns-clause-served g c =
                 (c.end_kernel-device.ensures.ends first.pool.faults goes.system goes.decided goes.stands
                 (subst (λ (b : Bool). IsTrue b) (sym still) honest));
           };
+      synced = λ taken none honest. c.end_kernel-device.ensures.synced taken none
+          (subst (λ (b : Bool). IsTrue b) (sym still) honest);
       unwritten = c.end_kernel-device.ensures.unwritten;
       before = λ away. c.end_kernel-device.ensures.unwritten away
           ∙ stored_before c.args.script.now _ _ first last for c.run_lines-so_far.ensures.stored;

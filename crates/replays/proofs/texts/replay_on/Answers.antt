@@ -11,5 +11,6 @@ returns-in-Ok-open-clause-played g c =
     _ _ _ c.in-Ok.ensures c.in-Ok-read_schedule.ensures.ok
     (is_played c.in-Ok.script c.in-Ok-read_schedule.events.items _ _ _ c.in-Ok-open.replay c.in-Ok-open.ensures.ok
     (subst (λ (es : List Event). IsReplayed es c.in-Ok-open.replay c.args.output.now c.run.new.output
-    (g.D.PageDevice.content c.run.result.device) c.run.result.is_untold c.run.result.ending)
+    (g.D.PageDevice.content c.run.result.device) (g.D.PageDevice.is_synced c.run.result.device)
+    c.run.result.is_untold c.run.result.ending)
     c.as_slice.ensures.value c.run.ensures.replayed))

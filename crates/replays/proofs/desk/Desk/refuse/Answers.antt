@@ -3,6 +3,7 @@ use Rattle.std.proofs.lemmas.List.{take_more}
 use Rattle.msgq_cli.specs.declared.line.Line.{Line}
 use Rattle.msgq_cli.specs.declared.reply.Reply.TheVariants.{Failed}
 use Rattle.queue_model.specs.declared.entry.Entry.{Entry}
+use Rattle.replays.proofs.FitLemmas.{refusal_fits}
 use Rattle.replays.proofs.LineLemmas.{is_its, not_its}
 use Rattle.replays.proofs.MakeLemmas.{making_goes, making_room, making_skips, no_entry}
 use Rattle.replays.specs.Desks.{DeskView}
@@ -44,7 +45,7 @@ loop-line-preserved g c =
           (making_goes (take i lines) old now _ line (Failed 60) before
           (is_its old.lines.seat line (at ∙ before.seat))
           (sym (append-nil now.sitter.list) ∙ ap (λ (l : List Entry). now.sitter.list ++ l)
-          (sym (no_entry line 60))) refl w.push.ensures)
+          (sym (no_entry line 60))) refl (refusal_fits line.command) w.push.ensures)
       | else-line-seat w ↦
           let apart : line.seat ≢ c.loop-line.self-inside.lines.seat = search rules in
           rw w.self-inside-is
