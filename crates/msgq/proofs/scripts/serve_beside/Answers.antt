@@ -1,4 +1,4 @@
-use Rattle.std.proofs.Common.{refl, sym, ◌∙◌}
+use Rattle.std.proofs.Common.{refl, sym, true, ◌∙◌}
 use Rattle.replays.specs.Texts.{Effects}
 use Rattle.replays.proofs.NewLemmas.{one_new, several_new}
 use Rattle.msgq.proofs.scripts.serve_beside.Goals as goal
@@ -16,6 +16,7 @@ returns g c =
     let effects : Effects = record {
       content = c.format.new.device;
       left = c.run_on-ending.result.device;
+      synced = true;
       was = 0;
       faults = 0;
       old = c.args.output.now;
@@ -23,4 +24,4 @@ returns g c =
       untold = c.run_on-ending.result.is_untold;
     } in
     several_new c.args.text.now c.in-Ok.script c.in-Ok.ensures c.run_on-ending.result.ending effects
-    (sym c.is_of_one_seat.ensures ∙ c.if-is_of_one_seat.false) new c.run_on-ending.ensures
+    (sym c.is_of_one_seat.ensures ∙ c.if-is_of_one_seat.false) new c.run_on-ending.ensures.ran
