@@ -16,3 +16,4 @@ pub mod RunLemmas
 pub mod LentLemmas
 pub mod DriveLemmas
 pub mod RenewLemmas
+pub mod ReseatLemmas

@@ -1,6 +1,6 @@
 -- What is done with a kernel between calls, so that it serves for long: a call is taken back, the journal is taken out,
--- and the pages are written or read. docs/STEPS.md, "Calls"; docs/QUEUES.md, "Journals".
-use Rattle.std.specs.Prelude.{ℕ, ◌≡◌, ◌≢◌, ◌≤◌, Bool, true, false, IsSome, IsTrue, List, [], Option, Some, None, Result, Ok, Err, map, option_map, ⊤}
+-- another caller sits at a seat, and the pages are written or read. docs/STEPS.md, "Calls"; docs/QUEUES.md, "Journals".
+use Rattle.std.specs.Prelude.{ℕ, zero, suc, ◌≡◌, ◌≢◌, ◌≤◌, Bool, true, false, IsSome, IsTrue, List, [], Option, Some, None, Result, Ok, Err, map, option_map, slice_set, ⊤}
 use Rattle.std.specs.List.{All}
 use Rattle.page_device.specs.Device.{HasRisen}
 use Rattle.page_device.specs.Sealed.{IsSealed, payload_of}
@@ -10,7 +10,7 @@ pub use Rattle.buffer_pool.specs.declared.fault.PoolFault.{PoolFault}
 use Rattle.buffer_pool.specs.declared.fault.PoolFault.TheVariants.{Device, TooFewFrames}
 use Rattle.file_pages.specs.declared.fault.FileFault.TheVariants.{Pool}
 use Rattle.xsi_calls.specs.Machine.{IsNew}
-use Rattle.interleaving_core.specs.Words.{Call, CallView, Entry, PoolState, answer_of_call, call_locks, spared}
+use Rattle.interleaving_core.specs.Words.{Call, CallView, Caller, Entry, PoolState, answer_of_call, call_locks, caller_at, spared}
 use Rattle.interleaving_core.specs.Active.{ActiveView}
 use Rattle.interleaving_core.specs.Closing.{IsFlushedTo}
 use Rattle.interleaving_core.specs.Kernel.{KernelState, call_at, with_call}
@@ -105,6 +105,34 @@ pub record IsRenewed {K : Type 0} (taken : List Entry) (old new : KernelState K)
     journal = [];
     room = new.room;
   }
+
+-- ---- another caller sits at a seat
+
+-- the callers once this one sits at a seat
+abbrev pub with_caller : List Caller → ℕ → Caller → List Caller
+with_caller callers zero caller = callers
+with_caller callers (suc place) caller = slice_set callers place caller
+
+-- a seat without a call is this caller's from here on. The journal is let go, since its entries name the seats of those
+-- who sat there when they were decided; nothing else is changed
+pub record IsReseated {K : Type 0} (seat : ℕ) (caller : Caller) (old new : KernelState K) : Type 0 where
+  pub free : call_at old.seats seat ≡ None
+  pub between : IsBetweenCalls old
+  pub sits : caller_at new.callers seat ≡ Some caller
+  pub is : new ≡ record old {
+    callers = with_caller old.callers seat caller;
+    seats = map (option_map (outlasting old.journal)) old.seats;
+    journal = [];
+  }
+
+-- or the seat has one, or the kernel is not between calls
+pub record KeepsCaller {K : Type 0} (seat : ℕ) (old new : KernelState K) : Type 0 where
+  pub same : new ≡ old
+  pub busy : IsBetweenCalls old → call_at old.seats seat ≢ None
+
+abbrev pub Reseats : {K : Type 0} → ℕ → Caller → Bool → (old new : KernelState K) → Type 0
+Reseats seat caller true old new = IsReseated seat caller old new
+Reseats seat caller false old new = KeepsCaller seat old new
 
 -- ---- its pages
 

@@ -3,7 +3,7 @@
 ghost use Rattle.std.specs.Prelude.{◌≡◌, ◌↔◌, ◌<◌, IfErr, IfOk, IsSome, IsTrue, Some, length, true};
 ghost use Rattle.interleaving_core.specs.Active.{ActiveView};
 ghost use Rattle.interleaving_core.specs.Kernel.{call_at};
-ghost use Rattle.interleaving_core.specs.Renewing.{Flushes, IsBetweenCalls, IsRenewed, Reads, Withdraws, failure_of_pool};
+ghost use Rattle.interleaving_core.specs.Renewing.{Flushes, IsBetweenCalls, IsRenewed, Reads, Reseats, Withdraws, failure_of_pool};
 ghost use Rattle.interleaving_core.specs.Words.{IsSeat, TellsChanged};
 
 use crate::fault::{CloseFault, Failure};
@@ -13,9 +13,10 @@ use bucket_page::PseudoKey;
 use buffer_pool::PoolFault;
 use file_pages::FileFault;
 use page_device::{Page, PageDevice, seal};
-use queue_model::{Call, Entry, NoMemory};
+use queue_model::{Call, Caller, Entry, NoMemory};
 use std::alloc::Global;
 use std::mem;
+use type_chains::a_callers_numbers_fit;
 
 impl<D: PageDevice + Drop, K: PseudoKey + Drop> Kernel<D, K> {
     /// Takes the call of a seat back that holds no lock and has no answer yet, as each of which its
@@ -70,6 +71,26 @@ impl<D: PageDevice + Drop, K: PseudoKey + Drop> Kernel<D, K> {
     {
         outlast(self.seats.as_mut_slice(), self.journal.as_slice());
         self.journal.clear();
+    }
+
+    /// Has another caller sit at a seat that has no call. The journal is let go, as by `forget`: its
+    /// entries tell of who sat there when they were decided. False where the seat has a call or the
+    /// kernel is not between calls; then nothing is changed.
+    pub fn reseat(&mut self, seat: u8, caller: Caller) -> bool
+        requires { IsSeat self.old.locks seat }
+        ensures { Reseats seat caller result self.old self.new }
+    {
+        if !self.is_between_calls() {
+            return false;
+        }
+        let place = seat as usize - 1;
+        if self.seats[place].has_call() {
+            return false;
+        }
+        a_callers_numbers_fit(&caller);
+        self.callers[place] = caller;
+        self.forget();
+        true
     }
 
     /// How many pages the file has.
