@@ -87,7 +87,8 @@ module _ (script : Parts) (made : List DeskView) (many : length made ≡ greates
       (subst (AreFitting (lines_of (place + 1) script.lines)) (sym (own place here)) (done place below).fits)
 
   -- and the whole of it
-  pub beside : All (IsWithin (greatest_seat script.lines)) script.lines → (o : Origin) (c : Effects) (ending so_far : Ending) (fault : Option ℕ) (journal : List Entry)
+  pub beside : All (IsWithin (greatest_seat script.lines)) script.lines → (o : Origin) (c : Effects)
+      (ending so_far : Ending) (fault : Option ℕ) (journal : List Entry)
       (seats : List Sitter) (failure : Option Failure) (first told : OutputState) →
       IsPrintedOf script.lines made c.old first so_far → Prints first told [] → c.untold ≡ told.refused →
       (told.refused ≡ false → told.handed ≡ told.known) →
@@ -99,7 +100,8 @@ module _ (script : Parts) (made : List DeskView) (many : length made ≡ greates
         faults = c.faults;
       }) → EndsWith fault told so_far c.new ending → o.content ≡ c.content → IsTrue o.spares → c.was ≤ o.faults →
       RunsBeside script (counted_from c.was o) c ending
-  beside within o c ending so_far fault journal seats failure first told p flushed untold handed ended ends same spared was =
+  beside within o c ending so_far fault journal seats failure first told p flushed untold handed ended ends same spared
+      was =
       record {
         replies = p.replies;
         as_many = p.as_many;

@@ -1,6 +1,12 @@
+use Rattle.std.proofs.Common.{sym, subst}
+use Rattle.msgq_cli.specs.declared.command.Command.{Command}
+use Rattle.msgq_cli.specs.declared.reply.Reply.TheVariants.{Failed}
+use Rattle.replays.specs.Lines.{Fits, IsOfCall}
 use Rattle.replays.proofs.FitLemmas.{call_fault}
 use Rattle.replays.proofs.desk.reply.Goals as goal
 
 -- a fault of a call is one of four
 pub returns-in-Err-clause-fits : goal.returns-in-Err-clause-fits
-returns-in-Err-clause-fits g c = ?
+returns-in-Err-clause-fits g c =
+    subst (λ (command : Command). Fits command (Failed c.number.result)) (sym c.in-Call.is)
+    (subst IsOfCall (sym c.number.ensures) (call_fault c.in-Err.fault))
