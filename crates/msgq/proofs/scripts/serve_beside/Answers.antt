@@ -1,4 +1,4 @@
-use Rattle.std.proofs.Common.{refl, sym, ◌∙◌}
+use Rattle.std.proofs.Common.{refl, sym, true, ◌∙◌}
 use Rattle.replays.specs.Texts.{Effects}
 use Rattle.replays.proofs.NewLemmas.{one_new, several_new}
 use Rattle.msgq.proofs.scripts.serve_beside.Goals as goal
@@ -16,6 +16,7 @@ returns g c =
     let effects : Effects = record {
       content = c.format.new.device;
       left = c.run_on-ending.result.device;
+      synced = true;
       was = 0;
       faults = 0;
       old = c.args.output.now;
