@@ -61,6 +61,7 @@ impl Unmade {
     pub fn number(&self) -> u8 {
         match self {
             Unmade::NoMemory => faults::NO_MEMORY,
+            Unmade::Refused(error) if error.kind() == ErrorKind::OutOfMemory => faults::NO_MEMORY,
             _ => faults::DEVICE,
         }
     }
@@ -231,6 +232,7 @@ fn expect_neither<R: Files + AllocGlobal>(rt: &R, name: &str) -> Result<(), Unma
     expect_none(rt, name)?;
     match is_left_behind(rt, name) {
         Ok(true) => Err(Unmade::LeftBehind),
+        Err(error) if error.kind() == ErrorKind::OutOfMemory => Err(error.into()),
         _ => Ok(()),
     }
 }

@@ -77,18 +77,19 @@ impl OpenError {
             OpenError::NotWhole | OpenError::NoPage => faults::PAST_END,
             OpenError::BadDigest => faults::BAD_DIGEST,
             OpenError::NoMemory => faults::NO_MEMORY,
+            OpenError::Refused(refused) if refused.is_of_memory() => faults::NO_MEMORY,
             _ => faults::DEVICE,
         }
     }
 
-    /// Of what a recovery failed of.
-    fn of_recovery(fault: RecoveryFault) -> OpenError {
+    /// Of what a recovery failed of, and what the system said where it refused a transfer of it.
+    fn of_recovery(fault: RecoveryFault, refused: Option<Refused>) -> OpenError {
         match fault {
             RecoveryFault::Damaged => OpenError::Foreign,
             RecoveryFault::Failed(error) => match error.kind() {
                 ErrorKind::InvalidData => OpenError::Foreign,
                 ErrorKind::Unsupported => OpenError::OtherVersion,
-                _ => OpenError::Refused(Refused::Journal(error)),
+                _ => OpenError::Refused(refused.unwrap_or(Refused::Journal(error))),
             },
         }
     }
@@ -142,7 +143,7 @@ where
     }
     let mut pair = SystemPair::new(file, journal).map_err(Refused::File)?;
     if let Err(fault) = recover(&mut pair) {
-        return Err(OpenError::of_recovery(fault));
+        return Err(OpenError::of_recovery(fault, pair.into_refused()));
     }
     if !pair.is_whole().map_err(Refused::File)? {
         return Err(OpenError::NotWhole);

@@ -39,6 +39,14 @@ pub enum Refused {
     Clock(io::Error),
 }
 
+impl Refused {
+    /// Whether the system had no memory.
+    pub fn is_of_memory(&self) -> bool {
+        let (Refused::File(error) | Refused::Journal(error) | Refused::Clock(error)) = self;
+        error.kind() == ErrorKind::OutOfMemory
+    }
+}
+
 /// The journal of this session: how many images it holds, and the digest with which it ends.
 #[derive(Clone, Copy, Debug, Drop)]
 struct Begun {

@@ -8,7 +8,7 @@ ghost use Rattle.safe_device.specs.Device.{HasRoom, IsOpened, IsWrittenOut, Stay
 ghost use Rattle.safe_device.specs.Safe.{committed, IsAtRest, StandsFor};
 
 use crate::guarded_file::GuardedFile;
-use crate::journal::PageImage;
+use crate::journal::{Images, PageImage};
 use crate::page_pair::PagePair;
 use page_device::{DeviceFault, MAX_PAGES, Page, PageDevice};
 use std::alloc::{AllocError, Global};
@@ -25,9 +25,10 @@ pub const MOST_PENDING: usize = 256;
 /// a transfer failed that changes a file it asks nothing more of either: it is to be opened again.
 #[derive(Drop)]
 pub struct SafeDevice<P: PagePair> {
-    alloc: Global,
     file: GuardedFile<P>,
     pending: Vec<PageImage>,
+    /// Room for the images of a save.
+    images: Images,
     pages: u32,
     failed: u64,
     is_broken: bool,
@@ -63,11 +64,13 @@ impl<P: PagePair> SafeDevice<P> {
         ensures { IfOk result (IsOpened P.is_honest P.file pair) }
     {
         let pending = Vec::with_capacity(alloc, MOST_PENDING)?;
+        let images = Images::with_capacity(alloc, MOST_PENDING)?;
         let pages = pair.pages();
+        let file = GuardedFile::new(alloc, pair)?;
         Ok(SafeDevice {
-            alloc,
-            file: GuardedFile::new(alloc, pair),
+            file,
             pending,
+            images,
             pages,
             failed: 0,
             is_broken: false,
@@ -94,7 +97,7 @@ impl<P: PagePair> SafeDevice<P> {
             LeavesOnly P.moment P.left_since self.old.pair self.new.pair
             (StandsFor (committed P.file P.journal self.old.pair)) }
     {
-        let Ok(()) = self.file.write_all(self.alloc, &self.pending) else {
+        let Ok(()) = self.file.write_all(&mut self.images, &self.pending) else {
             self.is_broken = true;
             self.failed = self.failed.saturating_add(1);
             return Err(DeviceFault::Device);

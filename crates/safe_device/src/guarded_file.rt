@@ -8,7 +8,7 @@ ghost use Rattle.safe_device.specs.Safe.{numbers, first_count, committed, IsSafe
 
 use crate::journal::{Images, PageImage};
 use crate::page_pair::PagePair;
-use page_device::{PAGE_BYTES, Page};
+use page_device::{MAX_PAGES, PAGE_BYTES, Page};
 use std::alloc::{AllocError, Global};
 use std::io;
 
@@ -24,18 +24,23 @@ pub struct GuardedFile<P: PagePair> {
 
 impl<P: PagePair> GuardedFile<P> {
     /// The file of a pair that `recover` left.
-    pub fn new(alloc: Global, pair: P) -> GuardedFile<P>
+    ///
+    /// All memory that a session needs is taken here, so that none can be wanting at a write.
+    pub fn new(alloc: Global, pair: P) -> Result<GuardedFile<P>, AllocError>
+    where
+        P: Drop,
         requires { IsTrue P.is_honest → IsAtRest P.file P.journal P.may_leave pair }
-        ensures safe { IsTrue P.is_honest → IsSafe P.file P.journal P.may_leave result }
-        ensures same { result.pair ≡ pair }
-        ensures rest { result.begun ≡ false }
+        ensures safe { IsTrue P.is_honest → IfOk result (IsSafe P.file P.journal P.may_leave) }
+        ensures same { IfOk result (λ made. made.pair ≡ pair) }
+        ensures rest { IfOk result (λ made. made.begun ≡ false) }
     {
-        GuardedFile {
+        let guarded = Vec::with_capacity(alloc, MAX_PAGES as usize)?;
+        Ok(GuardedFile {
             pair,
             begun: false,
             count: 0,
-            guarded: Vec::new(alloc),
-        }
+            guarded,
+        })
     }
 
     /// Whether a page may be written in place: it has an image in the journal, or it was added
@@ -89,14 +94,15 @@ impl<P: PagePair> GuardedFile<P> {
         Ok(())
     }
 
-    /// The images of those pages that have none yet and were there when the session began.
-    fn open_images(&self, alloc: Global, pages: &[PageImage]) -> io::Result<Images>
+    /// The images of those pages that have none yet and were there when the session began, in place
+    /// of those that were given.
+    fn open_images(&self, images: &mut Images, pages: &[PageImage]) -> io::Result<()>
         requires safe { IsTrue P.is_honest → IsSafe P.file P.journal P.may_leave self.now }
-        ensures images { IsTrue P.is_honest → IfOk result (λ images. All (λ (image : TheImage).
+        ensures images { IsTrue P.is_honest → OnOk result (All (λ (image : TheImage).
             slice_get (committed P.file P.journal self.now.pair) image.page ≡ Some image.bytes)
-            images) }
+            images.new) }
     {
-        let mut images = Images::new(alloc);
+        images.clear();
         for page in pages {
             if self.is_guarded(page.page) {
                 continue;
@@ -108,11 +114,11 @@ impl<P: PagePair> GuardedFile<P> {
                 bytes,
             })?;
         }
-        Ok(images)
+        Ok(())
     }
 
     /// Sees to it that these pages may be written in place, with one wait for them all.
-    fn protect(&mut self, alloc: Global, pages: &[PageImage]) -> io::Result<()>
+    fn protect(&mut self, images: &mut Images, pages: &[PageImage]) -> io::Result<()>
         requires safe { IsTrue P.is_honest → IsSafe P.file P.journal P.may_leave self.old }
         ensures safe { IsTrue P.is_honest →
             OnOk result (IsSafe P.file P.journal P.may_leave self.new) }
@@ -124,7 +130,7 @@ impl<P: PagePair> GuardedFile<P> {
             LeavesOnly P.moment P.left_since self.old.pair self.new.pair
             (StandsFor (committed P.file P.journal self.old.pair)) }
     {
-        let images = self.open_images(alloc, pages)?;
+        self.open_images(images, pages)?;
         if images.as_slice().is_empty() {
             return Ok(());
         }
@@ -176,8 +182,9 @@ impl<P: PagePair> GuardedFile<P> {
     }
 
     /// Writes over pages, each in place of what is there, in order. Their images go to the journal
-    /// first, with one wait for them all. What an error leaves differs in these pages alone.
-    pub fn write_all(&mut self, alloc: Global, pages: &[PageImage]) -> io::Result<()>
+    /// first, with one wait for them all, through the room that is given for them. What an error
+    /// leaves differs in these pages alone.
+    pub fn write_all(&mut self, images: &mut Images, pages: &[PageImage]) -> io::Result<()>
         requires safe { IsTrue P.is_honest → IsSafe P.file P.journal P.may_leave self.old }
         ensures safe { IsTrue P.is_honest →
             OnOk result (IsSafe P.file P.journal P.may_leave self.new) }
@@ -192,7 +199,7 @@ impl<P: PagePair> GuardedFile<P> {
             LeavesOnly P.moment P.left_since self.old.pair self.new.pair
             (StandsFor (committed P.file P.journal self.old.pair)) }
     {
-        self.protect(alloc, pages)?;
+        self.protect(images, pages)?;
         self.write_each(pages)
     }
 

@@ -37,6 +37,22 @@ impl Images {
         }
     }
 
+    /// No image, with room for so many.
+    pub fn with_capacity(alloc: Global, many: usize) -> Result<Images, AllocError>
+        ensures { IfOk result (λ images. images ≡ []) }
+    {
+        Ok(Images {
+            items: Vec::with_capacity(alloc, many)?,
+        })
+    }
+
+    /// Lets all images go, and keeps their room.
+    pub fn clear(&mut self)
+        ensures { self.new ≡ [] }
+    {
+        self.items.clear();
+    }
+
     /// Adds an image.
     pub fn push(&mut self, image: PageImage) -> Result<(), AllocFailed<PageImage>>
         ensures ok { OnOk result (self.new ≡ self.old ++ image ∷ []) }

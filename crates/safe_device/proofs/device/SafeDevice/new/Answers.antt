@@ -9,17 +9,18 @@ pub returns : goal.returns
 returns g c =
     let P = g.P.PagePair in
     let count = c.pages-pages.result in
-    let pair = c.new.result.pair in
+    let file = c.in_ok-file.file in
+    let pair = file.pair in
     let items = c.in_ok-pending.ensures.items in
     record {
-      pair = c.new.ensures.same;
+      pair = c.in_ok-file.ensures.same;
       content = λ honest.
           ap (λ (l : List PageImage). content_of P.is_honest count l (P.file pair)) items
           ∙ content_opened P.is_honest count (P.file pair)
-          (λ is. ap (λ (p : g.row.P.Denot). length (P.file p)) c.new.ensures.same
+          (λ is. ap (λ (p : g.row.P.Denot). length (P.file p)) c.in_ok-file.ensures.same
           ∙ sym (c.pages-pages.ensures is)) honest
-          ∙ ap P.file c.new.ensures.same;
+          ∙ ap P.file c.in_ok-file.ensures.same;
       failed = refl;
       usable = refl;
-      synced = opened_synced c.new.result.begun c.in_ok-pending.pending.items c.new.ensures.rest items;
+      synced = opened_synced file.begun c.in_ok-pending.pending.items c.in_ok-file.ensures.rest items;
     }
