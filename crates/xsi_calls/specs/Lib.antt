@@ -16,7 +16,6 @@ pub mod Questions
 pub mod QuestionSteps
 pub mod QuestionLaws
 pub mod QuestionRuns
-pub mod WriteRuns
 pub mod PaymentWords
 pub mod PaymentStages
 pub mod Payments
