@@ -23,7 +23,7 @@ use crate::counts::SearchCounts;
 use crate::fault::{BeginFault, CloseFault, Failure, OpenFault};
 use crate::opening::{copied, idle_seats, least_frames};
 use crate::places::{due, failure_of, has_call, told_of_failure};
-use crate::searches::{last_page, note, note_move};
+use crate::searches::{ends_search, last_page, note, note_move};
 use crate::seat::Seat;
 use crate::step::Step;
 use bucket_page::PseudoKey;
@@ -209,20 +209,21 @@ impl<D: PageDevice + Drop, K: PseudoKey + Drop> Kernel<D, K> {
         self.failure
     }
 
-    /// How often the last search of a seat went on from one page to another, since it read the
-    /// directory's depth. It stays until the seat's next search, is 0 before its first, and counts
-    /// no more from `u32::MAX` on.
-    pub fn hops(&self, seat: u8) -> u32
+    /// How often the last search of a seat went on from one page to another, since it was granted the
+    /// directory. It stays until the seat's next search, is 0 before its first, and counts no more
+    /// from `u64::MAX` on.
+    pub fn hops(&self, seat: u8) -> u64
         requires { IsSeat self.now.locks seat }
         ensures { result ≡ (count_at self.now.searches.counts seat).hops }
     {
         self.count(seat).hops
     }
 
-    /// How many WriteOlds and Tombstones other seats have made, the steps that may make a search
-    /// longer by a hop, since the last search of a seat read the directory's depth. They are counted
-    /// until the seat's next search, also behind the end of this one, and from `u32::MAX` on no more.
-    pub fn changes(&self, seat: u8) -> u32
+    /// How many WriteOlds and Tombstones seats have made, the steps that may make a search longer by a
+    /// hop, from where the last search of a seat was granted the directory up to the Look by which a
+    /// page answered it. They stay until the seat's next search, are 0 before its first, and from
+    /// `u64::MAX` on count no more.
+    pub fn changes(&self, seat: u8) -> u64
         requires { IsSeat self.now.locks seat }
         ensures { result ≡ (count_at self.now.searches.counts seat).changes }
     {
@@ -300,7 +301,8 @@ impl<D: PageDevice + Drop, K: PseudoKey + Drop> Kernel<D, K> {
         );
         note_entry(&active.machine, &mut active.draft, &mut self.journal, seat);
         if let Progress::Moved(kind) = did {
-            note_move(&mut self.searches, &self.locks, seat, kind, before);
+            let ends = ends_search(kind, &active.machine);
+            note_move(&mut self.searches, &self.locks, seat, kind, before, ends);
             return Step::Moved(kind);
         }
         let step = at.settle(
@@ -313,7 +315,7 @@ impl<D: PageDevice + Drop, K: PseudoKey + Drop> Kernel<D, K> {
             seat,
         );
         self.failure = failure_of(seat, &step);
-        note(&mut self.searches, &self.locks, seat, &step, before);
+        note(&mut self.searches, &self.locks, seat, &step, before, at);
         step
     }
 
