@@ -14,6 +14,7 @@ ghost use Rattle.interleaving_core.specs.Turn.{TakesTurn};
 ghost use Rattle.interleaving_core.specs.Words.{IsSeat, caller_at};
 
 mod driving;
+mod holding;
 mod renewing;
 
 use crate::active::{decided_by, note_entry};

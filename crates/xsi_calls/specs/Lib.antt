@@ -38,6 +38,7 @@ pub mod Machine
 pub mod Parts
 pub mod Calling
 pub mod CallSteps
+pub mod FileLocks
 pub mod Laws
 pub use Rattle.call_decisions.specs as call_decisions
 pub use Rattle.record_file.specs.stale_search
