@@ -87,13 +87,10 @@ module _ (kind : Kind) (s : CountsState) (sound : AreSoundCounts s) (quiet : tou
       count_behind kind (change_after kind s.under_way) c ≡ c
   stays c few stirred = by c.over refl
     where
-      counted : SearchCount
-      counted = record c {
-        changes = min (c.changes + hops_added kind) MOST_COUNTED;
-        calm = c.calm && is_nothing (change_after kind s.under_way);
-      }
-
-      by : (b : Bool) → c.over ≡ b → (if b then c else counted) ≡ c
+      by : (b : Bool) → c.over ≡ b → record c {
+        changes = if b then c.changes else min (c.changes + hops_added kind) MOST_COUNTED;
+        calm = if b then c.calm else c.calm && is_nothing (change_after kind s.under_way);
+      } ≡ c
       by true is = refl
       by false is =
           same_count c (min (c.changes + hops_added kind) MOST_COUNTED)
@@ -110,24 +107,17 @@ module _ (kind : Kind) (s : CountsState) (sound : AreSoundCounts s) (quiet : tou
 -- ---- one count behind a step of any seat, and of its own
 
 module _ (kind : Kind) (u : UnderWay) (c : SearchCount) where
-  abbrev counted : SearchCount
-  counted = record c {
-    changes = min (c.changes + hops_added kind) MOST_COUNTED;
-    calm = c.calm && is_nothing u;
-  }
-
   behind_few : c.changes ≤ MOST_COUNTED → (count_behind kind u c).changes ≤ MOST_COUNTED
   behind_few few = by c.over
     where
-      by : (b : Bool) → (if b then c else counted).changes ≤ MOST_COUNTED
+      by : (b : Bool) → (if b then c.changes else min (c.changes + hops_added kind) MOST_COUNTED) ≤ MOST_COUNTED
       by true = few
       by false = min-le_right _ MOST_COUNTED
 
   behind_stirred : is_nothing u ≡ false → (count_behind kind u c).over ≡ false → (count_behind kind u c).calm ≡ false
   behind_stirred some = by c.over refl
     where
-      by : (b : Bool) → c.over ≡ b → (if b then c else counted).over ≡ false →
-          (if b then c else counted).calm ≡ false
+      by : (b : Bool) → c.over ≡ b → c.over ≡ false → (if b then c.calm else c.calm && is_nothing u) ≡ false
       by true is going = absurd (true≢false (sym is ∙ going))
       by false is going = ap (λ (x : Bool). c.calm && x) some ∙ and_false c.calm
 

@@ -45,9 +45,10 @@ begun_count u = record { hops = 0; changes = 0; calm = is_nothing u; over = fals
 
 -- after a step of any seat; that of a search which is over stays
 abbrev pub count_behind : Kind → UnderWay → SearchCount → SearchCount
-count_behind kind u c =
-    if c.over then c
-    else record c { changes = min (c.changes + hops_added kind) MOST_COUNTED; calm = c.calm && is_nothing u }
+count_behind kind u c = record c {
+  changes = if c.over then c.changes else min (c.changes + hops_added kind) MOST_COUNTED;
+  calm = if c.over then c.calm else c.calm && is_nothing u;
+}
 
 -- a search that is under way has gone on to another page, or a page has answered it
 abbrev pub gone_count : (goes_on ends : Bool) → SearchCount → SearchCount
