@@ -158,7 +158,8 @@ under_follow (Some a) before = operation_follow a.operation before
 
 -- ---- the directory among them
 
-search_in : (place : SearchPlace) (kind : LockKind) → kind_of (locks_at place kind []) Directory ≡ search_directory place
+search_in : (place : SearchPlace) (kind : LockKind) →
+    kind_of (locks_at place kind []) Directory ≡ search_directory place
 search_in search_at.GrantDirectory kind = refl
 search_in search_at.ReadDepth kind = refl
 search_in (search_at.ReadEntry depth) kind = refl
@@ -297,7 +298,8 @@ module _ (m : CallView) (bare : HasNoFileLock m.undecided.questions.names) where
   held_in : (name : LockName) → kind_of m.undecided.questions.names name ≡ None →
       kind_of (call_locks m) name ≡ kind_of (locks_under (access_under_way m) []) name
   held_in name none =
-      ap (λ (ls : List Lock). kind_of ls name) (row_at m.undecided m.stage ∙ under_follow access m.undecided.questions.names)
+      ap (λ (ls : List Lock). kind_of ls name)
+      (row_at m.undecided m.stage ∙ under_follow access m.undecided.questions.names)
       ∙ kind_of-append m.undecided.questions.names (locks_under (access_under_way m) []) name
       ∙ ap (λ (o : Option LockKind). first_kind o (kind_of (locks_under (access_under_way m) []) name)) none
 

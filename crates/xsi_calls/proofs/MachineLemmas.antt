@@ -223,14 +223,14 @@ module _ (hash : RecordKey → ℕ) (seat : ℕ) (stopped : Bool) (caller : Call
         locks → AsksAtOnce (MakesCall hash seat stopped) is_searching seat now (machine caller call q2 part phase) pool
         locks
     asks_at_once_there q2 none untried pool locks goes =
-        subst (λ (o : Option Trials). AsksAtOnce (MakesCall hash seat stopped) is_searching seat now (with_stage caller call
-        (record { questions = asked_with q2 (question_under part); trials = o }) stage) pool locks)
-        (ap (trials_for (decision_by call q.inquiry)) untried
+        subst (λ (o : Option Trials). AsksAtOnce (MakesCall hash seat stopped) is_searching seat now
+        (with_stage caller call (record { questions = asked_with q2 (question_under part); trials = o }) stage) pool
+        locks) (ap (trials_for (decision_by call q.inquiry)) untried
         ∙ sym (ap (trials_for (decision_by call q2.inquiry)) untried))
         (asks_from hash seat caller call u (asked_with q2 (question_under part)) pool locks
-        (subst (λ (o : Option Question). AsksAtOnce (MakesQuestions hash seat call) question_searches seat (asked_with q o)
-        (asked_with q2 o) pool locks) (sym none) goes) (ap (trials_for (decision_by call q.inquiry)) untried) stage now
-        view undecided stopped)
+        (subst (λ (o : Option Question). AsksAtOnce (MakesQuestions hash seat call) question_searches seat
+        (asked_with q o) (asked_with q2 o) pool locks) (sym none) goes)
+        (ap (trials_for (decision_by call q.inquiry)) untried) stage now view undecided stopped)
 
   -- ---- while it pays
 

@@ -148,8 +148,8 @@ module _ (hash : RecordKey → ℕ) (seat : ℕ) (p : Plan) (pool : PoolState) (
         (place (places.GrantPage page)) refl m.1.0 m.1.1.0 in
         let names_it = on kinds.ReadEntry kinds.Grant (place (places.ReadEntry depth)) (place (places.GrantPage page))
         (place (places.ReleaseDirectory page)) refl m.1.1.0 m.1.1.1.0 in
-        let arrives = on kinds.Grant kinds.Release (place (places.GrantPage page)) (place (places.ReleaseDirectory page))
-        (place (places.Look page)) refl m.1.1.1.0 m.1.1.1.1.0 in
+        let arrives = on kinds.Grant kinds.Release (place (places.GrantPage page))
+        (place (places.ReleaseDirectory page)) (place (places.Look page)) refl m.1.1.1.0 m.1.1.1.1.0 in
         let gives_back = on kinds.Release kinds.Look (place (places.ReleaseDirectory page)) (place (places.Look page))
         looked refl m.1.1.1.1.0 m.1.1.1.1.1.0 in
         let looks = moves kinds.Look (under (place (places.Look page))) (place (places.Look page)) looked

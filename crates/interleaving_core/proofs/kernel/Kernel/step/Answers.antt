@@ -109,7 +109,8 @@ moves g c kind is =
 moved : (g : given.Over) (c : After-note_entry g) (kind : Kind) → c.step-did.result ≡ progress.Moved kind →
     (searches : CountsState) (ends : Bool) → ends ≡ ends_by kind (is_searching c.step-did.new.self) →
     Notes c.args.seat kind (begins_search kind c.args.seat c.step-did.new.locks)
-    (goes_on_from kind c.args.seat c.last_page-before.result c.step-did.new.locks) ends c.self.inside.searches searches →
+    (goes_on_from kind c.args.seat c.last_page-before.result c.step-did.new.locks) ends c.self.inside.searches
+    searches →
     MakesStep g.K.PseudoKey.of_key c.args.seat (steps.Moved kind) c.args.self.now (record {
       keys = c.self.inside.keys;
       pool = c.step-did.new.pool;
