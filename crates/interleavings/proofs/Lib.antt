@@ -39,6 +39,7 @@ pub mod FlushLemmas
 pub mod RunLemmas
 pub mod LeadLemmas
 pub mod EnterLemmas
+pub mod PhaseLemmas
 pub mod CountLemmas
 pub mod CountedLemmas
 pub mod OpenLemmas
