@@ -126,28 +126,28 @@ first_of : (a b : Bool) → (a && b) ≡ true → a ≡ true
 first_of a b is = (and_parts a b is).0
 
 -- a count behind a step of any seat: that of a search which is over stays
-behind_by : Bool → Kind → UnderWay → SearchCount → SearchCount
+abbrev behind_by : Bool → Kind → UnderWay → SearchCount → SearchCount
 behind_by over kind u c = record c {
   changes = if over then c.changes else min (c.changes + hops_added kind) MOST_COUNTED;
   calm = if over then c.calm else c.calm && is_nothing u;
 }
 
 -- and behind its own
-own_by : (over hops ends : Bool) → SearchCount → SearchCount
+abbrev own_by : (over hops ends : Bool) → SearchCount → SearchCount
 own_by over hops ends c = if over then c else gone_count hops ends c
 
 module _ {F : Type 0} (hash : RecordKey → ℕ) (seat : ℕ) (turn : Turn) (did : Progress F) (facts facts' : List Known)
     (old new : World) (step : IsOwnStep hash seat turn did facts facts' old new) (fine : is_fault did ≡ false)
     (counts counts' : CountsState) (by_step : CountsBy seat did old.locks new.locks counts counts')
     (phase : counts.under_way ≡ under_way_in old.change) where
-  does_turn : (kind : Kind) → did ≡ progress.Moved kind → TurnsAt hash turn (progress.Moved {F} kind) seat old new
+  does_turn : (kind : Kind) → did ≡ progress.Moved kind → TurnsAt {F = F} hash turn (progress.Moved kind) seat old new
   does_turn kind is = subst (λ (d : Progress F). TurnsAt hash turn d seat old new) is step.does
 
   does_kind : (kind : Kind) → did ≡ progress.Moved kind → Does hash kind seat old new
   does_kind kind is = is_of_its_kind hash seat old new turn kind (does_turn kind is)
 
-  notes : (kind : Kind) → did ≡ progress.Moved kind → CountsBy seat (progress.Moved {F} kind) old.locks new.locks counts
-      counts'
+  notes : (kind : Kind) → did ≡ progress.Moved kind → CountsBy {F = F} seat (progress.Moved kind) old.locks new.locks
+      counts counts'
   notes kind is = subst (λ (d : Progress F). CountsBy seat d old.locks new.locks counts counts') is by_step
 
   -- ---- the phase
