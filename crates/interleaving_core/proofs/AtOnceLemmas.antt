@@ -85,9 +85,25 @@ others_to w =
     (λ e. absurd cc, (λ e. absurd cc, (λ e. absurd cc, (λ e. absurd cc, (λ e. absurd cc, (λ e. absurd cc, tt))))))
 
 others_on : (w : Way (At CallView)) (new : At CallView) → AreOthers (stops_on w new)
-others_on w new =
-    (λ e. absurd cc, (λ e. absurd cc, (λ e. absurd cc, (λ e. absurd cc, (λ e. absurd cc, (λ e. absurd cc,
-    (λ e. absurd cc, tt)))))))
+others_on w new = (
+  λ e. absurd cc,
+  (
+    λ e. absurd cc,
+    (
+      λ e. absurd cc,
+      (
+        λ e. absurd cc,
+        (
+          λ e. absurd cc,
+          (
+            λ e. absurd cc,
+            (λ e. absurd cc, tt),
+          ),
+        ),
+      ),
+    ),
+  ),
+)
 
 -- ---- what they leave of the call
 

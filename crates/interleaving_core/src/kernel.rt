@@ -3,7 +3,6 @@
 ghost use Rattle.std.specs.Prelude.{◌≡◌, ◌↔◌, ◌+◌, ◌*◌, ◌^◌, ◌≤◌, ◌<◌, Some, false, true, IsTrue, IsErrAnd, IfErr, IfOk, length, sum_by};
 ghost use Rattle.std.specs.List.{list_any};
 ghost use Rattle.page_device.specs.Device.{HasRisen};
-ghost use Rattle.interleaving_core.specs.Counting.{count_at};
 ghost use Rattle.interleaving_core.specs.Active.{ActiveView};
 ghost use Rattle.interleaving_core.specs.Beginning.{HasCall, HasSystem, IsOpened, IsRefused, IsStopped, MayRefuse};
 ghost use Rattle.interleaving_core.specs.Closing.{IfBusy, IsBusy, IsFlushedTo, IsReleased, OnDevice, fault_in, has_one, is_busy, journal_in};
@@ -13,13 +12,13 @@ ghost use Rattle.interleaving_core.specs.Owing.{IsTurn, told_of_failure};
 ghost use Rattle.interleaving_core.specs.Turn.{TakesTurn};
 ghost use Rattle.interleaving_core.specs.Words.{IsSeat, caller_at};
 
+mod counting;
 mod driving;
 mod holding;
 mod renewing;
 
 use crate::active::{decided_by, note_entry};
 use crate::closing::{Closed, NotClosed};
-use crate::count::SearchCount;
 use crate::counts::SearchCounts;
 use crate::fault::{BeginFault, CloseFault, Failure, OpenFault};
 use crate::opening::{copied, idle_seats, least_frames};
@@ -210,27 +209,6 @@ impl<D: PageDevice + Drop, K: PseudoKey + Drop> Kernel<D, K> {
         self.failure
     }
 
-    /// How often the last search of a seat went on from one page to another, since it was granted the
-    /// directory. It stays until the seat's next search, is 0 before its first, and counts no more
-    /// from `u64::MAX` on.
-    pub fn hops(&self, seat: u8) -> u64
-        requires { IsSeat self.now.locks seat }
-        ensures { result ≡ (count_at self.now.searches.counts seat).hops }
-    {
-        self.count(seat).hops
-    }
-
-    /// How many WriteOlds and Tombstones seats have made, the steps that may make a search longer by a
-    /// hop, from where the last search of a seat was granted the directory up to the Look by which a
-    /// page answered it. They stay until the seat's next search, are 0 before its first, and from
-    /// `u64::MAX` on count no more.
-    pub fn changes(&self, seat: u8) -> u64
-        requires { IsSeat self.now.locks seat }
-        ensures { result ≡ (count_at self.now.searches.counts seat).changes }
-    {
-        self.count(seat).changes
-    }
-
     /// A kernel is always whole, whatever the device gives.
     pub fn is_whole(&self)
         ensures { IsWhole self.now }
@@ -380,14 +358,6 @@ impl<D: PageDevice + Drop, K: PseudoKey + Drop> Kernel<D, K> {
         let journal = self.journal;
         let device = self.pool.into_device();
         Closed { device, journal }
-    }
-
-    /// What is counted of the last search of a seat.
-    fn count(&self, seat: u8) -> SearchCount
-        requires { IsSeat self.now.locks seat }
-        ensures { result ≡ count_at self.now.searches.counts seat }
-    {
-        self.searches.of(seat)
     }
 
     /// The entries that the journal has, and those that are due.
