@@ -108,7 +108,9 @@ module _ {K : Type 0} (of : K → RecordKey → ℕ) (seat : ℕ) (old : KernelS
           (with_twice old.seats seat (Some (active s.machine)) (Some (active t.machine)))
           (leads_on of seat (kernel_at n s) so_far.is_whole so_far.is_seat sound (active s.machine) (here s.machine)
           refl so_far.far.kept since (marked s.machine so_far.far.come) kind other t.machine t.pool t.locks n' makes
-          counts)
+          (subst (λ (xs : Seats). Counts seat (steps.Moved kind) (kernel_at n s)
+          (record old { pool = t.pool; locks = t.locks; seats = xs; searches = n' }))
+          (sym (with_twice old.seats seat (Some (active s.machine)) (Some (active t.machine)))) counts))
 
   -- a move by which no search begins, goes on or ends, and no change does, changes no count
   unnoted : (kind : Kind) (begins goes_on ends : Bool) → changes_counts kind begins goes_on ends ≡ false →
@@ -198,10 +200,10 @@ module _ {K : Type 0} (of : K → RecordKey → ℕ) (seat : ℕ) (slot : Option
   is : IsSeat old.locks seat
   is = is_its seat slot old now view whole seated at_slot
 
-  here : call_at old.seats seat ≡ Some a
-  here = sym (slot_is seat slot old now view whole seated at_slot) ∙ there
+  its_call : call_at old.seats seat ≡ Some a
+  its_call = sym (slot_is seat slot old now view whole seated at_slot) ∙ there
 
-  come : ActiveView
+  abbrev come : ActiveView
   come = record {
     machine = m;
     draft = a.draft;
@@ -245,7 +247,7 @@ module _ {K : Type 0} (of : K → RecordKey → ℕ) (seat : ℕ) (slot : Option
   asked_at_once still ends_is marked undecided asks =
       left_by 7 old.locks (marked ∙ ap (λ (c : Option Conclusion). decided_by c many a.decided)
       (sym (undecided_at a.machine.stage undecided)))
-      (seven_steps of seat old whole is sound a here (none_is a.wait awake) kept noted ended has notes ends over still m
+      (seven_steps of seat old whole is sound a its_call (none_is a.wait awake) kept noted ended has notes ends over still m
       (asks old.stopped) ends_is)
 
   -- by a write that went to its page so, by which its call is marked as by a step
@@ -257,5 +259,5 @@ module _ {K : Type 0} (of : K → RecordKey → ℕ) (seat : ℕ) (slot : Option
       let run = reaches old.stopped in
       left_by 6 locks (marked ∙ ap (λ (c : Option Conclusion). decided_by c many a.decided)
       (reached_far (of old.keys) seat old.stopped a.machine a.draft m old.pool old.locks locks run kept).come)
-      (six_steps of seat old whole is sound a here (none_is a.wait awake) kept noted ended has notes ends over m locks
+      (six_steps of seat old whole is sound a its_call (none_is a.wait awake) kept noted ended has notes ends over m locks
       run ends_is)
