@@ -5,21 +5,21 @@ use Rattle.std.specs.Prelude.{⊤}
 use Rattle.std.specs.Option.{is_some}
 use Rattle.file_pages.specs.declared.fault.FileFault.{FileFault}
 use Rattle.page_locks.proofs.ChangeLemmas.{IsSeat-with_row}
-use Rattle.step_rules.specs.Runs.{MovesAlong, Stop, end_of, stop}
+use Rattle.step_rules.specs.Runs.{MovesAlong, Stop, end_of}
 use Rattle.step_rules.specs.declared.kind.Kind.{Kind}
 use Rattle.step_rules.specs.declared.kind.Kind.TheVariants as kinds
 use Rattle.step_rules.specs.declared.progress.Progress.TheVariants as progress
 use Rattle.xsi_calls.specs.CallSteps.{MakesCall}
-use Rattle.xsi_calls.specs.Machine.{conclusion_at, is_undecided}
+use Rattle.xsi_calls.specs.Machine.{conclusion_at, is_searching, is_undecided}
 use Rattle.xsi_calls.specs.Stages.{Paying, Releasing, Stage, Undecided}
-use Rattle.xsi_calls.specs.Words.{AskStep, AsksAtOnce, At, ReachesAtOnce, Way, at}
+use Rattle.xsi_calls.specs.Words.{AskStep, AsksAtOnce, At, ReachesAtOnce, Way, at, stops_on, stops_to}
 use Rattle.xsi_calls.specs.declared.conclusion.Conclusion.{Conclusion}
 use Rattle.interleaving_core.specs.Words.{Answer, CallView, Entry, IsSeat, PoolState, Progress, RecordKey, Table, answer_of_call, conclusion_of}
 use Rattle.interleaving_core.specs.Active.{ActiveView, IsDrafted, IsKept, decided_by, draft_by, entries_by}
-use Rattle.interleaving_core.specs.Counting.{CountsState, changes_counts}
+use Rattle.interleaving_core.specs.Counting.{CountsState}
 use Rattle.interleaving_core.specs.Driving.{IsStep}
 use Rattle.interleaving_core.specs.Kernel.{IsWhole, KernelState, call_at, with_call}
-use Rattle.interleaving_core.specs.Searches.{Counts, begins_search, goes_on}
+use Rattle.interleaving_core.specs.Searches.{Counts}
 use Rattle.interleaving_core.specs.Turn.{Turns}
 use Rattle.interleaving_core.specs.Waiting.{stays_waiting}
 use Rattle.interleaving_core.specs.declared.active.Draft.{Draft}
@@ -73,97 +73,70 @@ module _ (hash : RecordKey → ℕ) (seat : ℕ) (stopped : Bool) (kind : Kind) 
   pub far_on : (first : CallView) (draft : Option Draft) → IsAsFar first draft m → IsAsFar first draft m'
   far_on first draft so_far = record { come = come_on ∙ so_far.come; kept = drafted_on draft so_far.kept }
 
--- ---- moves behind the reading of the depth
+-- ---- those of a question and a write
 
--- one that is no Decide, and by which no search begins or goes on, nor a change
-pub record IsQuiet (seat : ℕ) (kind : Kind) : Type 0 where
-  pub other : kind ≡ kinds.Decide → ⊥
-  pub uncounted : (locks locks' : Table) →
-      changes_counts kind (begins_search kind seat locks') (goes_on kind seat locks locks') ≡ false
+-- none is a Decide
+abbrev pub AreOthers : List (Stop (At CallView)) → Type 0
+AreOthers [] = ⊤
+AreOthers (next ∷ stops) = (next.kind ≡ kinds.Decide → ⊥) × AreOthers stops
 
-abbrev pub AreQuiet : ℕ → List (Stop (At CallView)) → Type 0
-AreQuiet seat [] = ⊤
-AreQuiet seat (next ∷ stops) = IsQuiet seat next.kind × AreQuiet seat stops
+others_to : (w : Way (At CallView)) → AreOthers (stops_to w)
+others_to w =
+    (λ e. absurd cc, (λ e. absurd cc, (λ e. absurd cc, (λ e. absurd cc, (λ e. absurd cc, (λ e. absurd cc, tt))))))
 
--- those of a write, and of a question
-abbrev pub to_look : Way (At CallView) → List (Stop (At CallView))
-to_look w =
-    stop kinds.ReadEntry w.named
-    ∷ stop kinds.Grant w.arrived
-    ∷ stop kinds.Release w.alone
-    ∷ stop kinds.Look w.looked
-    ∷ []
-
-abbrev pub to_answer : Way (At CallView) → At CallView → List (Stop (At CallView))
-to_answer w new =
-    stop kinds.ReadEntry w.named
-    ∷ stop kinds.Grant w.arrived
-    ∷ stop kinds.Release w.alone
-    ∷ stop kinds.Look w.looked
-    ∷ stop kinds.Release new
-    ∷ []
-
-module _ (seat : ℕ) where
-  pub grant : IsQuiet seat kinds.Grant
-  grant = record { other = λ e. absurd cc; uncounted = λ locks locks'. refl }
-
-  release : IsQuiet seat kinds.Release
-  release = record { other = λ e. absurd cc; uncounted = λ locks locks'. refl }
-
-  read_entry : IsQuiet seat kinds.ReadEntry
-  read_entry = record { other = λ e. absurd cc; uncounted = λ locks locks'. refl }
-
-  look : IsQuiet seat kinds.Look
-  look = record { other = λ e. absurd cc; uncounted = λ locks locks'. refl }
-
-  pub quiet_to : (w : Way (At CallView)) → AreQuiet seat (to_look w)
-  quiet_to w = (read_entry, (grant, (release, (look, tt))))
-
-  pub quiet_on : (w : Way (At CallView)) (new : At CallView) → AreQuiet seat (to_answer w new)
-  quiet_on w new = (read_entry, (grant, (release, (look, (release, tt)))))
+others_on : (w : Way (At CallView)) (new : At CallView) → AreOthers (stops_on w new)
+others_on w new = (
+  λ e. absurd cc,
+  (
+    λ e. absurd cc,
+    (
+      λ e. absurd cc,
+      (
+        λ e. absurd cc,
+        (
+          λ e. absurd cc,
+          (
+            λ e. absurd cc,
+            (λ e. absurd cc, tt),
+          ),
+        ),
+      ),
+    ),
+  ),
+)
 
 -- ---- what they leave of the call
 
 module _ (hash : RecordKey → ℕ) (seat : ℕ) (stopped : Bool) (m : CallView) (draft : Option Draft) where
   abbrev Along : At CallView → List (Stop (At CallView)) → Type 0
-  Along s stops = MovesAlong (AskStep (MakesCall hash seat stopped) seat) s stops
+  Along s stops = MovesAlong (AskStep (MakesCall hash seat stopped)) s stops
 
   far_behind : (kind : Kind) → (kind ≡ kinds.Decide → ⊥) → (s t : At CallView) →
-      AskStep (MakesCall hash seat stopped) seat (progress.Moved kind) s t → IsAsFar m draft s.machine →
+      AskStep (MakesCall hash seat stopped) (progress.Moved kind) s t → IsAsFar m draft s.machine →
       IsAsFar m draft t.machine
   far_behind kind other s t step so_far =
-      far_on hash seat stopped kind other s.machine t.machine s.pool t.pool s.locks t.locks step.makes m draft so_far
+      far_on hash seat stopped kind other s.machine t.machine s.pool t.pool s.locks t.locks step m draft so_far
 
-  far_along : (stops : List (Stop (At CallView))) → AreQuiet seat stops → (s : At CallView) → Along s stops →
+  far_along : (stops : List (Stop (At CallView))) → AreOthers stops → (s : At CallView) → Along s stops →
       IsAsFar m draft s.machine → IsAsFar m draft (end_of s stops).machine
-  far_along [] quiet s moves so_far = so_far
-  far_along (next ∷ stops) quiet s moves so_far =
-      far_along stops quiet.1 next.state moves.1
-      (far_behind next.kind quiet.0.other s next.state moves.0 so_far)
-
-  far_through : (kept : IsDrafted m draft) (pool : PoolState) (locks : Table) (l d : At CallView)
-      (stops : List (Stop (At CallView))) → AreQuiet seat stops →
-      Along (at m pool locks) (stop kinds.Grant l ∷ stop kinds.ReadDepth d ∷ stops) →
-      IsAsFar m draft (end_of d stops).machine
-  far_through kept pool locks l d stops quiet moves =
-      far_along stops quiet d moves.1.1
-      (far_behind kinds.ReadDepth (λ e. absurd cc) l d moves.1.0
-      (far_behind kinds.Grant (λ e. absurd cc) (at m pool locks) l moves.0 (record { come = refl; kept = kept })))
+  far_along [] others s moves so_far = so_far
+  far_along (next ∷ stops) others s moves so_far =
+      far_along stops others.1 next.state moves.1 (far_behind next.kind others.0 s next.state moves.0 so_far)
 
   pub asked_far : (m' : CallView) (pool : PoolState) (locks : Table) →
-      AsksAtOnce (MakesCall hash seat stopped) seat m m' pool locks → IsDrafted m draft → IsAsFar m draft m'
+      AsksAtOnce (MakesCall hash seat stopped) is_searching seat m m' pool locks → IsDrafted m draft →
+      IsAsFar m draft m'
   asked_far m' pool locks asks kept =
-      let w = asks.way in
-      far_through kept pool locks w.locked w.deep (to_answer w (at m' pool locks))
-      (quiet_on seat w (at m' pool locks)) asks.moves
+      far_along (stops_on asks.way (at m' pool locks)) (others_on asks.way (at m' pool locks)) (at m pool locks)
+      asks.moves (record { come = refl; kept = kept })
 
   pub reached_far : (m' : CallView) (pool : PoolState) (locks locks' : Table) →
       ReachesAtOnce (MakesCall hash seat stopped) seat m m' pool locks locks' → IsDrafted m draft →
       IsAsFar m draft m'
   reached_far m' pool locks locks' reaches kept =
-      let w = reaches.way in
       subst (λ (s : At CallView). IsAsFar m draft s.machine) reaches.arrives
-      (far_through kept pool locks w.locked w.deep (to_look w) (quiet_to seat w) reaches.moves)
+      (far_along (stops_to reaches.way) (others_to reaches.way) (at m pool locks) reaches.moves
+      (record { come = refl; kept = kept }))
 
 none_some : (o : Option ℕ) → is_some o ≡ false → IsSome o → ⊥
 none_some None none some = absurd cc

@@ -131,16 +131,18 @@ same_many seat (steps.Answered answer) old new counts = ap (λ (s : CountsState)
 same_many seat steps.Idle old new counts = ap (λ (s : CountsState). length s.counts) counts
 same_many seat (steps.Fault fault) old new counts = ap (λ (s : CountsState). length s.counts) counts
 
--- from the page on which its row ended
-pub counts_by : {K : Type 0} (seat : ℕ) (did : Step) (old new : KernelState K) (before : ℕ) →
-    before ≡ ends_on (row_of old.locks seat) →
-    CountsFrom seat did before new.locks old.searches new.searches → Counts seat did old new
-counts_by seat did old new before is counts =
-    by did (subst (λ (n : ℕ). CountsFrom seat did n new.locks old.searches new.searches) is counts)
+-- from the page on which its row ended, with the call that is left
+pub counts_by : {K : Type 0} (seat : ℕ) (did : Step) (old new : KernelState K) (before : ℕ)
+    (left : Option ActiveView) → before ≡ ends_on (row_of old.locks seat) → call_at new.seats seat ≡ left →
+    CountsFrom seat did before left new.locks old.searches new.searches → Counts seat did old new
+counts_by seat did old new before left is there counts =
+    by did (subst (λ (a : Option ActiveView). CountsFrom seat did (ends_on (row_of old.locks seat)) a new.locks
+    old.searches new.searches) (sym there)
+    (subst (λ (n : ℕ). CountsFrom seat did n left new.locks old.searches new.searches) is counts))
   where
     by : (d : Step) →
-        CountsFrom seat d (ends_on (row_of old.locks seat)) new.locks old.searches new.searches →
-        Counts seat d old new
+        CountsFrom seat d (ends_on (row_of old.locks seat)) (call_at new.seats seat) new.locks old.searches
+        new.searches → Counts seat d old new
     by (steps.Moved kind) counts = counts
     by (steps.Blocked other) counts = counts
     by steps.Waiting counts = counts

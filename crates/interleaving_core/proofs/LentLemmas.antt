@@ -13,6 +13,7 @@ use Rattle.interleaving_core.specs.declared.step.Step.TheVariants as steps
 use Rattle.interleaving_core.proofs.AnewLemmas.{turn_does}
 use Rattle.interleaving_core.proofs.FailureLemmas.{none_blamed}
 use Rattle.interleaving_core.proofs.KernelLemmas.{MakesStep, its_row, makes_step, seat_there, slot_here}
+use Rattle.interleaving_core.proofs.PlaceLemmas.{Seats, at_same, with_place}
 use Rattle.interleaving_core.proofs.RunLemmas.{fails_put}
 use Rattle.interleaving_core.proofs.SeatLemmas.{stays_idle, waits_on}
 use Rattle.interleaving_core.proofs.TurnLemmas.{Does}
@@ -25,6 +26,12 @@ module _ {K : Type 0} (seat : ℕ) (slot : Option ActiveView) (old now : KernelS
 
   pub slot_is : slot ≡ call_at old.seats seat
   slot_is = slot_here old.seats seat slot is_its.0 (seat_there old whole seat is_its) at_slot
+
+  -- the call that is left at it
+  pub left_there : (left : Option ActiveView) → call_at (slice_set old.seats (seat - 1) left) seat ≡ left
+  left_there left =
+      ap (λ (xs : Seats). call_at xs seat) (with_place old.seats seat left is_its.0)
+      ∙ at_same old.seats seat left is_its.0 (seat_there old whole seat is_its)
 
   -- the row of the seat is that of its call
   pub row_there : (a : ActiveView) → slot ≡ Some a → row_of old.locks seat ≡ call_locks a.machine

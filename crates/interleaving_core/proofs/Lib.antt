@@ -14,6 +14,7 @@ pub mod SparedLemmas
 pub mod BeginLemmas
 pub mod RunLemmas
 pub mod LentLemmas
+pub mod HoldingLemmas
 pub mod DriveLemmas
 pub mod RenewLemmas
 pub mod ReseatLemmas

@@ -1,23 +1,23 @@
 -- A question of a seat's call that is asked in one go, and a write that goes to its page so, are so many steps of a
 -- kernel.
-use Rattle.std.proofs.Common.{◌≡◌, refl, sym, ap, ◌∙◌, subst, ℕ, suc, ◌-◌, Bool, true, false, List, [], ◌∷◌, Option, Some, None, length, slice_set, slice_index_or}
+use Rattle.std.proofs.Common.{◌≡◌, refl, sym, ap, ◌∙◌, subst, ℕ, suc, ◌-◌, Bool, true, false, not, List, Option, Some, None, length, slice_set, slice_index_or}
 use Rattle.std.specs.Option.{is_some}
-use Rattle.step_rules.specs.Runs.{MovesAlong, Stop, end_of, stop}
+use Rattle.step_rules.specs.Runs.{MovesAlong, Stop}
 use Rattle.step_rules.specs.declared.kind.Kind.{Kind}
 use Rattle.step_rules.specs.declared.kind.Kind.TheVariants as kinds
 use Rattle.step_rules.specs.declared.progress.Progress.TheVariants as progress
 use Rattle.xsi_calls.specs.CallSteps.{MakesCall}
-use Rattle.xsi_calls.specs.Machine.{is_undecided}
-use Rattle.xsi_calls.specs.Words.{AskStep, AsksAtOnce, At, ReachesAtOnce, at}
+use Rattle.xsi_calls.specs.Machine.{is_searching, is_undecided}
+use Rattle.xsi_calls.specs.Words.{AskStep, AsksAtOnce, At, ReachesAtOnce, SearchesOnce, Way, at, stops_to}
 use Rattle.xsi_calls.specs.declared.conclusion.Conclusion.{Conclusion}
 use Rattle.interleaving_core.specs.Words.{CallView, IsSeat, PoolState, RecordKey, Table, conclusion_of}
 use Rattle.interleaving_core.specs.Active.{ActiveView, IsDrafted, decided_by}
-use Rattle.interleaving_core.specs.Counting.{AreSoundCounts, CountsState, IsCountedSeat, Notes}
+use Rattle.interleaving_core.specs.Counting.{AreSoundCounts, CountsState, Notes, changes_counts}
 use Rattle.interleaving_core.specs.Driving.{Moves}
 use Rattle.interleaving_core.specs.Kernel.{IsWhole, KernelState, call_at, with_call}
-use Rattle.interleaving_core.specs.Searches.{Counts, begins_search, goes_on, is_shared}
+use Rattle.interleaving_core.specs.Searches.{Counts, ends_search}
 use Rattle.interleaving_core.specs.declared.step.Step.TheVariants as steps
-use Rattle.interleaving_core.proofs.AtOnceLemmas.{AreQuiet, IsAsFar, IsQuiet, LeadsOn, far_on, grant, leads_on, none_is, quiet_on, quiet_to, reached_far, to_answer, to_look, undecided_at}
+use Rattle.interleaving_core.proofs.AtOnceLemmas.{IsAsFar, LeadsOn, far_on, leads_on, none_is, reached_far, undecided_at}
 use Rattle.interleaving_core.proofs.CountLemmas.{none_noted}
 use Rattle.interleaving_core.proofs.KernelLemmas.{is_counted, seat_there}
 use Rattle.interleaving_core.proofs.LentLemmas.{is_its, slot_is}
@@ -30,11 +30,6 @@ pub record MadeAtOnce {K : Type 0} (of : K → RecordKey → ℕ) (seat n : ℕ)
 
 -- ---- moves of a call, each of which leads on
 
--- so many, and as many as these
-abbrev and_stops : ℕ → List (Stop (At CallView)) → ℕ
-and_stops n [] = n
-and_stops n (next ∷ stops) = and_stops (suc n) stops
-
 marked_twice : (c : Option Conclusion) (many decided : ℕ) →
     decided_by c many decided ≡ decided_by c many (decided_by c many decided)
 marked_twice None many decided = refl
@@ -43,8 +38,9 @@ marked_twice (Some c) many decided = refl
 module _ {K : Type 0} (of : K → RecordKey → ℕ) (seat : ℕ) (old : KernelState K) (whole : IsWhole old)
     (is : IsSeat old.locks seat) (sound : old.failed ≡ false) (a : ActiveView)
     (there : call_at old.seats seat ≡ Some a) (awake : a.wait ≡ None) (kept : IsDrafted a.machine a.draft)
-    (noted : CountsState) (had : AreSoundCounts old.searches) (has : AreSoundCounts noted)
-    (notes : Notes seat kinds.ReadDepth true false old.searches noted) where
+    (noted ended : CountsState) (has : AreSoundCounts noted)
+    (notes : Notes seat kinds.Grant true false false old.searches noted) (ends : Bool)
+    (over : Notes seat kinds.Look false false ends noted ended) where
   -- how long the journal was at its Decide, or is
   abbrev since : ℕ
   since = decided_by (conclusion_of a.machine) (length old.journal) a.decided
@@ -112,49 +108,75 @@ module _ {K : Type 0} (of : K → RecordKey → ℕ) (seat : ℕ) (old : KernelS
           (with_twice old.seats seat (Some (active s.machine)) (Some (active t.machine)))
           (leads_on of seat (kernel_at n s) so_far.is_whole so_far.is_seat sound (active s.machine) (here s.machine)
           refl so_far.far.kept since (marked s.machine so_far.far.come) kind other t.machine t.pool t.locks n' makes
-          counts)
+          (subst (λ (xs : Seats). Counts seat (steps.Moved kind) (kernel_at n s)
+          (record old { pool = t.pool; locks = t.locks; seats = xs; searches = n' }))
+          (sym (with_twice old.seats seat (Some (active s.machine)) (Some (active t.machine)))) counts))
 
-  -- a quiet move changes no count
-  none_counted : (kind : Kind) → IsQuiet seat kind → (n : CountsState) → AreSoundCounts n → (k : KernelState K) →
-      IsWhole k → k.searches ≡ n → IsSeat k.locks seat → (locks locks' : Table) →
-      Notes seat kind (begins_search kind seat locks') (goes_on kind seat locks locks') n n
-  none_counted kind quiet n calm k whole_k same is_k locks locks' =
-      none_noted seat kind (begins_search kind seat locks') (goes_on kind seat locks locks') n calm
-      (subst (λ (s : CountsState). IsCountedSeat s.counts seat) same (is_counted k whole_k seat is_k))
-      (quiet.uncounted locks locks')
+  -- a move by which no search begins, goes on or ends, and no change does, changes no count
+  unnoted : (kind : Kind) (begins goes_on ends : Bool) → changes_counts kind begins goes_on ends ≡ false →
+      (n : CountsState) → AreSoundCounts n → (s : At CallView) → IsWhole (kernel_at n s) → IsSeat s.locks seat →
+      Notes seat kind begins goes_on ends n n
+  unnoted kind begins goes_on ends quiet n sound s whole_s is_s =
+      none_noted seat kind begins goes_on ends n sound (is_counted (kernel_at n s) whole_s seat is_s) quiet
 
-  along : (stops : List (Stop (At CallView))) → AreQuiet seat stops → (moves : ℕ) (s : At CallView) →
-      HasLed moves noted s → MovesAlong (AskStep (MakesCall (of old.keys) seat old.stopped) seat) s stops →
-      HasLed (and_stops moves stops) noted (end_of s stops)
-  along [] quiet moves s so_far makes = so_far
-  along (stop_now ∷ stops) quiet moves s so_far makes =
-      let t = stop_now.state in
-      along stops quiet.1 (suc moves) t
-      (next moves stop_now.kind quiet.0.other noted noted s t so_far makes.0.makes
-      (none_counted stop_now.kind quiet.0 noted has (kernel_at noted s) so_far.is_whole refl so_far.is_seat s.locks
-      t.locks)) makes.1
+  abbrev Moves_to : List (Stop (At CallView)) → Type 0
+  Moves_to stops =
+      MovesAlong (AskStep (MakesCall (of old.keys) seat old.stopped)) (at a.machine old.pool old.locks) stops
 
-  -- by the second of them the depth is read, and a search begins
-  pub many_steps : (l d : At CallView) (stops : List (Stop (At CallView))) → AreQuiet seat stops →
-      MovesAlong (AskStep (MakesCall (of old.keys) seat old.stopped) seat) (at a.machine old.pool old.locks)
-      (stop kinds.Grant l ∷ stop kinds.ReadDepth d ∷ stops) → (m : CallView) (pool : PoolState) (locks : Table) →
-      end_of d stops ≡ at m pool locks →
-      MadeAtOnce of seat (and_stops 2 stops) old (kernel_at noted (at m pool locks))
-  many_steps l d stops quiet moves m pool locks ends =
-      subst (λ (s : At CallView). MadeAtOnce of seat (and_stops 2 stops) old (kernel_at noted s)) ends
+  module _ (w : Way (At CallView)) (counted : SearchesOnce seat w) (moves : Moves_to (stops_to w))
+      (ends_is : ends ≡ not (is_searching w.looked.machine)) where
+    -- by the first one a search begins
+    locked : HasLed 1 noted w.locked
+    locked = first kinds.Grant (λ e. absurd cc) noted w.locked moves.0
+        (subst (λ (b : Bool). Notes seat kinds.Grant b false false old.searches noted) (sym counted.begins) notes)
+
+    deep : HasLed 2 noted w.deep
+    deep = next 1 kinds.ReadDepth (λ e. absurd cc) noted noted w.locked w.deep locked moves.1.0
+        (unnoted kinds.ReadDepth false false false refl noted has w.locked locked.is_whole locked.is_seat)
+
+    named : HasLed 3 noted w.named
+    named = next 2 kinds.ReadEntry (λ e. absurd cc) noted noted w.deep w.named deep moves.1.1.0
+        (unnoted kinds.ReadEntry false false false refl noted has w.deep deep.is_whole deep.is_seat)
+
+    -- the other Grant is that of the page
+    arrived : HasLed 4 noted w.arrived
+    arrived = next 3 kinds.Grant (λ e. absurd cc) noted noted w.named w.arrived named moves.1.1.1.0
+        (subst (λ (b : Bool). Notes seat kinds.Grant b false false noted noted) (sym counted.once)
+        (unnoted kinds.Grant false false false refl noted has w.named named.is_whole named.is_seat))
+
+    alone : HasLed 5 noted w.alone
+    alone = next 4 kinds.Release (λ e. absurd cc) noted noted w.arrived w.alone arrived moves.1.1.1.1.0
+        (unnoted kinds.Release false false false refl noted has w.arrived arrived.is_whole arrived.is_seat)
+
+    -- and by the Look a page has answered
+    looked : HasLed 6 ended w.looked
+    looked = next 5 kinds.Look (λ e. absurd cc) noted ended w.alone w.looked alone moves.1.1.1.1.1.0
+        (subst (λ (b : Bool). Notes seat kinds.Look false false b noted ended)
+        (ends_is ∙ sym (ap (ends_search kinds.Look) (here w.looked.machine))) over)
+
+  -- a write has gone to its page
+  pub six_steps : (m : CallView) (locks : Table) →
+      ReachesAtOnce (MakesCall (of old.keys) seat old.stopped) seat a.machine m old.pool old.locks locks →
+      ends ≡ not (is_searching m) → MadeAtOnce of seat 6 old (kernel_at ended (at m old.pool locks))
+  six_steps m locks run ends_is =
+      let led = looked run.way run.counted run.moves
+      (ends_is ∙ sym (ap (λ (s : At CallView). not (is_searching s.machine)) run.arrives)) in
+      subst (λ (s : At CallView). MadeAtOnce of seat 6 old (kernel_at ended s)) run.arrives
       (record { moves = led.made; whole = led.is_whole })
-    where
-      granted : HasLed 1 old.searches l
-      granted = first kinds.Grant (λ e. absurd cc) old.searches l moves.0.makes
-          (none_counted kinds.Grant (grant seat) old.searches had old whole refl is old.locks l.locks)
 
-      deep : HasLed 2 noted d
-      deep = next 1 kinds.ReadDepth (λ e. absurd cc) old.searches noted l d granted moves.1.0.makes
-          (subst (λ (b : Bool). Notes seat kinds.ReadDepth b false old.searches noted)
-          (sym (ap is_shared (moves.1.0.shared refl))) notes)
-
-      led : HasLed (and_stops 2 stops) noted (end_of d stops)
-      led = along stops quiet 2 d deep moves.1.1
+  -- a question was asked
+  pub seven_steps : AreSoundCounts ended → (m : CallView) →
+      AsksAtOnce (MakesCall (of old.keys) seat old.stopped) is_searching seat a.machine m old.pool old.locks →
+      ends ≡ true → MadeAtOnce of seat 7 old (kernel_at ended (at m old.pool old.locks))
+  seven_steps still m run ends_is =
+      let w = run.way in
+      let n = run.moves in
+      let led = looked w run.counted (n.0, (n.1.0, (n.1.1.0, (n.1.1.1.0, (n.1.1.1.1.0, (n.1.1.1.1.1.0, tt))))))
+      (ends_is ∙ sym (ap not run.answered)) in
+      let last = next 6 kinds.Release (λ e. absurd cc) ended ended w.looked (at m old.pool old.locks) led
+      n.1.1.1.1.1.1.0
+      (unnoted kinds.Release false false false refl ended still w.looked led.is_whole led.is_seat) in
+      record { moves = last.made; whole = last.is_whole }
 
 -- ---- the kernel as it is left
 
@@ -164,51 +186,52 @@ module _ {K : Type 0} (of : K → RecordKey → ℕ) (seat : ℕ) (slot : Option
     (at_slot : slot ≡ slice_index_or old.seats (seat - 1) slot) (sound : old.failed ≡ false) (a : ActiveView)
     (there : slot ≡ Some a) (awake : is_some a.wait ≡ false) (kept : IsDrafted a.machine a.draft)
     (m : CallView) (decided many : ℕ) (as_many : many ≡ length old.journal) (pool : PoolState)
-    (same : pool ≡ old.pool) (noted : CountsState) (had : AreSoundCounts old.searches) (has : AreSoundCounts noted)
-    (notes : Notes seat kinds.ReadDepth true false old.searches noted) where
+    (same : pool ≡ old.pool) (noted ended : CountsState) (has : AreSoundCounts noted)
+    (notes : Notes seat kinds.Grant true false false old.searches noted) (ends : Bool)
+    (over : Notes seat kinds.Look false false ends noted ended) where
   abbrev left : Table → KernelState K
   left locks = record old {
     pool = pool;
     locks = locks;
     seats = slice_set old.seats (seat - 1) (Some (record a { machine = m; decided = decided }));
-    searches = noted;
+    searches = ended;
   }
 
-  left_by : decided ≡ decided_by (conclusion_of a.machine) many a.decided → (l d : At CallView)
-      (stops : List (Stop (At CallView))) → AreQuiet seat stops →
-      MovesAlong (AskStep (MakesCall (of old.keys) seat old.stopped) seat) (at a.machine old.pool old.locks)
-      (stop kinds.Grant l ∷ stop kinds.ReadDepth d ∷ stops) → (locks : Table) → end_of d stops ≡ at m old.pool locks →
-      MadeAtOnce of seat (and_stops 2 stops) now (left locks)
-  left_by marked l d stops quiet moves locks ends =
-      subst (λ (k : KernelState K). MadeAtOnce of seat (and_stops 2 stops) k (left locks)) view
-      (subst (λ (p : PoolState). MadeAtOnce of seat (and_stops 2 stops) old (record old {
+  is : IsSeat old.locks seat
+  is = is_its seat slot old now view whole seated at_slot
+
+  its_call : call_at old.seats seat ≡ Some a
+  its_call = sym (slot_is seat slot old now view whole seated at_slot) ∙ there
+
+  abbrev come : ActiveView
+  come = record {
+    machine = m;
+    draft = a.draft;
+    begun = a.begun;
+    decided = decided_by (conclusion_of a.machine) (length old.journal) a.decided;
+    wait = None;
+  }
+
+  left_by : (n : ℕ) (locks : Table) → decided ≡ decided_by (conclusion_of a.machine) many a.decided →
+      MadeAtOnce of seat n old (record old {
+        pool = old.pool;
+        locks = locks;
+        seats = with_call old.seats seat (Some come);
+        searches = ended;
+      }) → MadeAtOnce of seat n now (left locks)
+  left_by n locks marked made =
+      subst (λ (k : KernelState K). MadeAtOnce of seat n k (left locks)) view
+      (subst (λ (p : PoolState). MadeAtOnce of seat n old (record old {
         pool = p;
         locks = locks;
         seats = slice_set old.seats (seat - 1) (Some (record a { machine = m; decided = decided }));
-        searches = noted;
-      })) (sym same) (subst (λ (xs : Seats). MadeAtOnce of seat (and_stops 2 stops) old
-      (record old { locks = locks; seats = xs; searches = noted })) (sym seats_are)
-      (many_steps of seat old whole is sound a here (none_is a.wait awake) kept noted had has notes l d stops quiet
-      moves m old.pool locks ends)))
+        searches = ended;
+      })) (sym same) (subst (λ (xs : Seats). MadeAtOnce of seat n old
+      (record old { locks = locks; seats = xs; searches = ended })) (sym seats_are) made))
     where
-      is : IsSeat old.locks seat
-      is = is_its seat slot old now view whole seated at_slot
-
-      here : call_at old.seats seat ≡ Some a
-      here = sym (slot_is seat slot old now view whole seated at_slot) ∙ there
-
-      come : ActiveView
-      come = record {
-        machine = m;
-        draft = a.draft;
-        begun = a.begun;
-        decided = decided_by (conclusion_of a.machine) (length old.journal) a.decided;
-        wait = None;
-      }
-
       come_is : record a { machine = m; decided = decided } ≡ come
-      come_is = ap (λ (n : ℕ). record a { machine = m; decided = n })
-          (marked ∙ ap (λ (n : ℕ). decided_by (conclusion_of a.machine) n a.decided) as_many)
+      come_is = ap (λ (k : ℕ). record a { machine = m; decided = k })
+          (marked ∙ ap (λ (k : ℕ). decided_by (conclusion_of a.machine) k a.decided) as_many)
           ∙ ap (λ (w : Option ℕ). record come { wait = w }) (none_is a.wait awake)
 
       seats_are : slice_set old.seats (seat - 1) (Some (record a { machine = m; decided = decided }))
@@ -217,24 +240,24 @@ module _ {K : Type 0} (of : K → RecordKey → ℕ) (seat : ℕ) (slot : Option
           ∙ ap (λ (b : ActiveView). with_call old.seats seat (Some b)) come_is
 
   -- by a question that was asked so
-  pub asked_at_once : decided ≡ many → is_undecided a.machine.stage ≡ true →
-      ((stopped : Bool) → AsksAtOnce (MakesCall (of old.keys) seat stopped) seat a.machine m old.pool old.locks) →
+  pub asked_at_once : AreSoundCounts ended → ends ≡ true → decided ≡ many → is_undecided a.machine.stage ≡ true →
+      ((stopped : Bool) →
+      AsksAtOnce (MakesCall (of old.keys) seat stopped) is_searching seat a.machine m old.pool old.locks) →
       MadeAtOnce of seat 7 now (left old.locks)
-  asked_at_once marked undecided asks =
-      let run = asks old.stopped in
-      let w = run.way in
-      let end = at m old.pool old.locks in
-      left_by (marked ∙ ap (λ (c : Option Conclusion). decided_by c many a.decided)
-      (sym (undecided_at a.machine.stage undecided))) w.locked w.deep (to_answer w end) (quiet_on seat w end) run.moves
-      old.locks refl
+  asked_at_once still ends_is marked undecided asks =
+      left_by 7 old.locks (marked ∙ ap (λ (c : Option Conclusion). decided_by c many a.decided)
+      (sym (undecided_at a.machine.stage undecided)))
+      (seven_steps of seat old whole is sound a its_call (none_is a.wait awake) kept noted ended has notes ends over still m
+      (asks old.stopped) ends_is)
 
   -- by a write that went to its page so, by which its call is marked as by a step
-  pub reached_at_once : (locks : Table) → decided ≡ decided_by (conclusion_of m) many a.decided →
+  pub reached_at_once : (locks : Table) → ends ≡ not (is_searching m) →
+      decided ≡ decided_by (conclusion_of m) many a.decided →
       ((stopped : Bool) → ReachesAtOnce (MakesCall (of old.keys) seat stopped) seat a.machine m old.pool old.locks
       locks) → MadeAtOnce of seat 6 now (left locks)
-  reached_at_once locks marked reaches =
+  reached_at_once locks ends_is marked reaches =
       let run = reaches old.stopped in
-      let w = run.way in
-      left_by (marked ∙ ap (λ (c : Option Conclusion). decided_by c many a.decided)
-      (reached_far (of old.keys) seat old.stopped a.machine a.draft m old.pool old.locks locks run kept).come) w.locked
-      w.deep (to_look w) (quiet_to seat w) run.moves locks run.arrives
+      left_by 6 locks (marked ∙ ap (λ (c : Option Conclusion). decided_by c many a.decided)
+      (reached_far (of old.keys) seat old.stopped a.machine a.draft m old.pool old.locks locks run kept).come)
+      (six_steps of seat old whole is sound a its_call (none_is a.wait awake) kept noted ended has notes ends over m locks
+      run ends_is)

@@ -1,5 +1,5 @@
--- What is counted of a seat's last search, and of what other seats did meanwhile. docs/STEPS.md, "Search".
-use Rattle.std.specs.Prelude.{ℕ, zero, suc, ◌≡◌, ◌≢◌, ◌≤◌, ◌+◌, min, Bool, true, false, ◌&&◌, ◌||◌, List, length, replicate, slice_index_or}
+-- What is counted of a seat's last search, and of what was done meanwhile. docs/STEPS.md, "Search".
+use Rattle.std.specs.Prelude.{ℕ, zero, suc, ◌≡◌, ◌≢◌, ◌≤◌, ◌+◌, min, Bool, true, false, ◌&&◌, ◌||◌, if◌then◌else◌, List, length, replicate, slice_index_or}
 use Rattle.std.specs.List.{All}
 use Rattle.step_rules.specs.Kinds.{may_lengthen}
 use Rattle.step_rules.specs.Ways.{hops_added}
@@ -33,22 +33,32 @@ is_nothing Merge = false
 
 -- the greatest number that is counted
 abbrev pub MOST_COUNTED : ℕ
-MOST_COUNTED = 4294967295
+MOST_COUNTED = 18446744073709551615
+
+-- before the first search of a seat
+abbrev pub unbegun_count : SearchCount
+unbegun_count = record { hops = 0; changes = 0; calm = true; over = true }
 
 -- a search that begins while this is under way
 abbrev pub begun_count : UnderWay → SearchCount
-begun_count u = record { hops = 0; changes = 0; calm = is_nothing u }
+begun_count u = record { hops = 0; changes = 0; calm = is_nothing u; over = false }
 
--- after a step of the seat itself, by which a search begins, or goes on to another page
-abbrev pub own_count : (begins goes_on : Bool) → UnderWay → SearchCount → SearchCount
-own_count true goes_on u c = begun_count u
-own_count false true u c = record c { hops = min (c.hops + 1) MOST_COUNTED; calm = c.calm && is_nothing u }
-own_count false false u c = record c { calm = c.calm && is_nothing u }
+-- after a step of any seat; that of a search which is over stays
+abbrev pub count_behind : Kind → UnderWay → SearchCount → SearchCount
+count_behind kind u c = record c {
+  changes = if c.over then c.changes else min (c.changes + hops_added kind) MOST_COUNTED;
+  calm = if c.over then c.calm else c.calm && is_nothing u;
+}
 
--- after a step of another seat
-abbrev pub count_beside : Kind → UnderWay → SearchCount → SearchCount
-count_beside kind u c =
-    record c { changes = min (c.changes + hops_added kind) MOST_COUNTED; calm = c.calm && is_nothing u }
+-- a search that is under way has gone on to another page, or a page has answered it
+abbrev pub gone_count : (goes_on ends : Bool) → SearchCount → SearchCount
+gone_count true ends c = record c { hops = min (c.hops + 1) MOST_COUNTED; over = ends }
+gone_count false ends c = record c { over = ends }
+
+-- after a step of the seat itself, by which a search begins, or the one under way goes on, or ends
+abbrev pub own_count : (begins goes_on ends : Bool) → UnderWay → SearchCount → SearchCount
+own_count true goes_on ends u c = begun_count u
+own_count false goes_on ends u c = if c.over then c else gone_count goes_on ends c
 
 -- the kinds with which a split and a merge begin
 abbrev pub begins_change : Kind → Bool
@@ -56,9 +66,9 @@ begins_change kinds.TakePage = true
 begins_change kinds.WriteLeft = true
 begins_change kind = false
 
--- the kinds by which it may come to differ
-abbrev pub touches_others : Kind → Bool
-touches_others kind = may_lengthen kind || begins_change kind
+-- the kinds by which the counts of all seats may come to differ
+abbrev pub touches_all : Kind → Bool
+touches_all kind = may_lengthen kind || begins_change kind
 
 -- the kinds with which a split or a merge ends
 abbrev pub ends_change : Kind → Bool
@@ -67,8 +77,9 @@ ends_change kinds.LinkFree = true
 ends_change kind = false
 
 -- whether any count may come to differ
-abbrev pub changes_counts : Kind → (begins goes_on : Bool) → Bool
-changes_counts kind begins goes_on = begins || (goes_on || (touches_others kind || ends_change kind))
+abbrev pub changes_counts : Kind → (begins goes_on ends : Bool) → Bool
+changes_counts kind begins goes_on ends =
+    begins || (goes_on || (ends || (touches_all kind || ends_change kind)))
 
 -- ---- all seats
 
@@ -78,7 +89,7 @@ pub record CountsState : Type 0 where
 
 -- what stands for a number that is no seat's: a count that no step changes
 abbrev pub no_count : SearchCount
-no_count = record { hops = MOST_COUNTED; changes = MOST_COUNTED; calm = false }
+no_count = record { hops = MOST_COUNTED; changes = MOST_COUNTED; calm = false; over = true }
 
 -- the count of a seat; seats count from 1
 abbrev pub count_at : List SearchCount → ℕ → SearchCount
@@ -90,18 +101,20 @@ IsCountedSeat counts seat = (1 ≤ seat) × (seat ≤ length counts)
 
 -- so many seats that have not searched
 abbrev pub opened_counts : ℕ → CountsState
-opened_counts n = record { counts = replicate n (begun_count Nothing); under_way = Nothing }
+opened_counts n = record { counts = replicate n unbegun_count; under_way = Nothing }
 
 -- what is true of all counts
 pub record AreSoundCounts (s : CountsState) : Type 0 where
   pub few : All (λ (c : SearchCount). c.changes ≤ MOST_COUNTED) s.counts
-  -- while something is under way no count is calm
-  pub stirred : is_nothing s.under_way ≡ false → All (λ (c : SearchCount). c.calm ≡ false) s.counts
+  -- while something is under way that of no search under way is calm
+  pub stirred : is_nothing s.under_way ≡ false → All (λ (c : SearchCount). c.over ≡ false → c.calm ≡ false) s.counts
 
--- a step of a seat is counted, by which its search begins, or goes on to another page, or neither
-pub record Notes (seat : ℕ) (kind : Kind) (begins goes_on : Bool) (old new : CountsState) : Type 0 where
+-- a step of a seat is counted, by which its search begins, or goes on to another page, or is answered by one, or none
+-- of these
+pub record Notes (seat : ℕ) (kind : Kind) (begins goes_on ends : Bool) (old new : CountsState) : Type 0 where
   pub under_way : new.under_way ≡ change_after kind old.under_way
   pub as_many : length new.counts ≡ length old.counts
-  pub own : count_at new.counts seat ≡ own_count begins goes_on new.under_way (count_at old.counts seat)
+  pub own : count_at new.counts seat ≡
+      own_count begins goes_on ends new.under_way (count_behind kind new.under_way (count_at old.counts seat))
   pub others : (other : ℕ) → other ≢ seat →
-      count_at new.counts other ≡ count_beside kind new.under_way (count_at old.counts other)
+      count_at new.counts other ≡ count_behind kind new.under_way (count_at old.counts other)

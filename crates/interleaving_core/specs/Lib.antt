@@ -13,5 +13,6 @@ pub mod Driving
 pub mod Beginning
 pub mod Closing
 pub mod Renewing
+pub mod Holding
 pub use Rattle.file_check.specs as file_check
 pub use Rattle.xsi_calls.specs as xsi_calls

@@ -1,7 +1,7 @@
 //! What is counted of all seats.
 
 ghost use Rattle.std.specs.Prelude.{◌≡◌, false, map, IfOk};
-ghost use Rattle.interleaving_core.specs.Counting.{changes_counts, count_at, count_beside, opened_counts, touches_others};
+ghost use Rattle.interleaving_core.specs.Counting.{changes_counts, count_at, count_behind, opened_counts, touches_all};
 ghost use Rattle.interleaving_core.specs.Counting.{AreSoundCounts, IsCountedSeat, Notes};
 
 use crate::count::SearchCount;
@@ -39,7 +39,7 @@ impl SearchCounts {
     {
         let mut counts = Vec::with_capacity(alloc, seats)?;
         for _ in 0..seats {
-            counts.push(SearchCount::begun(UnderWay::Nothing))?;
+            counts.push(SearchCount::unbegun())?;
         }
         Ok(SearchCounts {
             counts,
@@ -55,8 +55,8 @@ impl SearchCounts {
         self.counts[seat as usize - 1]
     }
 
-    /// No number of changes is past the greatest, and while a structure change is under way no count
-    /// is calm.
+    /// No number of changes is past the greatest, and while a structure change is under way no search
+    /// under way is calm.
     pub fn are_sound(&self)
         ensures { AreSoundCounts self.now }
     {
@@ -64,67 +64,73 @@ impl SearchCounts {
     }
 
     /// A seat has made a step of this kind, by which a search of its own begins, or goes on to
-    /// another page, or neither. Most steps do neither, and leave all counts as they are; so it stands
-    /// in whoever makes the step.
+    /// another page, or is answered by one, or none of these. Most steps do none, and leave all counts
+    /// as they are; so it stands in whoever makes the step.
     #[inline(always)]
-    pub fn note(&mut self, seat: u8, kind: Kind, begins: bool, goes_on: bool)
+    pub fn note(&mut self, seat: u8, kind: Kind, begins: bool, goes_on: bool, ends: bool)
         requires { IsCountedSeat self.old.counts seat }
-        ensures { Notes seat kind begins goes_on self.old self.new }
+        ensures { Notes seat kind begins goes_on ends self.old self.new }
     {
-        if self.is_counted(seat, kind, begins, goes_on) {
-            self.count(seat, kind, begins, goes_on);
+        if self.is_counted(seat, kind, begins, goes_on, ends) {
+            self.count(seat, kind, begins, goes_on, ends);
         }
     }
 
     /// Whether a step may change a count.
-    fn is_counted(&self, seat: u8, kind: Kind, begins: bool, goes_on: bool) -> bool
+    fn is_counted(&self, seat: u8, kind: Kind, begins: bool, goes_on: bool, ends: bool) -> bool
         requires { IsCountedSeat self.now.counts seat }
-        ensures { result ≡ false → Notes seat kind begins goes_on self.now self.now }
+        ensures { result ≡ false → Notes seat kind begins goes_on ends self.now self.now }
     {
         // What is always true of the counts is known of one that is read.
         let _ = &self.under_way;
-        changes_counts(kind, begins, goes_on)
+        changes_counts(kind, begins, goes_on, ends)
     }
 
-    /// A step is counted. The counts of other seats are looked at for four kinds alone.
-    fn count(&mut self, seat: u8, kind: Kind, begins: bool, goes_on: bool)
+    /// A step is counted. The counts of all seats are looked at for four kinds alone.
+    fn count(&mut self, seat: u8, kind: Kind, begins: bool, goes_on: bool, ends: bool)
         requires { IsCountedSeat self.old.counts seat }
-        ensures { Notes seat kind begins goes_on self.old self.new }
+        ensures { Notes seat kind begins goes_on ends self.old self.new }
     {
         let place = seat as usize - 1;
         let under_way = self.under_way.after(kind);
-        let own = self.counts[place].own(begins, goes_on, under_way);
-        count_others(self.counts.as_mut_slice(), kind, under_way);
+        let own = self.counts[place]
+            .behind(kind, under_way)
+            .own(begins, goes_on, ends, under_way);
+        count_all(self.counts.as_mut_slice(), kind, under_way);
         self.counts[place] = own;
         self.under_way = under_way;
     }
 }
 
 /// A step of this kind, behind which this is under way, is counted for all seats.
-fn count_others(counts: &mut [SearchCount], kind: Kind, under_way: UnderWay)
-    requires { touches_others kind ≡ false →
-        map (count_beside kind under_way) counts.old ≡ counts.old }
-    ensures { counts.new ≡ map (count_beside kind under_way) counts.old }
+fn count_all(counts: &mut [SearchCount], kind: Kind, under_way: UnderWay)
+    requires { touches_all kind ≡ false →
+        map (count_behind kind under_way) counts.old ≡ counts.old }
+    ensures { counts.new ≡ map (count_behind kind under_way) counts.old }
 {
-    if !touches_others(kind) {
+    if !touches_all(kind) {
         return;
     }
     for count in counts.iter_mut() {
-        *count = count.beside(kind, under_way);
+        *count = count.behind(kind, under_way);
     }
 }
 
 /// Whether what is counted may change by a step of this kind, by which a search begins, or goes on
-/// to another page, or neither.
-fn changes_counts(kind: Kind, begins: bool, goes_on: bool) -> bool
-    ensures { result ≡ changes_counts kind begins goes_on }
+/// to another page, or is answered by one, or none of these.
+fn changes_counts(kind: Kind, begins: bool, goes_on: bool, ends: bool) -> bool
+    ensures { result ≡ changes_counts kind begins goes_on ends }
 {
-    begins || goes_on || touches_others(kind) || matches!(kind, Kind::SetCounts | Kind::LinkFree)
+    begins
+        || goes_on
+        || ends
+        || touches_all(kind)
+        || matches!(kind, Kind::SetCounts | Kind::LinkFree)
 }
 
-/// Whether a step of this kind may change what is counted of other seats.
-fn touches_others(kind: Kind) -> bool
-    ensures { result ≡ touches_others kind }
+/// Whether a step of this kind may change what is counted of all seats.
+fn touches_all(kind: Kind) -> bool
+    ensures { result ≡ touches_all kind }
 {
     kind.may_lengthen() || matches!(kind, Kind::TakePage | Kind::WriteLeft)
 }

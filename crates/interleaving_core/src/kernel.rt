@@ -3,7 +3,6 @@
 ghost use Rattle.std.specs.Prelude.{◌≡◌, ◌↔◌, ◌+◌, ◌*◌, ◌^◌, ◌≤◌, ◌<◌, Some, false, true, IsTrue, IsErrAnd, IfErr, IfOk, length, sum_by};
 ghost use Rattle.std.specs.List.{list_any};
 ghost use Rattle.page_device.specs.Device.{HasRisen};
-ghost use Rattle.interleaving_core.specs.Counting.{count_at};
 ghost use Rattle.interleaving_core.specs.Active.{ActiveView};
 ghost use Rattle.interleaving_core.specs.Beginning.{HasCall, HasSystem, IsOpened, IsRefused, IsStopped, MayRefuse};
 ghost use Rattle.interleaving_core.specs.Closing.{IfBusy, IsBusy, IsFlushedTo, IsReleased, OnDevice, fault_in, has_one, is_busy, journal_in};
@@ -13,17 +12,18 @@ ghost use Rattle.interleaving_core.specs.Owing.{IsTurn, told_of_failure};
 ghost use Rattle.interleaving_core.specs.Turn.{TakesTurn};
 ghost use Rattle.interleaving_core.specs.Words.{IsSeat, caller_at};
 
+mod counting;
 mod driving;
+mod holding;
 mod renewing;
 
 use crate::active::{decided_by, note_entry};
 use crate::closing::{Closed, NotClosed};
-use crate::count::SearchCount;
 use crate::counts::SearchCounts;
 use crate::fault::{BeginFault, CloseFault, Failure, OpenFault};
 use crate::opening::{copied, idle_seats, least_frames};
 use crate::places::{due, failure_of, has_call, told_of_failure};
-use crate::searches::{last_page, note, note_move};
+use crate::searches::{ends_search, last_page, note, note_move};
 use crate::seat::Seat;
 use crate::step::Step;
 use bucket_page::PseudoKey;
@@ -209,26 +209,6 @@ impl<D: PageDevice + Drop, K: PseudoKey + Drop> Kernel<D, K> {
         self.failure
     }
 
-    /// How often the last search of a seat went on from one page to another, since it read the
-    /// directory's depth. It stays until the seat's next search, is 0 before its first, and counts
-    /// no more from `u32::MAX` on.
-    pub fn hops(&self, seat: u8) -> u32
-        requires { IsSeat self.now.locks seat }
-        ensures { result ≡ (count_at self.now.searches.counts seat).hops }
-    {
-        self.count(seat).hops
-    }
-
-    /// How many WriteOlds and Tombstones other seats have made, the steps that may make a search
-    /// longer by a hop, since the last search of a seat read the directory's depth. They are counted
-    /// until the seat's next search, also behind the end of this one, and from `u32::MAX` on no more.
-    pub fn changes(&self, seat: u8) -> u32
-        requires { IsSeat self.now.locks seat }
-        ensures { result ≡ (count_at self.now.searches.counts seat).changes }
-    {
-        self.count(seat).changes
-    }
-
     /// A kernel is always whole, whatever the device gives.
     pub fn is_whole(&self)
         ensures { IsWhole self.now }
@@ -300,7 +280,8 @@ impl<D: PageDevice + Drop, K: PseudoKey + Drop> Kernel<D, K> {
         );
         note_entry(&active.machine, &mut active.draft, &mut self.journal, seat);
         if let Progress::Moved(kind) = did {
-            note_move(&mut self.searches, &self.locks, seat, kind, before);
+            let ends = ends_search(kind, &active.machine);
+            note_move(&mut self.searches, &self.locks, seat, kind, before, ends);
             return Step::Moved(kind);
         }
         let step = at.settle(
@@ -313,7 +294,7 @@ impl<D: PageDevice + Drop, K: PseudoKey + Drop> Kernel<D, K> {
             seat,
         );
         self.failure = failure_of(seat, &step);
-        note(&mut self.searches, &self.locks, seat, &step, before);
+        note(&mut self.searches, &self.locks, seat, &step, before, at);
         step
     }
 
@@ -377,14 +358,6 @@ impl<D: PageDevice + Drop, K: PseudoKey + Drop> Kernel<D, K> {
         let journal = self.journal;
         let device = self.pool.into_device();
         Closed { device, journal }
-    }
-
-    /// What is counted of the last search of a seat.
-    fn count(&self, seat: u8) -> SearchCount
-        requires { IsSeat self.now.locks seat }
-        ensures { result ≡ count_at self.now.searches.counts seat }
-    {
-        self.searches.of(seat)
     }
 
     /// The entries that the journal has, and those that are due.

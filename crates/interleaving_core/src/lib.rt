@@ -1,5 +1,5 @@
 //! Many seats at calls over one file, a step of one of them at a time; the journal of what was decided;
-//! and how many hops each seat's last search made, and what other seats did meanwhile.
+//! and how many hops each seat's last search made, and what was done meanwhile.
 
 #![tactic(auto)]
 

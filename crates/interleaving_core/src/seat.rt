@@ -8,6 +8,8 @@ ghost use Rattle.interleaving_core.specs.Closing.{has_one};
 ghost use Rattle.interleaving_core.specs.Kernel.{due_at, locks_of};
 ghost use Rattle.interleaving_core.specs.Lending.{LendsCall};
 ghost use Rattle.interleaving_core.specs.Renewing.{IsIdleOrWaits, IsNewWhileWaiting, MayGiveBack, outlasting};
+ghost use Rattle.interleaving_core.specs.Searches.{searches_at};
+ghost use Rattle.xsi_calls.specs.FileLocks.{HoldsOfFile};
 ghost use Rattle.interleaving_core.specs.Turn.{Settles, told_on};
 ghost use Rattle.interleaving_core.specs.Words.{IsOver, IsReady, IsSeat, row_of};
 
@@ -56,6 +58,31 @@ impl Seat {
         ensures { result ≡ has_one self.now }
     {
         self.is_busy && self.last.is_some()
+    }
+
+    /// Whether a search of its call is under way.
+    pub(crate) fn is_searching(&self) -> bool
+        ensures { result ≡ searches_at self.now }
+    {
+        if !self.is_busy {
+            return false;
+        }
+        match &self.last {
+            Some(active) => active.machine.is_searching(),
+            None => false,
+        }
+    }
+
+    /// Its call holds of the file exactly the locks that its place asks for.
+    pub(crate) fn holds_of_file(&self)
+        ensures { IfSome self.now (λ a. HoldsOfFile a.machine) }
+    {
+        if !self.is_busy {
+            return;
+        }
+        if let Some(active) = &self.last {
+            active.machine.holds_of_file();
+        }
     }
 
     /// The entries that are due for its call.

@@ -1,26 +1,24 @@
 -- What a kernel counts, beside the calls of its seats.
 use Rattle.std.proofs.Common.{ℕ, zero, suc, ◌≡◌, ◌≤◌, refl, sym, ap, ◌∙◌, subst, Bool, true, false, List, [], Option, Some, None, length, arith}
 use Rattle.std.proofs.lemmas.Bool.{true≢false}
-use Rattle.std.proofs.lemmas.Int.{clamps}
 use Rattle.std.proofs.lemmas.List.{get_or-replicate}
 use Rattle.interleavings.specs.ConcurrentLaws.{AreTogetherIn}
 use Rattle.step_rules.specs.Known.{Known}
 use Rattle.step_rules.specs.Walking.{first_walk}
 use Rattle.step_rules.specs.Words.{Change, Quiet}
 use Rattle.step_rules.specs.World.{World}
-use Rattle.interleaving_core.specs.Counting.{begun_count, count_at, no_count, opened_counts}
+use Rattle.interleaving_core.specs.Counting.{count_at, no_count, opened_counts, unbegun_count}
 use Rattle.interleaving_core.specs.declared.count.SearchCount.{SearchCount}
-use Rattle.interleaving_core.specs.declared.under_way.UnderWay.TheVariants.{Nothing}
 use Rattle.interleaving_core.specs.xsi_calls.Machine.{IsNew, call_facts, facts_at}
 use Rattle.interleaving_core.specs.xsi_calls.Below.{facts_in}
 use Rattle.interleaving_core.specs.xsi_calls.declared.question.Question.{Question}
 use Rattle.interleaving_core.specs.xsi_calls.UndecidedWords.{questions_facts}
 use Rattle.interleaving_core.specs.xsi_calls.Words.{world}
 use Rattle.interleavings.specs.Counting.{AreCounted, IsCounted, calls_of, facts_of, under_way_in}
-use Rattle.interleavings.specs.Words.{Answer, CallView, FileFault, KernelState, Progress, RecordKey, State, conclusion_of, is_fault}
+use Rattle.interleavings.specs.Words.{Answer, CallView, FileFault, KernelState, Progress, RecordKey, State, call_at, conclusion_of, is_fault}
 use Rattle.interleavings.proofs.CountLemmas.{CountsBy}
 use Rattle.interleaving_core.specs.Active.{is_waiting}
-use Rattle.interleaving_core.specs.Searches.{Counts}
+use Rattle.interleaving_core.specs.Searches.{Counts, ends_search}
 use Rattle.interleaving_core.specs.Turn.{told_of, told_when_over}
 use Rattle.interleaving_core.specs.Words.{answer_of_call}
 use Rattle.step_rules.specs.declared.progress.Progress.TheVariants as progress
@@ -58,30 +56,26 @@ counted_idle seat count w facts is = record {
   walk = is.walk;
   little = is.little;
   by = tt;
+  under_way = is.under_way;
   hops = is.hops;
-  most = is.most;
-  changes = is.changes;
-  calm = is.calm;
 }
 
 -- a seat that has not searched
 pub counted_at_first : (seat : ℕ) (count : SearchCount) (w : World) (o : Option CallView) → o ≡ None →
-    count ≡ begun_count Nothing → IsCounted seat (facts_of o) count w
+    count ≡ unbegun_count → IsCounted seat (facts_of o) count w
 counted_at_first seat count w o none is =
     subst (λ (x : Option CallView). IsCounted seat (facts_of x) count w) (sym none)
     (subst (λ (c : SearchCount). IsCounted seat [] c w) (sym is) (record {
       walk = first_walk 0 Quiet;
       little = record { few = omega arith; calm = λ calm. refl };
       by = tt;
-      hops = omega arith;
-      most = omega arith;
-      changes = omega (arith, clamps);
-      calm = λ calm. refl;
+      under_way = λ going. absurd (true≢false going);
+      hops = record { few = omega arith; calm = λ calm. refl };
     }))
 
-pub opened_count : (n seat : ℕ) → 1 ≤ seat → seat ≤ n → count_at (opened_counts n).counts seat ≡ begun_count Nothing
+pub opened_count : (n seat : ℕ) → 1 ≤ seat → seat ≤ n → count_at (opened_counts n).counts seat ≡ unbegun_count
 opened_count n zero some within = absurd (omega (arith, some))
-opened_count n (suc place) some within = get_or-replicate n place (begun_count Nothing) no_count (omega (arith, within))
+opened_count n (suc place) some within = get_or-replicate n place unbegun_count no_count (omega (arith, within))
 
 -- a call that has just begun knows nothing
 pub fresh_facts : (m : CallView) → IsNew m → call_facts m ≡ []
@@ -95,7 +89,7 @@ fresh_facts m new =
 pub counts_by : {K : Type 0} (seat : ℕ) (old new : KernelState K) (did : Progress FileFault) (m : CallView) →
     is_fault did ≡ false → Counts seat (told_of did m) old new →
     CountsBy seat did old.locks new.locks old.searches new.searches
-counts_by seat old new (progress.Moved kind) m fine counts = counts
+counts_by seat old new (progress.Moved kind) m fine counts = (ends_search kind (call_at new.seats seat), counts)
 counts_by seat old new (progress.Blocked other) m fine counts = counts
 counts_by seat old new (progress.Fault fault) m fine counts = absurd (true≢false fine)
 counts_by {K} seat old new progress.Ended m fine counts = by (is_waiting (conclusion_of m)) (answer_of_call m) counts

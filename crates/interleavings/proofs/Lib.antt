@@ -38,6 +38,8 @@ pub mod EventLemmas
 pub mod FlushLemmas
 pub mod RunLemmas
 pub mod LeadLemmas
+pub mod EnterLemmas
+pub mod PhaseLemmas
 pub mod CountLemmas
 pub mod CountedLemmas
 pub mod OpenLemmas

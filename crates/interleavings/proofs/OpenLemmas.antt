@@ -9,7 +9,6 @@ use Rattle.interleaving_core.specs.xsi_calls.Words.{world}
 use Rattle.step_rules.specs.Words.{Quiet}
 use Rattle.interleavings.specs.Counting.{facts_of}
 use Rattle.interleavings.proofs.CountedLemmas.{counted_at_first, counted_in, counted_of, fresh_facts, opened_count}
-use Rattle.interleavings.proofs.CountLemmas.{hops_few}
 use Rattle.interleaving_core.proofs.BeginLemmas.{idle_at}
 use Rattle.interleaving_core.proofs.PlaceLemmas.{at_other, at_same, length-with_call}
 use Rattle.interleavings.proofs.CloseLemmas.{closes_flushed}
@@ -168,9 +167,7 @@ as_plain_lists rests order K hash base k lawful led = record {
 
 pub counts_few : (K : Type 0) → SearchesHopFew K
 counts_few K hash base k seat led sound some within =
-    let counted = (led.together sound).counted seat some (subst (λ (n : ℕ). seat ≤ n) led.rows within) in
-    hops_few seat (facts_of (calls_of k.seats seat)) (count_at k.searches.counts seat)
-    (world k.pool.images k.locks (led.together sound).calls.change) counted
+    ((led.together sound).counted seat some (subst (λ (n : ℕ). seat ≤ n) led.rows within)).hops
 
 -- ---- it is closed
 

@@ -1,5 +1,8 @@
 -- The hops that a kernel counts, beside the searches of its seats. docs/STEPS.md, "Search".
-use Rattle.std.specs.Prelude.{ℕ, suc, ◌≡◌, ◌≤◌, min, true, List, [], Option, Some, None, length, option_map}
+use Rattle.std.specs.Prelude.{ℕ, suc, ◌≡◌, ◌≤◌, min, true, false, List, [], Option, Some, None, length, option_map}
+use Rattle.page_locks.specs.Table.{held}
+use Rattle.page_locks.specs.declared.lock.LockKind.TheVariants.{Read}
+use Rattle.page_locks.specs.declared.lock.LockName.TheVariants.{Directory}
 use Rattle.step_rules.specs.Known.{Known}
 use Rattle.step_rules.specs.Walking.{IsWalkBy}
 use Rattle.step_rules.specs.Walks.{HasHoppedLittle, SearchWalk}
@@ -34,19 +37,32 @@ under_way_in (Buried left right whole) = Merge
 under_way_in (Drained left right) = Merge
 under_way_in (Freed right) = Merge
 
--- what is counted of a seat's last search, beside the walk that it made
-pub record IsCounted (seat : ℕ) (facts : List Known) (count : SearchCount) (w : World) : Type 0 where
-  -- it has hopped once more at most than others may have added, and is where its seat knows
-  pub walk : SearchWalk
-  pub little : HasHoppedLittle walk
-  pub by : IsWalkBy seat facts walk w
+-- at most one hop more than may have been added to a search, and none where no change was under way
+pub record HopsFew (count : SearchCount) : Type 0 where
+  pub few : count.hops ≤ suc count.changes
+  pub calm : count.calm ≡ true → count.hops ≡ 0
+
+-- what is counted of a search under way, beside the walk on which its seat is
+pub record CountsWalk (seat : ℕ) (count : SearchCount) (walk : SearchWalk) (w : World) : Type 0 where
   -- no more hops are counted than it made, nor than are counted at most
   pub hops : count.hops ≤ walk.hops
   pub most : count.hops ≤ MOST_COUNTED
-  -- as many steps of others at least as may have added a hop, as far as is counted
+  -- as many steps at least as may have added a hop, as far as is counted
   pub changes : min walk.added MOST_COUNTED ≤ count.changes
   -- it counts as calm only where no change was under way
   pub calm : count.calm ≡ true → walk.calm ≡ true
+  -- it has not hopped while its seat holds the directory
+  pub entered : held w.locks seat Directory ≡ Some Read → count.hops ≡ 0
+
+-- what is counted of a seat's last search
+pub record IsCounted (seat : ℕ) (facts : List Known) (count : SearchCount) (w : World) : Type 0 where
+  -- the seat's walk is where it knows, and has hopped once more at most than others may have added
+  pub walk : SearchWalk
+  pub little : HasHoppedLittle walk
+  pub by : IsWalkBy seat facts walk w
+  -- until a page has answered the count is of that walk
+  pub under_way : count.over ≡ false → CountsWalk seat count walk w
+  pub hops : HopsFew count
 
 -- the calls of a kernel beside one another, each seat's search as it is counted
 pub record AreCounted {K : Type 0} (hash : RecordKey → ℕ) (s : State) (k : KernelState K) : Type 0 where
@@ -55,8 +71,3 @@ pub record AreCounted {K : Type 0} (hash : RecordKey → ℕ) (s : State) (k : K
   pub phase : k.searches.under_way ≡ under_way_in calls.change
   pub counted : (seat : ℕ) → 1 ≤ seat → seat ≤ length k.seats → IsCounted seat (facts_of (calls_of k.seats seat))
       (count_at k.searches.counts seat) (world k.pool.images k.locks calls.change)
-
--- at most one hop more than others may have added; and none where no change was under way
-pub record HopsFew (count : SearchCount) : Type 0 where
-  pub few : count.hops ≤ suc count.changes
-  pub calm : count.calm ≡ true → count.hops ≡ 0

@@ -112,8 +112,9 @@ abbrev pub JournalsAreFifo : Type 0
 JournalsAreFifo = (hash : RecordKey → ℕ) (content : List (List ℕ)) (base : State) (callers : List Caller)
     (journal : List Entry) → IsFileOf hash content base → IsLegal callers journal base → IsFifo callers journal base
 
--- what a kernel counts of a seat's last search, until a step has failed: at most one hop more than others may have
--- added, and none where no structure change was under way since it read the depth
+-- what a kernel counts of a seat's last search, until a step has failed, from the grant of the directory up to the Look
+-- that answers it: at most one hop more than there were WriteOlds and Tombstones of all seats, and none where no
+-- structure change was under way
 abbrev pub SearchesHopFew : Type 0 → Type 0
 SearchesHopFew K = (hash : RecordKey → ℕ) (base : State) (k : KernelState K) (seat : ℕ) → Refines hash base k →
     k.failed ≡ false → 1 ≤ seat → seat ≤ length k.locks → HopsFew (count_at k.searches.counts seat)

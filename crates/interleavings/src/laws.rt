@@ -148,9 +148,9 @@ pub fn seats_hold_their_names<K>()
     calls_hold_their_names();
 }
 
-/// What it counts of a seat's last search is a hop at most more than the WriteOlds and Tombstones of
-/// others meanwhile, and no hop where no split and no merge was under way, until a step has failed
-/// (Ellis 1983).
+/// From the Grant of the directory to a seat's last search up to the Look that answers it, there was
+/// one hop at most more than there were WriteOlds and Tombstones, and no hop where no split and no
+/// merge was under way. So it is counted until a step has failed (Ellis 1983).
 pub fn a_search_hops_few_times<K>()
     ensures { SearchesHopFew K }
 {}

@@ -54,8 +54,9 @@ pub enum Row {
     Reaches(u8, Kind),
     /// Its steps come to this, with so many of this kind before.
     Counts(u8, Kind, u32, Want),
-    /// Its last search made so many hops, beside so many steps of others that may add one.
-    Searched(u8, u32, u32),
+    /// Its last search made so many hops, in a time in which there were so many steps that may add
+    /// one, and no structure change was under way or one was.
+    Searched(u8, u64, u64, bool),
     /// Its steps come to this.
     Drives(u8, Want),
     /// A call begins, and its steps come to this.
@@ -131,7 +132,9 @@ fn does<K: PseudoKey + Copy>(
         Row::Steps(seat, want) => is_wanted(&step(kernel, seat), want),
         Row::Reaches(seat, kind) => count(kernel, seat, kind, Want::Moved(kind)).is_some(),
         Row::Counts(seat, kind, many, want) => count(kernel, seat, kind, want) == Some(many),
-        Row::Searched(seat, hops, changes) => searched(kernel, seat) == Some((hops, changes)),
+        Row::Searched(seat, hops, changes, calm) => {
+            searched(kernel, seat) == Some((hops, changes, calm))
+        }
         Row::Drives(seat, want) => is_wanted(&drive(kernel, seat), want),
         Row::Calls(seat, asks, want) => {
             begins(alloc, kernel, seat, asks)? && is_wanted(&drive(kernel, seat), want)
@@ -207,11 +210,18 @@ fn withdrawn<K: PseudoKey + Copy>(kernel: &mut Kernel<MemDevice, K>, seat: u8) -
 }
 
 /// What is counted of the last search of a seat; none where there is no such seat.
-fn searched<K: PseudoKey + Copy>(kernel: &Kernel<MemDevice, K>, seat: u8) -> Option<(u32, u32)> {
+fn searched<K: PseudoKey + Copy>(
+    kernel: &Kernel<MemDevice, K>,
+    seat: u8,
+) -> Option<(u64, u64, bool)> {
     if seat == 0 || seat > kernel.seats() {
         return None;
     }
-    Some((kernel.hops(seat), kernel.changes(seat)))
+    Some((
+        kernel.hops(seat),
+        kernel.changes(seat),
+        kernel.was_calm(seat),
+    ))
 }
 
 /// Steps a seat until a step comes to what is wanted. How many before were of this kind; none where

@@ -21,7 +21,7 @@ pub const FULL_BUCKET: [Row; 9] = [
     Calls(1, SendLong(1, 1024), Sent(1)),
     Calls(1, SendLong(1, 1024), Sent(2)),
     Calls(1, SendLong(1, 1024), Sent(3)),
-    Searched(1, 0, 0),
+    Searched(1, 0, 0, true),
 ];
 
 /// The fourth message is sent.
@@ -56,7 +56,7 @@ const BEHIND_WRITE_NEW: [Row; 6] = [
     Reaches(1, Kind::WriteNew),
     Begins(2, Get(7)),
     Counts(2, Kind::Hop, 0, Id(1)),
-    Searched(2, 0, 0),
+    Searched(2, 0, 0, false),
     Drives(1, Sent(4)),
 ];
 
@@ -66,7 +66,7 @@ const BEHIND_WRITE_OLD: [Row; 6] = [
     Reaches(1, Kind::WriteOld),
     Begins(2, Get(7)),
     Counts(2, Kind::Hop, 1, Id(1)),
-    Searched(2, 1, 0),
+    Searched(2, 1, 0, false),
     Drives(1, Sent(4)),
 ];
 
@@ -87,7 +87,7 @@ const BESIDE_A_MERGE: [Row; 15] = [
     Steps(1, Moved(Kind::Convert)),
     Steps(1, Blocked(2)),
     Counts(2, Kind::Hop, 1, Id(1)),
-    Searched(2, 1, 1),
+    Searched(2, 1, 1, false),
     Drives(1, Received(3)),
 ];
 

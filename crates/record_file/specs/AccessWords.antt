@@ -1,7 +1,7 @@
 -- Words of the crates below, under one name.
 pub use Rattle.record_file.specs.OperationWords.{RecordKey, pair, PoolState, Table, Lock, Change, Store, row_of, store_of, contents, with_front, IsReady, OnlyWrites, Progress, Moved, Blocked, Fault, Ended, WriteRecord, World, Known, Turn, is_fault, EndsRow, HasNoFileLock, Sees, Step, StepHasCause, IsSeat, IsSoundWorld, world, found_of, Tried, FollowsRow, LeavesSearch, NearsOrSpares, TellsNone, kind_of}
 pub use Rattle.record_file.specs.declared.operation.RecordOperation.{RecordOperation}
-pub use Rattle.record_file.specs.Operations.{HasEnded, IsKeyed, MayBeLent, OwnsWritten, has_searched, begun_delete, begun_find, begun_insert, begun_replace, operation_facts, operation_found, operation_key, operation_left, operation_locks, operation_pseudokey, operation_tried, operation_turn}
+pub use Rattle.record_file.specs.Operations.{HasEnded, IsKeyed, MayBeLent, OwnsWritten, has_searched, begun_delete, begun_find, begun_insert, begun_replace, operation_facts, operation_found, operation_key, operation_left, operation_locks, operation_pseudokey, operation_searches, operation_tried, operation_turn}
 pub use Rattle.record_file.specs.Lengths.{MOST_STEPS}
 pub use Rattle.record_file.specs.InsertWords.{HasNoRoom}
 pub use Rattle.record_file.specs.declared.tried.Tried.TheVariants.{IsPut, IsThere, IsFull}

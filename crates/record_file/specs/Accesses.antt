@@ -5,7 +5,7 @@ use Rattle.record_file.specs.declared.operation.RecordOperation.TheVariants as o
 use Rattle.record_file.specs.stale_search.declared.place.SearchPlace.{SearchPlace}
 use Rattle.record_file.specs.stale_search.declared.place.SearchPlace.TheVariants.{GrantDirectory}
 use Rattle.queue_records.specs.declared.layout.TheConstants.{MAX_VALUE_BYTES}
-use Rattle.record_file.specs.AccessWords.{RecordKey, Lock, Store, with_front, Known, Turn, found_of, Tried, IsFull, RecordOperation, MayBeLent, TellsNone, has_searched, begun_delete, begun_find, begun_insert, begun_replace, operation_facts, operation_found, operation_key, operation_left, operation_locks, operation_pseudokey, operation_tried, operation_turn, Links, Record, SpellsRecord, HasSuch, relinked, key_of, value_of, Write, Replace, Relink, Delete}
+use Rattle.record_file.specs.AccessWords.{RecordKey, Lock, Store, with_front, Known, Turn, found_of, Tried, IsFull, RecordOperation, MayBeLent, TellsNone, has_searched, begun_delete, begun_find, begun_insert, begun_replace, operation_facts, operation_found, operation_key, operation_left, operation_locks, operation_pseudokey, operation_searches, operation_tried, operation_turn, Links, Record, SpellsRecord, HasSuch, relinked, key_of, value_of, Write, Replace, Relink, Delete}
 use Rattle.record_file.specs.Purposes.{Purpose, ToFind, ToInsert, ToWrite, CanBeOn, KeepsLimits, aimed_at}
 
 pub record AccessView : Type 0 where
@@ -103,6 +103,15 @@ set_out_in o = true
 -- the search of a find has begun
 abbrev pub has_set_out : AccessView → Bool
 has_set_out a = set_out_in a.operation
+
+-- its search was granted the directory, and no page has answered it
+abbrev pub access_searches : AccessView → Bool
+access_searches a = operation_searches a.operation
+
+-- that of the access under way, if there is one
+abbrev pub searches_under : Option AccessView → Bool
+searches_under None = false
+searches_under (Some a) = access_searches a
 
 -- ---- what it tells
 

@@ -4,7 +4,8 @@ use Rattle.std.specs.Prelude.{ℕ, ◌≡◌, ◌≤◌, ◌+◌, ◌-◌, ◌&&
 use Rattle.std.specs.Option.{is_some}
 use Rattle.bucket_page.specs.declared.layout.TheConstants.{RECORD_HEAD_BYTES, ROOM_BYTES}
 use Rattle.step_rules.specs.declared.kind.TheConstants.{MERGED_BYTES}
-use Rattle.split_merge.specs.stale_search.declared.place.SearchPlace.TheVariants.{GrantDirectory}
+use Rattle.split_merge.specs.stale_search.declared.place.SearchPlace.{SearchPlace}
+use Rattle.split_merge.specs.stale_search.declared.place.SearchPlace.TheVariants.{Found, GrantDirectory}
 use Rattle.split_merge.specs.stale_search.Searches.{ask_at}
 use Rattle.record_file.specs.Words.{RecordKey, pair, contents, RecordWrite, Put, Replace, Remove, Lock, LockKind, Read, Selective, Store, Known, Ask, Turn, SearchView, search_locks, search_facts, found_at, steps_left, on_page}
 use Rattle.record_file.specs.Writers.{Owns, seen_of}
@@ -36,6 +37,12 @@ has_searched (HasEnded due) = true
 -- the page that answered, and the length of the key's value there
 abbrev pub found_of : BucketView → Option (ℕ × Option ℕ)
 found_of b = found_at b.search.place
+
+-- its search was granted the directory, and no page has answered it
+abbrev pub is_on_way : SearchPlace → Bool
+is_on_way GrantDirectory = false
+is_on_way (Found page found) = false
+is_on_way place = true
 
 -- what is always so of it
 pub record IsBucketAccess (key : RecordKey) (search : SearchView) (stage : BucketStage) : Type 0 where

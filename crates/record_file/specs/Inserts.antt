@@ -1,7 +1,7 @@
 -- What an insert holds, knows and asks for: its first try, and then the second one. docs/STEPS.md, "Insert, Replace,
 -- Delete".
 use Rattle.std.specs.Prelude.{ℕ, ◌≡◌, ◌+◌, Bool, true, false, List, Option, Some, None, IsSome, ⊤}
-use Rattle.record_file.specs.BucketAccesses.{BucketView, SuitsKind, bucket_facts, bucket_left, bucket_locks, found_of, has_ended}
+use Rattle.record_file.specs.BucketAccesses.{BucketView, SuitsKind, bucket_facts, bucket_left, bucket_locks, found_of, has_ended, is_on_way}
 use Rattle.record_file.specs.BucketAccesses.{ask_in as bucket_ask}
 use Rattle.record_file.specs.declared.bucket_access.Deed.TheVariants as deeds
 use Rattle.record_file.specs.InsertWords.{RecordKey, pair, Put, Lock, Store, Known, Ask, Turn, Tried}
@@ -47,6 +47,11 @@ pub record IsTry (b : BucketView) (i : InsertView) : Type 0 where
 abbrev pub IsLent : ℕ → InsertStage → Type 0
 IsLent bytes (First t said) = ⊤
 IsLent bytes (Second t) = bytes ≡ t.bytes
+
+-- its search is under way: a second try makes none
+abbrev pub searches_in : InsertStage → Bool
+searches_in (First t said) = is_on_way t.search.place
+searches_in (Second t) = false
 
 -- its locks, behind those that the seat had before
 abbrev pub locks_in : InsertStage → List Lock → List Lock

@@ -4,9 +4,9 @@ use Rattle.std.specs.Prelude.{ℕ, ◌≡◌, Bool, true, false, List, [], Optio
 use Rattle.record_file.specs.split_merge.declared.merge_place.MergePlace.TheVariants.{Approaching}
 use Rattle.record_file.specs.stale_search.declared.place.ApproachPlace.TheVariants.{GrantDirectory as ToDirectory}
 use Rattle.record_file.specs.Deletes.{IsOver as IsDeleteOver}
-use Rattle.record_file.specs.BucketAccesses.{has_searched as bucket_has_searched}
+use Rattle.record_file.specs.BucketAccesses.{is_on_way, has_searched as bucket_has_searched}
 use Rattle.record_file.specs.declared.bucket_access.Deed.TheVariants as deeds
-use Rattle.record_file.specs.Inserts.{IsOver as IsInsertOver}
+use Rattle.record_file.specs.Inserts.{searches_in, IsOver as IsInsertOver}
 use Rattle.record_file.specs.declared.insert.InsertStage.TheVariants.{First}
 use Rattle.record_file.specs.OperationWords.{RecordKey, Lock, Store, contents, Known, Turn, Owns, IsFrontAt, SuitsKind, begun_access, bucket_facts, bucket_left, bucket_locks, bucket_turn, found_of, has_ended, with_front, delete_facts, delete_left, delete_locks, delete_turn, Tried, IsLent, insert_facts, insert_left, insert_locks, insert_turn, said_of, RecordOperation, Find, Insert, Replace, Delete}
 
@@ -113,6 +113,13 @@ operation_found (Find f) = found_of f
 operation_found (Insert i) = None
 operation_found (Replace r) = found_of r
 operation_found (Delete d) = found_of d.removal
+
+-- its search was granted the directory, and no page has answered it; a merge makes none
+abbrev pub operation_searches : RecordOperation → Bool
+operation_searches (Find f) = is_on_way f.search.place
+operation_searches (Insert i) = searches_in i.stage
+operation_searches (Replace r) = is_on_way r.search.place
+operation_searches (Delete d) = is_on_way d.removal.search.place
 
 -- what an insert has come to
 abbrev pub operation_tried : RecordOperation → Option Tried

@@ -5,7 +5,7 @@ ghost use Rattle.queue_records.specs.Range.{IsInRange};
 ghost use Rattle.xsi_inquiry.specs.Writing.{HasRange};
 ghost use Rattle.record_file.specs.AccessWords.{HasEnded, IsReady, IsSeat, EndsRow, Look, MayBeLent, Moved, Record, RecordKey, Write, operation_key, row_of};
 ghost use Rattle.record_file.specs.Purposes.{ToFind, ToInsert, ToWrite, is_write};
-ghost use Rattle.record_file.specs.Accesses.{Allows, HasFound, Serves, access_answer, access_locks, begun, has_no_room};
+ghost use Rattle.record_file.specs.Accesses.{Allows, HasFound, Serves, access_answer, access_locks, access_searches, begun, has_no_room};
 ghost use Rattle.record_file.specs.AccessSteps.{MakesAccess, Settles};
 ghost use Rattle.record_file.specs.Readings.{Takes};
 
@@ -172,6 +172,13 @@ impl Access {
                 Err(_) => None,
             },
         }
+    }
+
+    /// Whether its search is under way: the directory was granted to it, and no page has answered.
+    pub fn is_searching(&self) -> bool
+        ensures { result ≡ access_searches self.now }
+    {
+        self.operation.is_searching()
     }
 
     /// Whether an insert has found no room for its record and has written nothing. At its end it

@@ -9,7 +9,7 @@ ghost use Rattle.split_merge.specs.stale_search.SearchRuns.{HasNoLock};
 ghost use Rattle.split_merge.specs.stale_search.Searches.{IsShared};
 ghost use Rattle.split_merge.specs.stale_search.declared.place.SearchPlace.{SearchPlace};
 ghost use Rattle.record_file.specs.Words.{IsSeat, row_of, IsReady, EndsRow, Moved, Release, without_lock};
-ghost use Rattle.record_file.specs.BucketAccesses.{SuitsKind, begun_access, bucket_locks, ended_in, found_of, has_ended, has_room, is_due, kind_for};
+ghost use Rattle.record_file.specs.BucketAccesses.{SuitsKind, begun_access, bucket_locks, ended_in, found_of, has_ended, has_room, is_due, is_on_way, kind_for};
 ghost use Rattle.record_file.specs.BucketRuns.{BucketHeads, FindsStraight, bucket_at};
 ghost use Rattle.record_file.specs.BucketSteps.{MakesBucket};
 
@@ -90,6 +90,16 @@ impl BucketAccess {
             SearchPlace::Found(page, found) => Some((page, found)),
             _ => None,
         }
+    }
+
+    /// Whether its search was granted the directory, and no page has answered it.
+    pub fn is_searching(&self) -> bool
+        ensures { result ≡ is_on_way self.now.search.place }
+    {
+        !matches!(
+            self.search.place(),
+            SearchPlace::GrantDirectory | SearchPlace::Found(_, _)
+        )
     }
 
     /// Where it has given its page back, whether more is due behind it.

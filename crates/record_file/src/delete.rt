@@ -6,7 +6,7 @@ ghost use Rattle.split_merge.specs.stale_search.declared.place.SearchPlace.{Sear
 ghost use Rattle.split_merge.specs.declared.merge_place.MergePlace.{MergePlace};
 ghost use Rattle.record_file.specs.declared.bucket_access.BucketStage.{BucketStage};
 ghost use Rattle.record_file.specs.Words.{Selective};
-ghost use Rattle.record_file.specs.BucketAccesses.{found_of};
+ghost use Rattle.record_file.specs.BucketAccesses.{found_of, is_on_way};
 ghost use Rattle.record_file.specs.BucketRuns.{bucket_at};
 ghost use Rattle.record_file.specs.Deletes.{IsOver, IsRemoval};
 
@@ -70,6 +70,13 @@ impl Delete {
         ensures { result ≡ found_of self.now.removal }
     {
         self.removal.found()
+    }
+
+    /// Whether its search is under way, as `BucketAccess` says; a merge makes none.
+    pub fn is_searching(&self) -> bool
+        ensures { result ≡ is_on_way self.now.removal.search.place }
+    {
+        self.removal.is_searching()
     }
 
     /// Whether it has given all locks back.

@@ -4,7 +4,7 @@ ghost use Rattle.std.specs.Prelude.{◌≡◌, ◌↔◌, IfSome, IsSome, None, 
 ghost use Rattle.split_merge.specs.stale_search.declared.place.SearchPlace.{SearchPlace};
 ghost use Rattle.record_file.specs.declared.bucket_access.Deed.{Deed};
 ghost use Rattle.record_file.specs.BucketAccesses.{begun_access};
-ghost use Rattle.record_file.specs.Inserts.{IsOver, IsTry, is_there, said_of};
+ghost use Rattle.record_file.specs.Inserts.{IsOver, IsTry, is_there, said_of, searches_in};
 ghost use Rattle.record_file.specs.InsertSteps.{Notes};
 ghost use Rattle.record_file.specs.OperationRuns.{stage_at};
 
@@ -99,6 +99,16 @@ impl Insert {
         match &self.stage {
             InsertStage::First(_, said) => *said,
             InsertStage::Second(second) => second.said(),
+        }
+    }
+
+    /// Whether its search is under way, as `BucketAccess` says; a second try makes none.
+    pub fn is_searching(&self) -> bool
+        ensures { result ≡ searches_in self.now.stage }
+    {
+        match &self.stage {
+            InsertStage::First(first, _) => first.is_searching(),
+            InsertStage::Second(_) => false,
         }
     }
 

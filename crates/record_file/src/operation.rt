@@ -2,7 +2,7 @@
 
 ghost use Rattle.std.specs.Prelude.{◌≡◌, ◌↔◌, true, IfSome};
 ghost use Rattle.record_file.specs.stale_search.declared.place.SearchPlace.{SearchPlace};
-ghost use Rattle.record_file.specs.Operations.{FoundAtEnd, HasEnded, TriedAtEnd, begun_delete, begun_find, begun_insert, begun_replace, operation_found, operation_tried};
+ghost use Rattle.record_file.specs.Operations.{FoundAtEnd, HasEnded, TriedAtEnd, begun_delete, begun_find, begun_insert, begun_replace, operation_found, operation_searches, operation_tried};
 ghost use Rattle.record_file.specs.OperationRuns.{IsBucketOf, LacksKey, operation_at};
 
 use crate::bucket_access::{BucketAccess, Deed};
@@ -66,6 +66,18 @@ impl RecordOperation {
             RecordOperation::Insert(_) => None,
             RecordOperation::Replace(replace) => replace.found(),
             RecordOperation::Delete(delete) => delete.found(),
+        }
+    }
+
+    /// Whether its search was granted the directory, and no page has answered it.
+    pub fn is_searching(&self) -> bool
+        ensures { result ≡ operation_searches self.now }
+    {
+        match self {
+            RecordOperation::Find(find) => find.is_searching(),
+            RecordOperation::Insert(insert) => insert.is_searching(),
+            RecordOperation::Replace(replace) => replace.is_searching(),
+            RecordOperation::Delete(delete) => delete.is_searching(),
         }
     }
 

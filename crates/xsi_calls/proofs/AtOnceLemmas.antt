@@ -1,13 +1,14 @@
 -- A question of a call that is asked in one go.
 use Rattle.std.proofs.Common.{◌≡◌, refl, ℕ, Bool, true, false, Option, None, sym, subst}
 use Rattle.xsi_calls.proofs.QuestionRunLemmas.{asks_in}
+use Rattle.xsi_calls.specs.Questions.{question_searches}
 use Rattle.xsi_calls.specs.QuestionSteps.{MakesQuestions}
 use Rattle.xsi_calls.specs.UndecidedSteps.{MakesUndecided}
 use Rattle.xsi_calls.specs.UndecidedWords.{is_done}
 use Rattle.xsi_calls.proofs.GoLemmas.{asking, at_undecided, goes_on, with_stage}
 use Rattle.xsi_calls.proofs.StepLemmas.{asked}
 use Rattle.xsi_calls.specs.CallSteps.{MakesCall}
-use Rattle.xsi_calls.specs.Machine.{CallView, is_undecided}
+use Rattle.xsi_calls.specs.Machine.{CallView, is_searching, is_undecided}
 use Rattle.xsi_calls.specs.Stages.{Stage, Undecided}
 use Rattle.xsi_calls.specs.Words.{AsksAtOnce, Call, Caller, Ended, Kind, Moved, PoolState, QuestionsView, RecordKey, Table, Trials, UndecidedCall}
 
@@ -45,22 +46,22 @@ module _ (hash : RecordKey → ℕ) (seat : ℕ) (caller : Caller) (call : Call)
 
   -- from its place
   pub asks_from : (u : UndecidedCall) (q : QuestionsView) (pool : PoolState) (locks : Table) →
-      AsksAtOnce (MakesQuestions hash seat call) seat u.questions q pool locks →
+      AsksAtOnce (MakesQuestions hash seat call) question_searches seat u.questions q pool locks →
       u.trials ≡ None → (stage : Stage) (now : CallView) → with_stage caller call u stage ≡ now →
       is_undecided now.stage ≡ true → (stopped : Bool) →
-      AsksAtOnce (MakesCall hash seat stopped) seat now
+      AsksAtOnce (MakesCall hash seat stopped) is_searching seat now
       (with_stage caller call (record { questions = q; trials = u.trials }) stage) pool locks
   asks_from u q pool locks at_once none stage now view undecided stopped =
-      subst (λ (m : CallView). AsksAtOnce (MakesCall hash seat stopped) seat m
+      subst (λ (m : CallView). AsksAtOnce (MakesCall hash seat stopped) is_searching seat m
       (with_stage caller call (record { questions = q; trials = u.trials }) stage) pool locks) view
-      (subst (λ (x : Stage). AsksAtOnce (MakesCall hash seat stopped) seat
+      (subst (λ (x : Stage). AsksAtOnce (MakesCall hash seat stopped) is_searching seat
       (with_stage caller call u x)
       (with_stage caller call (record { questions = q; trials = u.trials }) x) pool locks)
       (sym there)
-      (subst (λ (o : Option Trials). AsksAtOnce (MakesCall hash seat stopped) seat
+      (subst (λ (o : Option Trials). AsksAtOnce (MakesCall hash seat stopped) is_searching seat
       (untried u.questions o) (untried q o) pool locks) (sym none)
-      (asks_in (MakesQuestions hash seat call) (MakesCall hash seat stopped) seat
-      (λ (v : QuestionsView). untried v None) (asks_on stopped) u.questions q pool locks
+      (asks_in (MakesQuestions hash seat call) (MakesCall hash seat stopped) question_searches is_searching seat
+      (λ (v : QuestionsView). untried v None) (λ v. refl) (asks_on stopped) u.questions q pool locks
       at_once)))
     where
       there : stage ≡ Undecided

@@ -83,6 +83,7 @@ pub mod PayLemmas
 pub mod CallReachLemmas
 pub mod MachineLemmas
 pub mod RowLemmas
+pub mod FileLockLemmas
 pub mod LawLemmas
 pub mod AimLemmas
 pub mod FewLemmas

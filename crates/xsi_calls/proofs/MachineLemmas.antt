@@ -13,18 +13,18 @@ use Rattle.xsi_calls.specs.declared.writes.CallWrites.{CallWrites}
 use Rattle.xsi_calls.specs.CallSteps.{ComesTo, MakesCall, MakesRelease}
 use Rattle.xsi_calls.specs.Concluding.{conclusion_by}
 use Rattle.xsi_calls.specs.Deciding.{IsDecidedIn}
-use Rattle.xsi_calls.specs.Machine.{CallView, call_locks, is_paying, is_undecided}
+use Rattle.xsi_calls.specs.Machine.{CallView, call_locks, is_paying, is_searching, is_undecided}
 use Rattle.xsi_calls.specs.Parts.{IsOneMachine, IsToPay, asked_with, conclusion_under, decision_by, payment_under, paying, question_under, tried_by, tried_under, trials_for, undecided_with}
 use Rattle.xsi_calls.specs.PaymentStages as stages
 use Rattle.xsi_calls.specs.PaymentWords.{Due}
 use Rattle.xsi_calls.specs.QuestionSteps.{BeginsNext, MakesQuestions, is_blocked}
-use Rattle.xsi_calls.specs.Questions.{has_asked, is_done, questions_locks}
+use Rattle.xsi_calls.specs.MakeSteps.{MakesWrites}
+use Rattle.xsi_calls.specs.Questions.{has_asked, is_done, question_searches, questions_locks}
 use Rattle.xsi_calls.specs.Stages.{Stage, stage_at}
 use Rattle.xsi_calls.specs.Undecided.{IsCalmIn}
 use Rattle.xsi_calls.specs.UndecidedSteps.{MakesUndecided}
 use Rattle.xsi_calls.specs.QuestionWords.{Roomful, caller_of}
 use Rattle.xsi_calls.specs.UndecidedWords.{Decision, QuestionsView}
-use Rattle.xsi_calls.specs.WriteRuns.{ReachesBySearch}
 use Rattle.xsi_calls.specs.Words.{AreNames, AsksAtOnce, Call, Caller, CanDecide, Change, Ended, HasRoom, IsSeat, IsUndecided, Plan, PoolState, Progress, ReachesAtOnce, RecordKey, Records, Settled, State, Table, Trials, UndecidedCall, begun_payment, its_plan, row_of, trials_of}
 use Rattle.xsi_calls.proofs.AskingLemmas.{leaves_next, makes_next}
 use Rattle.xsi_calls.proofs.AtOnceLemmas.{asks_from}
@@ -219,17 +219,18 @@ module _ (hash : RecordKey → ℕ) (seat : ℕ) (stopped : Bool) (caller : Call
     -- a question that is asked in one go
     pub asks_at_once_there : (q2 : Questions) → question_under part ≡ None → tried_under part ≡ None →
         (pool : PoolState) (locks : Table) →
-        AsksAtOnce (MakesQuestions hash seat call) seat (asked_with q None) (asked_with q2 None) pool locks →
-        AsksAtOnce (MakesCall hash seat stopped) seat now (machine caller call q2 part phase) pool locks
+        AsksAtOnce (MakesQuestions hash seat call) question_searches seat (asked_with q None) (asked_with q2 None) pool
+        locks → AsksAtOnce (MakesCall hash seat stopped) is_searching seat now (machine caller call q2 part phase) pool
+        locks
     asks_at_once_there q2 none untried pool locks goes =
-        subst (λ (o : Option Trials). AsksAtOnce (MakesCall hash seat stopped) seat now (with_stage caller call
-        (record { questions = asked_with q2 (question_under part); trials = o }) stage) pool locks)
-        (ap (trials_for (decision_by call q.inquiry)) untried
+        subst (λ (o : Option Trials). AsksAtOnce (MakesCall hash seat stopped) is_searching seat now
+        (with_stage caller call (record { questions = asked_with q2 (question_under part); trials = o }) stage) pool
+        locks) (ap (trials_for (decision_by call q.inquiry)) untried
         ∙ sym (ap (trials_for (decision_by call q2.inquiry)) untried))
         (asks_from hash seat caller call u (asked_with q2 (question_under part)) pool locks
-        (subst (λ (o : Option Question). AsksAtOnce (MakesQuestions hash seat call) seat (asked_with q o)
-        (asked_with q2 o) pool locks) (sym none) goes) (ap (trials_for (decision_by call q.inquiry)) untried) stage now
-        view undecided stopped)
+        (subst (λ (o : Option Question). AsksAtOnce (MakesQuestions hash seat call) question_searches seat
+        (asked_with q o) (asked_with q2 o) pool locks) (sym none) goes)
+        (ap (trials_for (decision_by call q.inquiry)) untried) stage now view undecided stopped)
 
   -- ---- while it pays
 
@@ -277,7 +278,7 @@ module _ (hash : RecordKey → ℕ) (seat : ℕ) (stopped : Bool) (caller : Call
     pub writes_at_once : (place : TrialsPlace) → part ≡ parts.Writes place → (w : CallWrites) →
         AreNames q.names → (x : Plan) → x ≡ its_plan call (asked_with q None) → (pool : PoolState)
         (locks locks' : Table) → IsSeat locks seat → row_of locks seat ≡ call_locks now →
-        ReachesBySearch hash seat x place.writes w pool locks locks' →
+        ReachesAtOnce (MakesWrites hash seat x) seat place.writes w pool locks locks' →
         ReachesAtOnce (MakesCall hash seat stopped) seat now (machine caller call q
         (parts.Writes (record place { writes = w })) phase) pool locks locks'
     writes_at_once place is w names x plan pool locks locks' seated row goes =
@@ -292,4 +293,5 @@ module _ (hash : RecordKey → ℕ) (seat : ℕ) (stopped : Bool) (caller : Call
         seated row
         (payment_reaches hash seat (its_plan call u.questions) (payment_under part) place.writes w
         (ap payment_under is) pool locks locks'
-        (subst (λ (y : Plan). ReachesBySearch hash seat y place.writes w pool locks locks') plan goes))))
+        (subst (λ (y : Plan). ReachesAtOnce (MakesWrites hash seat y) seat place.writes w pool locks locks') plan
+        goes))))

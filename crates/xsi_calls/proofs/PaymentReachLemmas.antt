@@ -8,7 +8,6 @@ use Rattle.xsi_calls.specs.MakeSteps.{MakesWrites}
 use Rattle.xsi_calls.specs.PaySteps.{MakesPayment}
 use Rattle.xsi_calls.specs.PaymentWords.{CallWrites, Moved, Plan, PoolState, RecordKey, Table}
 use Rattle.xsi_calls.specs.QuestionRuns.{ReachesAtOnce}
-use Rattle.xsi_calls.specs.WriteRuns.{ReachesBySearch}
 use Rattle.xsi_calls.proofs.ReachLemmas.{reaches_in}
 use Rattle.xsi_calls.proofs.WrittenLemmas.{writes_on}
 
@@ -33,7 +32,7 @@ module _ (hash : RecordKey → ℕ) (seat : ℕ) (p : Plan) where
   }
 
   pub payment_reaches : (old : Stage) (w w' : CallWrites) → old ≡ stages.Writing w → (pool : PoolState)
-      (locks locks' : Table) → ReachesBySearch hash seat p w w' pool locks locks' →
+      (locks locks' : Table) → ReachesAtOnce (MakesWrites hash seat p) seat w w' pool locks locks' →
       ReachesAtOnce (MakesPayment hash seat p) seat old (stages.Writing w') pool locks locks'
   payment_reaches old w w' is pool locks locks' goes =
       subst (λ (x : Stage). ReachesAtOnce (MakesPayment hash seat p) seat x (stages.Writing w') pool locks locks')
@@ -41,4 +40,4 @@ module _ (hash : RecordKey → ℕ) (seat : ℕ) (p : Plan) where
       (reaches_in (MakesWrites hash seat p) (MakesPayment hash seat p) seat stages.Writing
       (λ (v : CallWrites) (t : Table). ⊤)
       (λ kind v v' pool pool' t t' stands makes. (pays kind v v' pool pool' t t' makes, tt)) w w' pool locks locks' tt
-      goes.reaches)
+      goes)

@@ -2,11 +2,8 @@
 use Rattle.std.proofs.Common.{ℕ, ◌≡◌, ◌+◌, Bool, true, false, List, ◌++◌, ◌∷◌, [], min, Option, Some, None, Result, Ok, if◌then◌else◌, refl, sym, ap, ◌∙◌, subst, inl, inr}
 use Rattle.file_pages.specs.declared.fault.FileFault.{FileFault}
 use Rattle.page_locks.proofs.ChangeLemmas.{IsSeat-with_row}
-use Rattle.page_locks.proofs.RowLemmas.{kind_of-append, first_kind}
 use Rattle.page_locks.proofs.TableLemmas.{row_of-same}
-use Rattle.page_locks.specs.Locks.{kind_of, lock_of}
-use Rattle.page_locks.specs.Table.{held as held_by}
-use Rattle.page_locks.specs.declared.lock.LockKind.{LockKind}
+use Rattle.page_locks.specs.Locks.{lock_of}
 use Rattle.page_locks.specs.declared.lock.LockKind.TheVariants.{Read}
 use Rattle.page_locks.specs.declared.lock.LockName.TheVariants.{Directory, Page}
 use Rattle.record_file.specs.AccessSteps.{MakesAccess}
@@ -19,9 +16,9 @@ use Rattle.xsi_calls.specs.declared.question.Question.{Question}
 use Rattle.xsi_calls.specs.QuestionWords.{AccessView, AnyInquiry, AreNames, Call, GiveBack, HasFound, IsSeat, Lock, Look, Moved, NameTurn, NotASystem, PoolState, Ready, Record, RecordKey, Roomful, Table, Take, ToFind, Wanted, access_locks, asked_of, begun, name_turn, names_for, row_of, store_of, with_row}
 use Rattle.xsi_calls.specs.Answering.{key_asked}
 use Rattle.xsi_calls.specs.Counting.{MOST_FINDS, enters_directory, finds_behind, is_to_search, last_of}
-use Rattle.xsi_calls.specs.Questions.{IsUnderWay, QuestionsView, is_ready}
+use Rattle.xsi_calls.specs.Questions.{IsUnderWay, QuestionsView, is_ready, question_searches}
 use Rattle.xsi_calls.specs.QuestionSteps.{Hears, Listens, MakesQuestions}
-use Rattle.xsi_calls.specs.QuestionRuns.{AskStep, AsksAtOnce, At, Way, at}
+use Rattle.xsi_calls.specs.QuestionRuns.{AsksAtOnce, At, Way, at}
 use Rattle.xsi_calls.proofs.AskingLemmas.{first_step}
 use Rattle.xsi_calls.proofs.CountLemmas.{last_there, none_more}
 use Rattle.xsi_calls.proofs.ListenLemmas.{went_on}
@@ -127,12 +124,6 @@ module _ (hash : RecordKey → ℕ) (seat : ℕ) (call : Call) (i : AnyInquiry) 
     counts_not : more ≡ finds_behind {F = FileFault} (Moved kinds.Grant) (row_of (with_access on_page) seat) more
     counts_not = sym (none_more (Moved kinds.Grant) (row_of (with_access on_page) seat) more enters_not)
 
-    -- the depth is read under a lock on the directory that others may have too
-    shared : (depth : ℕ) → held_by (with_access (place (places.ReadEntry depth))) seat Directory ≡ Some Read
-    shared depth = ap (λ (ls : List Lock). kind_of ls Directory) (row_with (place (places.ReadEntry depth)))
-        ∙ kind_of-append held (lock_of Directory Read ∷ []) Directory
-        ∙ ap (λ (o : Option LockKind). first_kind o (Some Read)) names.no_file.directory
-
     -- ---- it is told by the Look
 
     hears_it : Listens {F = FileFault} call (Moved Look) result (silent looked)
@@ -213,12 +204,6 @@ module _ (hash : RecordKey → ℕ) (seat : ℕ) (call : Call) (i : AnyInquiry) 
           either = inl (record { silent = inl refl; same = (refl, refl); fine = refl });
         }) None (inl ((refl, λ key serves none. absurd cc), refl)) (seat_with looked) more refl
 
-    -- a move by which no depth is read asks nothing of the directory's lock
-    apart : (kind : Kind) → (kind ≡ kinds.ReadDepth → ⊥) → (old new : At QuestionsView) →
-        MakesQuestions hash seat call (Moved kind) old.machine new.machine old.pool new.pool old.locks new.locks →
-        AskStep (MakesQuestions hash seat call) seat (Moved kind) old new
-    apart kind other old new makes = record { makes = makes; shared = λ is. absurd (other cc) }
-
     abbrev way : Way (At QuestionsView)
     way = record {
       locked = on_way places.ReadDepth;
@@ -229,34 +214,27 @@ module _ (hash : RecordKey → ℕ) (seat : ℕ) (call : Call) (i : AnyInquiry) 
       looked = at heard pool (with_access looked);
     }
 
-    pub asks_at_once : AsksAtOnce (MakesQuestions hash seat call) seat before after pool locks
+    pub asks_at_once : AsksAtOnce (MakesQuestions hash seat call) question_searches seat before after pool locks
     asks_at_once =
         let depth : ℕ = (store_of pool.images).header.depth in
         let page : ℕ = finds.page in
         let m = finds.moves hash in
-        let locks_it = apart kinds.Grant (λ is. absurd cc) (at before pool locks) way.locked (begins m.0.makes) in
-        let reads : AskStep (MakesQuestions hash seat call) seat (Moved kinds.ReadDepth) way.locked way.deep =
-        record {
-          makes = goes_to kinds.ReadDepth (λ look. absurd cc) places.ReadDepth (places.ReadEntry depth) m.1.0.makes
-              refl;
-          shared = λ is. shared depth;
-        } in
-        let names_it = apart kinds.ReadEntry (λ is. absurd cc) way.deep way.named
-        (goes_to kinds.ReadEntry (λ look. absurd cc) (places.ReadEntry depth) (places.GrantPage page) m.1.1.0.makes
-        refl) in
-        let arrives = apart kinds.Grant (λ is. absurd cc) way.named way.arrived
-        (goes_to kinds.Grant (λ look. absurd cc) (places.GrantPage page) (places.ReleaseDirectory page)
-        m.1.1.1.0.makes counts_not) in
-        let gives_back = apart kinds.Release (λ is. absurd cc) way.arrived way.alone
-        (goes_to kinds.Release (λ look. absurd cc) (places.ReleaseDirectory page) (places.Look page)
-        m.1.1.1.1.0.makes refl) in
-        let looks_there = apart kinds.Look (λ is. absurd cc) way.alone way.looked
-        (looks (places.Look page) m.1.1.1.1.1.0.makes) in
-        let leaves = apart kinds.Release (λ is. absurd cc) way.looked (at after pool locks)
-        (ends m.1.1.1.1.1.1.0.makes) in
+        let locks_it = begins m.0.makes in
+        let reads = goes_to kinds.ReadDepth (λ look. absurd cc) places.ReadDepth (places.ReadEntry depth) m.1.0.makes
+        refl in
+        let names_it = goes_to kinds.ReadEntry (λ look. absurd cc) (places.ReadEntry depth) (places.GrantPage page)
+        m.1.1.0.makes refl in
+        let arrives = goes_to kinds.Grant (λ look. absurd cc) (places.GrantPage page) (places.ReleaseDirectory page)
+        m.1.1.1.0.makes counts_not in
+        let gives_back = goes_to kinds.Release (λ look. absurd cc) (places.ReleaseDirectory page) (places.Look page)
+        m.1.1.1.1.0.makes refl in
+        let looks_there = looks (places.Look page) m.1.1.1.1.1.0.makes in
+        let leaves = ends m.1.1.1.1.1.1.0.makes in
         record {
           way = way;
           moves = (locks_it, (reads, (names_it, (arrives, (gives_back, (looks_there, (leaves, tt)))))));
+          counted = record { begins = enters; once = enters_not };
+          answered = refl;
         }
 
 -- the names are held that are needed

@@ -10,7 +10,7 @@ use Rattle.step_rules.specs.declared.progress.Progress.{Progress}
 use Rattle.step_rules.specs.declared.progress.Progress.TheVariants.{Moved}
 use Rattle.xsi_calls.specs.QuestionRuns.{AskStep, Promise, ReachesAtOnce, stops_to}
 use Rattle.xsi_calls.specs.QuestionWords.{IsSeat, Lock, PoolState, Table, row_of}
-use Rattle.xsi_calls.proofs.QuestionRunLemmas.{way_in}
+use Rattle.xsi_calls.proofs.QuestionRunLemmas.{counted_in, way_in}
 
 -- where each move of a machine from where this is so is one of another machine, and keeps it so, moves of the one are
 -- moves of the other
@@ -38,11 +38,11 @@ pub reaches_in : {V W : Type 0} (A : Promise V) (B : Promise W) (seat : ℕ) (wh
 reaches_in {V} {W} A B seat whole Stands each old new pool locks locks' stands reaches = record {
   way = way_in among reaches.way;
   arrives = ap among reaches.arrives;
-  moves = carried (AskStep A seat) (AskStep B seat) among (λ (s : At V). Stands s.machine s.locks)
+  moves = carried (AskStep A) (AskStep B) among (λ (s : At V). Stands s.machine s.locks)
       (λ kind before behind held step.
-      let on = each kind before.machine behind.machine before.pool behind.pool before.locks behind.locks held step.makes
-      in (record { makes = on.0; shared = step.shared }, on.1))
+      each kind before.machine behind.machine before.pool behind.pool before.locks behind.locks held step)
       (at old pool locks) (stops_to reaches.way) stands reaches.moves;
+  counted = counted_in whole seat reaches.way reaches.counted;
 }
   where
     among : At V → At W

@@ -14,9 +14,8 @@ use Rattle.xsi_calls.specs.MakeSteps.{MakesWrites}
 use Rattle.xsi_calls.specs.QuestionWords.{Moved}
 use Rattle.xsi_calls.specs.UndecidedSteps.{MakesUndecided}
 use Rattle.xsi_calls.specs.UndecidedWords.{AreNames, AskStep, At, Call, Decision, IsSeat, Plan, PoolState, QuestionsView, ReachesAtOnce, RecordKey, Table, at, row_of, writes_locks}
-use Rattle.xsi_calls.specs.WriteRuns.{ReachesBySearch}
 use Rattle.xsi_calls.proofs.CountLemmas.{none_more}
-use Rattle.xsi_calls.proofs.QuestionRunLemmas.{way_in}
+use Rattle.xsi_calls.proofs.QuestionRunLemmas.{counted_in, way_in}
 use Rattle.xsi_calls.proofs.ReachLemmas.{HasItsRow, row_behind}
 use Rattle.xsi_calls.proofs.StepLemmas.{tried_with}
 
@@ -38,43 +37,41 @@ module _ (hash : RecordKey → ℕ) (seat : ℕ) (call : Call) (q : QuestionsVie
     Stands s = HasItsRow seat s.locks (writes_locks s.machine q.names)
 
     stands_on : (kind : Kind) (s s' : At CallWrites) → Stands s →
-        AskStep (MakesWrites hash seat x) seat (Moved kind) s s' → Stands s'
+        AskStep (MakesWrites hash seat x) (Moved kind) s s' → Stands s'
     stands_on kind s s' stands step =
         row_behind seat s.locks s'.locks (writes_locks s'.machine q.names) stands.0
-        (step.makes.row q.names names.no_file stands.1)
+        (step.row q.names names.no_file stands.1)
 
     -- behind n searches it is one of the call, behind which there are m
     moves : (kind : Kind) (n m : ℕ) (s s' : At CallWrites) → Stands s →
         m ≡ finds_behind {F = FileFault} (Moved kind) (row_of s'.locks seat) n →
-        AskStep (MakesWrites hash seat x) seat (Moved kind) s s' →
-        AskStep (MakesUndecided hash seat call) seat (Moved kind) (among n s) (among m s')
-    moves kind n m s s' stands counts step = record {
-      makes = tried_with hash seat call (record q { finds = n }) s.pool s.locks x plan
-          (record { writes = s.machine; decision = decision }) names stands.1 (Moved kind) s'.machine s'.pool s'.locks
-          step.makes stands.0 m counts;
-      shared = step.shared;
-    }
+        AskStep (MakesWrites hash seat x) (Moved kind) s s' →
+        AskStep (MakesUndecided hash seat call) (Moved kind) (among n s) (among m s')
+    moves kind n m s s' stands counts step =
+        tried_with hash seat call (record q { finds = n }) s.pool s.locks x plan
+        (record { writes = s.machine; decision = decision }) names stands.1 (Moved kind) s'.machine s'.pool s'.locks
+        step stands.0 m counts
 
     module _ (w w' : CallWrites) (pool : PoolState) (locks locks' : Table) (seated : IsSeat locks seat)
         (row : row_of locks seat ≡ writes_locks w q.names)
-        (goes : ReachesBySearch hash seat x w w' pool locks locks') where
+        (goes : ReachesAtOnce (MakesWrites hash seat x) seat w w' pool locks locks') where
       -- one search more
       abbrev more : ℕ
       more = min (q.finds + 1) MOST_FINDS
 
       counts : more ≡
-          finds_behind {F = FileFault} (Moved kinds.Grant) (row_of goes.reaches.way.locked.locks seat) q.finds
-      counts = sym (ap (λ (b : Bool). if b then min (q.finds + 1) MOST_FINDS else q.finds) goes.begins)
+          finds_behind {F = FileFault} (Moved kinds.Grant) (row_of goes.way.locked.locks seat) q.finds
+      counts = sym (ap (λ (b : Bool). if b then min (q.finds + 1) MOST_FINDS else q.finds) goes.counted.begins)
 
       counts_not : more ≡
-          finds_behind {F = FileFault} (Moved kinds.Grant) (row_of goes.reaches.way.arrived.locks seat) more
-      counts_not = sym (none_more (Moved kinds.Grant) (row_of goes.reaches.way.arrived.locks seat) more goes.once)
+          finds_behind {F = FileFault} (Moved kinds.Grant) (row_of goes.way.arrived.locks seat) more
+      counts_not = sym (none_more (Moved kinds.Grant) (row_of goes.way.arrived.locks seat) more goes.counted.once)
 
       pub trial_reaches : ReachesAtOnce (MakesUndecided hash seat call) seat (trying q.finds w) (trying more w') pool
           locks locks'
       trial_reaches =
-          let way = goes.reaches.way in
-          let m = goes.reaches.moves in
+          let way = goes.way in
+          let m = goes.moves in
           let old : At CallWrites = at w pool locks in
           let s0 : Stands old = (seated, row) in
           let s1 = stands_on kinds.Grant old way.locked s0 m.0 in
@@ -84,7 +81,8 @@ module _ (hash : RecordKey → ℕ) (seat : ℕ) (call : Call) (q : QuestionsVie
           let s5 = stands_on kinds.Release way.arrived way.alone s4 m.1.1.1.1.0 in
           record {
             way = way_in (among more) way;
-            arrives = ap (among more) goes.reaches.arrives;
+            arrives = ap (among more) goes.arrives;
+            counted = counted_in (trying more) seat way goes.counted;
             moves = (
               moves kinds.Grant q.finds more old way.locked s0 counts m.0,
               (
@@ -113,11 +111,9 @@ tries_reach hash seat call q old part tries new pool locks locks' goes = record 
   way = goes.way;
   arrives = goes.arrives;
   moves = (
-    record {
-      makes = tries.makes hash seat (Moved kinds.Grant) goes.way.locked.machine pool goes.way.locked.pool locks
-          goes.way.locked.locks goes.moves.0.makes;
-      shared = goes.moves.0.shared;
-    },
+    tries.makes hash seat (Moved kinds.Grant) goes.way.locked.machine pool goes.way.locked.pool locks
+        goes.way.locked.locks goes.moves.0,
     goes.moves.1,
   );
+  counted = goes.counted;
 }

@@ -1,11 +1,8 @@
 -- An access that goes to its page in one go: its moves are those of the writes whose next deed it is.
 use Rattle.std.proofs.Common.{ℕ, ◌≡◌, ◌++◌, ◌∷◌, Bool, true, false, not, ◌&&◌, List, [], Option, Some, None, refl, sym, ap, ◌∙◌, subst}
-use Rattle.page_locks.proofs.RowLemmas.{first_kind, kind_of-append}
 use Rattle.page_locks.proofs.TableLemmas.{row_of-same}
-use Rattle.page_locks.specs.Locks.{kind_of, lock_of}
-use Rattle.page_locks.specs.Table.{held as held_by}
+use Rattle.page_locks.specs.Locks.{lock_of}
 use Rattle.page_locks.specs.Table.{with_row}
-use Rattle.page_locks.specs.declared.lock.LockKind.{LockKind}
 use Rattle.page_locks.specs.declared.lock.LockKind.TheVariants.{Read, Selective}
 use Rattle.page_locks.specs.declared.lock.LockName.TheVariants.{Directory, Page}
 use Rattle.record_file.specs.AccessRuns.{AccessStep, access_at}
@@ -17,13 +14,12 @@ use Rattle.step_rules.specs.declared.kind.Kind.{Kind}
 use Rattle.step_rules.specs.declared.kind.Kind.TheVariants as kinds
 use Rattle.xsi_calls.specs.declared.deed.Deed.TheVariants as deeds
 use Rattle.xsi_calls.specs.declared.writes.CallWrites.{CallWrites}
-use Rattle.xsi_calls.specs.WriteWords.{AccessView, Deed, Delete, Due, Ended, EndsRow, HasEnded, HasNoFileLock, IsSeat, Lock, MakesAccess, Moved, Plan, PoolState, RecordKey, Relink, Replace, Serves, Table, access_locks, row_of, store_of}
+use Rattle.xsi_calls.specs.WriteWords.{AccessView, Deed, Delete, Due, Ended, EndsRow, HasEnded, IsSeat, Lock, MakesAccess, Moved, Plan, PoolState, RecordKey, Relink, Replace, Serves, Table, access_locks, row_of, store_of}
 use Rattle.xsi_calls.specs.Counting.{is_to_search, last_of}
 use Rattle.xsi_calls.specs.Dues.{next_deed, purpose_of}
 use Rattle.xsi_calls.specs.MakeSteps.{Begins, Goes, GoesOn, IsSetOut, Makes, MakesWrites, PaysDue, Stays}
-use Rattle.xsi_calls.specs.QuestionRuns.{AskStep, At, Way, at}
+use Rattle.xsi_calls.specs.QuestionRuns.{At, ReachesAtOnce, Way, at}
 use Rattle.xsi_calls.specs.Views.{begun_deed, locks_under, writes_locks}
-use Rattle.xsi_calls.specs.WriteRuns.{ReachesBySearch}
 use Rattle.xsi_calls.proofs.CountLemmas.{last_there}
 use Rattle.xsi_calls.proofs.MakesLemmas.{makes_writes}
 use Rattle.xsi_calls.proofs.WriteBeginLemmas.{begun_locks}
@@ -34,9 +30,6 @@ use Rattle.xsi_calls.proofs.WriteBeginLemmas.{begun_locks}
 module _ (w : CallWrites) (none : w.access ≡ None) (row : List Lock) (ends : EndsRow (writes_locks w) 3 row) where
   row_is : row ≡ ends.before
   row_is = ends.is ∙ ap (λ (o : Option AccessView). locks_under o ends.before) none
-
-  pub bare_row : HasNoFileLock row
-  bare_row = subst HasNoFileLock (sym row_is) ends.bare
 
   -- and so that of an access that has just begun
   pub begun_row : (hash : RecordKey → ℕ) (d : Deed) (a : AccessView) → a ≡ begun_deed hash d →
@@ -98,7 +91,7 @@ module _ (hash : RecordKey → ℕ) (seat : ℕ) (p : Plan) (pool : PoolState) (
   -- ---- all of them
 
   module _ (d : Deed) (next : next_deed p due ≡ Some d) (serves : Serves (purpose_of d) (begun_deed hash d))
-      (locks locks' : Table) (bare : HasNoFileLock (row_of locks seat)) (a : AccessView)
+      (locks locks' : Table) (a : AccessView)
       (goes : GoesAtOnce seat (begun_deed hash d) a pool locks locks') where
     abbrev place : SearchPlace → AccessView
     place x = access_at x (begun_deed hash d)
@@ -119,14 +112,6 @@ module _ (hash : RecordKey → ℕ) (seat : ℕ) (p : Plan) (pool : PoolState) (
         row_of-same locks seat (access_locks (place x) (row_of locks seat)) seated
         ∙ deed_locks hash d x (row_of locks seat)
 
-    -- the depth is read under a lock on the directory that others may have too
-    shared : IsSeat locks seat → (depth : ℕ) →
-        held_by (with_access (place (places.ReadEntry depth))) seat Directory ≡ Some Read
-    shared seated depth =
-        ap (λ (ls : List Lock). kind_of ls Directory) (row_with seated (places.ReadEntry depth))
-        ∙ kind_of-append (row_of locks seat) (lock_of Directory Read ∷ []) Directory
-        ∙ ap (λ (o : Option LockKind). first_kind o (Some Read)) bare.directory
-
     -- from one place to the next one, from where it moves on
     on : (kind more : Kind) (b b' b'' : AccessView) → b'.written ≡ b.written →
         AccessStep hash seat (Moved kind) (at b pool (with_access b)) (at b' pool (with_access b')) →
@@ -135,12 +120,6 @@ module _ (hash : RecordKey → ℕ) (seat : ℕ) (p : Plan) (pool : PoolState) (
     on kind more b b' b'' unwritten step next_step =
         moves kind (under b) b b' (with_access b) (with_access b') (GoesOn b refl refl) unwritten
         (goes_on more b' b'' (with_access b') (with_access b'') next_step.makes) step
-
-    -- a move by which no depth is read asks nothing of the directory's lock
-    apart : (kind : Kind) → (kind ≡ kinds.ReadDepth → ⊥) → (old new : At CallWrites) →
-        MakesWrites hash seat p (Moved kind) old.machine new.machine old.pool new.pool old.locks new.locks →
-        AskStep (MakesWrites hash seat p) seat (Moved kind) old new
-    apart kind other old new makes = record { makes = makes; shared = λ is. absurd (other cc) }
 
     abbrev resting : CallWrites
     resting = record { due = due; access = None }
@@ -155,57 +134,48 @@ module _ (hash : RecordKey → ℕ) (seat : ℕ) (p : Plan) (pool : PoolState) (
       looked = on_way looked;
     }
 
-    pub writes_reach : ReachesBySearch hash seat p resting (under a) pool locks locks'
+    pub writes_reach : ReachesAtOnce (MakesWrites hash seat p) seat resting (under a) pool locks locks'
     writes_reach =
         let depth : ℕ = (store_of pool.images).header.depth in
         let page : ℕ = goes.page in
         let m = goes.moves hash in
         let seated : IsSeat locks seat = m.0.may.seated in
-        let locks_it = apart kinds.Grant (λ is. absurd cc) (at resting pool locks) way.locked
-        (moves kinds.Grant resting (begun_deed hash d) (place places.ReadDepth) locks
+        let locks_it = moves kinds.Grant resting (begun_deed hash d) (place places.ReadDepth) locks
         (with_access (place places.ReadDepth)) (Begins d refl next serves refl) refl
         (goes_on kinds.ReadDepth (place places.ReadDepth) (place (places.ReadEntry depth))
-        (with_access (place places.ReadDepth)) (with_access (place (places.ReadEntry depth))) m.1.0.makes) m.0) in
-        let reads : AskStep (MakesWrites hash seat p) seat (Moved kinds.ReadDepth) way.locked way.deep = record {
-          makes = on kinds.ReadDepth kinds.ReadEntry (place places.ReadDepth) (place (places.ReadEntry depth))
-              (place (places.GrantPage page)) refl m.1.0 m.1.1.0;
-          shared = λ is. shared seated depth;
-        } in
-        let names_it = apart kinds.ReadEntry (λ is. absurd cc) way.deep way.named
-        (on kinds.ReadEntry kinds.Grant (place (places.ReadEntry depth)) (place (places.GrantPage page))
-        (place (places.ReleaseDirectory page)) refl m.1.1.0 m.1.1.1.0) in
-        let arrives = apart kinds.Grant (λ is. absurd cc) way.named way.arrived
-        (on kinds.Grant kinds.Release (place (places.GrantPage page)) (place (places.ReleaseDirectory page))
-        (place (places.Look page)) refl m.1.1.1.0 m.1.1.1.1.0) in
-        let gives_back = apart kinds.Release (λ is. absurd cc) way.arrived way.alone
-        (on kinds.Release kinds.Look (place (places.ReleaseDirectory page)) (place (places.Look page)) looked refl
-        m.1.1.1.1.0 m.1.1.1.1.1.0) in
-        let looks = apart kinds.Look (λ is. absurd cc) way.alone way.looked
-        (moves kinds.Look (under (place (places.Look page))) (place (places.Look page)) looked
+        (with_access (place places.ReadDepth)) (with_access (place (places.ReadEntry depth))) m.1.0.makes) m.0 in
+        let reads = on kinds.ReadDepth kinds.ReadEntry (place places.ReadDepth) (place (places.ReadEntry depth))
+        (place (places.GrantPage page)) refl m.1.0 m.1.1.0 in
+        let names_it = on kinds.ReadEntry kinds.Grant (place (places.ReadEntry depth)) (place (places.GrantPage page))
+        (place (places.ReleaseDirectory page)) refl m.1.1.0 m.1.1.1.0 in
+        let arrives = on kinds.Grant kinds.Release (place (places.GrantPage page))
+        (place (places.ReleaseDirectory page)) (place (places.Look page)) refl m.1.1.1.0 m.1.1.1.1.0 in
+        let gives_back = on kinds.Release kinds.Look (place (places.ReleaseDirectory page)) (place (places.Look page))
+        looked refl m.1.1.1.1.0 m.1.1.1.1.1.0 in
+        let looks = moves kinds.Look (under (place (places.Look page))) (place (places.Look page)) looked
         (with_access (place (places.Look page))) (with_access looked) (GoesOn (place (places.Look page)) refl refl) refl
-        (subst (λ (b : AccessView). HasEnded b.operation → ⊥) goes.is goes.goes_on) m.1.1.1.1.1.0) in
+        (subst (λ (b : AccessView). HasEnded b.operation → ⊥) goes.is goes.goes_on) m.1.1.1.1.1.0 in
         record {
-          reaches = record {
-            way = way;
-            arrives = ap on_way (sym goes.is) ∙ ap (at (under a) pool) (sym goes.row);
-            moves = (locks_it, (reads, (names_it, (arrives, (gives_back, (looks, tt))))));
+          way = way;
+          arrives = ap on_way (sym goes.is) ∙ ap (at (under a) pool) (sym goes.row);
+          moves = (locks_it, (reads, (names_it, (arrives, (gives_back, (looks, tt))))));
+          counted = record {
+            begins = ap (λ (ls : List Lock). is_to_search (last_of ls)) (row_with seated places.ReadDepth)
+                ∙ ap is_to_search (last_there (row_of locks seat) (lock_of Directory Read));
+            once = ap (λ (ls : List Lock). is_to_search (last_of ls)) (row_with seated (places.ReleaseDirectory page))
+                ∙ ap is_to_search (last_there (row_of locks seat ++ lock_of Directory Read ∷ [])
+                (lock_of (Page page) Selective));
           };
-          begins = ap (λ (ls : List Lock). is_to_search (last_of ls)) (row_with seated places.ReadDepth)
-              ∙ ap is_to_search (last_there (row_of locks seat) (lock_of Directory Read));
-          once = ap (λ (ls : List Lock). is_to_search (last_of ls)) (row_with seated (places.ReleaseDirectory page))
-              ∙ ap is_to_search (last_there (row_of locks seat ++ lock_of Directory Read ∷ [])
-              (lock_of (Page page) Selective));
         }
 
 -- from its place
 pub reaches_from : (hash : RecordKey → ℕ) (seat : ℕ) (p : Plan) (pool : PoolState) (locks locks' : Table)
-    (w : CallWrites) → w.access ≡ None → EndsRow (writes_locks w) 3 (row_of locks seat) → (d : Deed) →
+    (w : CallWrites) → w.access ≡ None → (d : Deed) →
     next_deed p w.due ≡ Some d → (b : AccessView) → b ≡ begun_deed hash d → Serves (purpose_of d) b →
     (a : AccessView) → GoesAtOnce seat b a pool locks locks' →
-    ReachesBySearch hash seat p w (record { due = w.due; access = Some a }) pool locks locks'
-reaches_from hash seat p pool locks locks' w none ends d next b begun serves a goes =
-    subst (λ (o : Option AccessView). ReachesBySearch hash seat p (record { due = w.due; access = o })
+    ReachesAtOnce (MakesWrites hash seat p) seat w (record { due = w.due; access = Some a }) pool locks locks'
+reaches_from hash seat p pool locks locks' w none d next b begun serves a goes =
+    subst (λ (o : Option AccessView). ReachesAtOnce (MakesWrites hash seat p) seat (record { due = w.due; access = o })
     (record { due = w.due; access = Some a }) pool locks locks') (sym none)
     (writes_reach hash seat p pool w.due d next (subst (Serves (purpose_of d)) begun serves) locks locks'
-    (bare_row w none (row_of locks seat) ends) a
-    (subst (λ (x : AccessView). GoesAtOnce seat x a pool locks locks') begun goes))
+    a (subst (λ (x : AccessView). GoesAtOnce seat x a pool locks locks') begun goes))

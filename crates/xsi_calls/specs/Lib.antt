@@ -16,7 +16,6 @@ pub mod Questions
 pub mod QuestionSteps
 pub mod QuestionLaws
 pub mod QuestionRuns
-pub mod WriteRuns
 pub mod PaymentWords
 pub mod PaymentStages
 pub mod Payments
@@ -39,6 +38,7 @@ pub mod Machine
 pub mod Parts
 pub mod Calling
 pub mod CallSteps
+pub mod FileLocks
 pub mod Laws
 pub use Rattle.call_decisions.specs as call_decisions
 pub use Rattle.record_file.specs.stale_search

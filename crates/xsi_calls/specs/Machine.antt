@@ -4,10 +4,12 @@ use Rattle.queue_model.specs.declared.answer.Answer.{Answer}
 use Rattle.step_rules.specs.Turns.{no_ask}
 use Rattle.xsi_calls.specs.PaymentLaws.{MOST_PAYMENT_STEPS}
 use Rattle.xsi_calls.specs.declared.conclusion.Conclusion.{Conclusion}
+use Rattle.xsi_calls.specs.declared.question.Question.{Question}
 use Rattle.xsi_calls.specs.Concluding.{answer_in}
 use Rattle.xsi_calls.specs.Stages.{Stage, Undecided, Paying, Releasing}
 use Rattle.xsi_calls.specs.Payments.{payment_access}
-use Rattle.xsi_calls.specs.WriteWords.{AccessView}
+use Rattle.xsi_calls.specs.Questions.{question_access}
+use Rattle.xsi_calls.specs.WriteWords.{AccessView, searches_under}
 use Rattle.xsi_calls.specs.Words.{MAX_NAMES, Writes, Call, Caller, HasRoom, IsCalm, IsFresh, IsPaid, KnowsNear, Known, Lock, Owes, RecordKey, State, Store, Trials, Turn, UndecidedCall, caller_of, its_plan, owes_now, payment_facts, payment_left, payment_locks, payment_turn, undecided_facts, undecided_left, undecided_locks, undecided_owes, undecided_turn}
 
 -- a call, with what it has asked and the names that it holds, and where it stands
@@ -90,6 +92,23 @@ access_at (Releasing conclusion) = None
 
 abbrev pub call_access : CallView → Option AccessView
 call_access m = access_at m.stage
+
+-- whatever it is at, the access under way: of its question, of what it inserts on trial, or of what it pays
+abbrev pub asking_access : Option Question → Option Trials → Option AccessView
+asking_access question None = question_access question
+asking_access question (Some t) = t.writes.access
+
+abbrev pub under_way_at : UndecidedCall → Stage → Option AccessView
+under_way_at u Undecided = asking_access u.questions.question u.trials
+under_way_at u (Paying payment conclusion) = payment_access payment
+under_way_at u (Releasing conclusion) = None
+
+abbrev pub access_under_way : CallView → Option AccessView
+access_under_way m = under_way_at m.undecided m.stage
+
+-- a search of it is under way: the directory was granted to it, and no page has answered
+abbrev pub is_searching : CallView → Bool
+is_searching m = searches_under (access_under_way m)
 
 abbrev pub facts_at : UndecidedCall → Stage → List Known
 facts_at u Undecided = undecided_facts u

@@ -1,25 +1,21 @@
 -- A question that is asked in one go, and a write that goes to its page so, by each machine of a call. docs/STEPS.md,
 -- "Search".
-use Rattle.std.specs.Prelude.{ℕ, ◌≡◌, List, [], ◌∷◌, Some}
+use Rattle.std.specs.Prelude.{ℕ, ◌≡◌, Bool, true, false, List, [], ◌∷◌}
 use Rattle.file_pages.specs.declared.fault.FileFault.{FileFault}
-use Rattle.page_locks.specs.Table.{held}
-use Rattle.page_locks.specs.declared.lock.LockKind.TheVariants.{Read}
-use Rattle.page_locks.specs.declared.lock.LockName.TheVariants.{Directory}
 pub use Rattle.record_file.specs.stale_search.SearchRuns.{At, at}
 pub use Rattle.step_rules.specs.Runs.{MovesAlong, Stop, stop}
 pub use Rattle.step_rules.specs.declared.kind.Kind.{Kind}
 use Rattle.step_rules.specs.declared.kind.Kind.TheVariants as kinds
-use Rattle.xsi_calls.specs.QuestionWords.{Moved, PoolState, Progress, Table}
+use Rattle.xsi_calls.specs.Counting.{is_to_search, last_of}
+use Rattle.xsi_calls.specs.QuestionWords.{PoolState, Progress, Table, row_of}
 
 -- what a machine promises of a step
 abbrev pub Promise : Type 0 → Type 1
 Promise V = Progress FileFault → (old new : V) → (pool pool' : PoolState) → (locks locks' : Table) → Type 0
 
--- a step that a machine promises; where the depth is read by it, the directory is held as others may hold it too
-pub record AskStep {V : Type 0} (Makes : Promise V) (seat : ℕ) (did : Progress FileFault) (old new : At V)
-    : Type 0 where
-  pub makes : Makes did old.machine new.machine old.pool new.pool old.locks new.locks
-  pub shared : did ≡ Moved kinds.ReadDepth → held new.locks seat Directory ≡ Some Read
+-- a step that a machine promises
+abbrev pub AskStep : {V : Type 0} → Promise V → Progress FileFault → (old new : At V) → Type 0
+AskStep Makes did old new = Makes did old.machine new.machine old.pool new.pool old.locks new.locks
 
 -- where a machine stands on the way to a page, behind each move up to the Look
 pub record Way (S : Type 0) : Type 0 where
@@ -31,6 +27,11 @@ pub record Way (S : Type 0) : Type 0 where
   pub arrived : S
   pub alone : S
   pub looked : S
+
+-- of its moves the first one alone begins a search: the other Grant is that of the page
+pub record SearchesOnce {V : Type 0} (seat : ℕ) (way : Way (At V)) : Type 0 where
+  pub begins : is_to_search (last_of (row_of way.locked.locks seat)) ≡ true
+  pub once : is_to_search (last_of (row_of way.arrived.locks seat)) ≡ false
 
 -- its moves; by the last one the page is given back
 abbrev pub stops_on : {S : Type 0} → Way S → S → List (Stop S)
@@ -44,11 +45,14 @@ stops_on way new =
     ∷ stop kinds.Release new
     ∷ []
 
--- a question is asked, and answered, by such moves; the pool and the locks are then what they were
-pub record AsksAtOnce {V : Type 0} (Makes : Promise V) (seat : ℕ) (old new : V) (pool : PoolState) (locks : Table)
-    : Type 0 where
+-- a question is asked, and answered, by such moves; the pool and the locks are then what they were. Its search is over
+-- behind the Look
+pub record AsksAtOnce {V : Type 0} (Makes : Promise V) (searches : V → Bool) (seat : ℕ) (old new : V)
+    (pool : PoolState) (locks : Table) : Type 0 where
   pub way : Way (At V)
-  pub moves : MovesAlong (AskStep Makes seat) (at old pool locks) (stops_on way (at new pool locks))
+  pub moves : MovesAlong (AskStep Makes) (at old pool locks) (stops_on way (at new pool locks))
+  pub counted : SearchesOnce seat way
+  pub answered : searches way.looked.machine ≡ false
 
 -- its moves up to the Look
 abbrev pub stops_to : {S : Type 0} → Way S → List (Stop S)
@@ -66,4 +70,5 @@ pub record ReachesAtOnce {V : Type 0} (Makes : Promise V) (seat : ℕ) (old new 
     (locks locks' : Table) : Type 0 where
   pub way : Way (At V)
   pub arrives : way.looked ≡ at new pool locks'
-  pub moves : MovesAlong (AskStep Makes seat) (at old pool locks) (stops_to way)
+  pub moves : MovesAlong (AskStep Makes) (at old pool locks) (stops_to way)
+  pub counted : SearchesOnce seat way

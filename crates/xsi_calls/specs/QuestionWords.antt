@@ -1,7 +1,7 @@
 -- Words of the crates below, under one name.
 pub use Rattle.record_file.specs.AccessWords.{RecordKey, PoolState, Table, Lock, Change, Store, row_of, store_of, IsReady, OnlyWrites, Progress, Moved, Blocked, Fault, Ended, Look, World, Known, Turn, is_fault, IsSeat, HasNoFileLock, Sees, Step, world, NearsOrSpares, HasEnded, Record}
 pub use Rattle.record_file.specs.Purposes.{ToFind, StandsAt, is_write}
-pub use Rattle.record_file.specs.Accesses.{AccessView, HasFound, Serves, access_answer, access_facts, access_key, access_left, access_locks, access_pseudokey, access_turn, begun, has_set_out}
+pub use Rattle.record_file.specs.Accesses.{AccessView, HasFound, Serves, access_answer, access_facts, access_key, access_left, access_locks, access_pseudokey, access_turn, begun, has_set_out, searches_under}
 pub use Rattle.call_decisions.specs.declared.any_inquiry.AnyInquiry.{AnyInquiry}
 pub use Rattle.call_decisions.specs.Anything.{FollowsOf, KnowsOf, asked_of, caller_of, left_of, plan_of}
 pub use Rattle.xsi_calls.specs.call_decisions.NameLaws.{AreNames, names_in}

@@ -13,7 +13,7 @@ use Rattle.xsi_inquiry.specs.Telling.{most_asked}
 use Rattle.xsi_inquiry.specs.Writing.{Plan}
 use Rattle.xsi_control.specs.declared.stage.Stage.TheVariants.{Keyed}
 use Rattle.xsi_calls.specs.declared.question.Question.{Question}
-use Rattle.xsi_calls.specs.QuestionWords.{RecordKey, Store, Lock, LockName, Known, Turn, HasEnded, ToFind, AccessView, Serves, access_answer, access_facts, access_key, access_left, access_locks, access_pseudokey, access_turn, has_set_out, AnyInquiry, KnowsOf, asked_of, left_of, plan_of, names_in, names_for, MAX_NAMES, Begins, name_turn, names_left, NameTurn, Take, GiveBack, Ready, Call, State, Wanted, IsSoNear, IsFiled, Roomful}
+use Rattle.xsi_calls.specs.QuestionWords.{RecordKey, Store, Lock, LockName, Known, Turn, HasEnded, ToFind, AccessView, Serves, access_answer, access_facts, access_key, access_left, access_locks, access_pseudokey, access_turn, has_set_out, searches_under, AnyInquiry, KnowsOf, asked_of, left_of, plan_of, names_in, names_for, MAX_NAMES, Begins, name_turn, names_left, NameTurn, Take, GiveBack, Ready, Call, State, Wanted, IsSoNear, IsFiled, Roomful}
 use Rattle.xsi_calls.specs.Answering.{MayRead, key_asked}
 
 pub record QuestionsView : Type 0 where
@@ -58,7 +58,15 @@ has_asked call v =
 abbrev pub is_done : Call → QuestionsView → Bool
 is_done call v = not (is_some v.question) && has_asked call v
 
--- ---- locks, facts and turns
+-- ---- locks, access, facts and turns
+
+abbrev pub question_access : Option Question → Option AccessView
+question_access None = None
+question_access (Some q) = Some q.access
+
+-- the search of the question under way is: the directory was granted to it, and no page has answered
+abbrev pub question_searches : QuestionsView → Bool
+question_searches v = searches_under (question_access v.question)
 
 abbrev pub locks_behind : Option Question → List Lock → List Lock
 locks_behind None held = held

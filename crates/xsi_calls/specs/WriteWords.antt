@@ -12,7 +12,7 @@ pub use Rattle.xsi_inquiry.specs.Writing.{AreAbsent, CanAllBe, CanBe, HasRange, 
 pub use Rattle.call_decisions.specs.Owing.{Owes, Writes, overlaid, undoing}
 pub use Rattle.record_file.specs.AccessWords.{PoolState, Table, Lock, Change, Store, Known, Turn, row_of, store_of, pair, IsReady, IsSeat, EndsRow, OnlyWrites, FollowsRow, NearsOrSpares, Progress, Moved, Ended, Fault, WriteRecord, is_fault, HasNoFileLock, HasNoRoom, Sees, Step, StepHasCause, HasEnded, IsKeyed, Owns, World, kind_of, world, MOST_STEPS}
 pub use Rattle.record_file.specs.Purposes.{Purpose, ToInsert, ToWrite, StandsAt, aimed_at, made, is_write}
-pub use Rattle.record_file.specs.Accesses.{AccessView, Allows, Serves, access_facts, access_key, access_left, access_locks, access_turn, begun, has_no_room}
+pub use Rattle.record_file.specs.Accesses.{AccessView, Allows, Serves, access_facts, access_key, access_left, access_locks, access_turn, begun, has_no_room, searches_under}
 pub use Rattle.record_file.specs.AccessSteps.{MakesAccess}
 pub use Rattle.xsi_calls.specs.declared.deed.Deed.{Deed}
 pub use Rattle.xsi_calls.specs.declared.due.Due.{Due}

@@ -4,14 +4,16 @@ ghost use Rattle.std.specs.Prelude.{◌≡◌, IsOk, IsSome, None, OnErr, OnOk, 
 ghost use Rattle.std.specs.Option.{is_some};
 ghost use Rattle.xsi_calls.specs.declared.conclusion.Conclusion.TheVariants.{Waits};
 ghost use Rattle.xsi_calls.specs.Words.{CanDecide, IsReady, HasRoom, IsSeat, row_of};
+ghost use Rattle.xsi_calls.specs.FileLocks.{HoldsOfFile};
 ghost use Rattle.xsi_calls.specs.Parts.{IsToPay, conclusion_under, payment_under, undecided_with};
-ghost use Rattle.xsi_calls.specs.Machine.{Begins, IsOver, answer_of_call, call_locks, conclusion_of, finds_of, is_paying, is_undecided};
+ghost use Rattle.xsi_calls.specs.Machine.{Begins, IsOver, answer_of_call, call_locks, conclusion_of, finds_of, is_paying, is_searching, is_undecided};
 ghost use Rattle.xsi_calls.specs.CallSteps.{ComesTo, HasNoSystem, MakesCall, MakesRelease, is_end};
 ghost use Rattle.xsi_calls.specs.QuestionSteps.{is_blocked};
 
 mod skipping;
 
 use crate::conclusion::Conclusion;
+use crate::laws::calls_hold_their_file_locks;
 use crate::part::Part;
 use crate::payment::{is_move, unwritten};
 use crate::phase::Phase;
@@ -153,6 +155,32 @@ impl CallMachine {
         ensures { result ≡ finds_of self.now }
     {
         self.questions.finds()
+    }
+
+    /// Whether a search of it is under way: the directory was granted to it, to read, and no page has
+    /// answered it.
+    pub fn is_searching(&self) -> bool
+        ensures { result ≡ is_searching self.now }
+    {
+        match (&self.phase, &self.part) {
+            (Phase::Undecided, Part::Asks(place)) => {
+                place.is_asking() && place.question.access.is_searching()
+            }
+            (Phase::Undecided, Part::Writes(place)) => {
+                place.on_trial && place.writes.is_searching()
+            }
+            (Phase::Paying, Part::Writes(place)) => place.writes.is_searching(),
+            (Phase::Paying, Part::Sweeps(sweep)) => sweep.is_searching(),
+            (_, _) => false,
+        }
+    }
+
+    /// Of the file it holds exactly the locks that its place asks for: its names are none of them.
+    pub fn holds_of_file(&self)
+        ensures { HoldsOfFile self.now }
+    {
+        self.questions.keep_order();
+        calls_hold_their_file_locks();
     }
 
     /// The answer, into which its room and its call's memory go; none where it has come to none.

@@ -1,6 +1,7 @@
 //! Laws of calls. The functions do nothing; their contracts are the laws.
 
 ghost use Rattle.std.specs.Prelude.{◌+◌, ◌<◌};
+ghost use Rattle.xsi_calls.specs.FileLocks.{HoldTheirFileLocks};
 ghost use Rattle.xsi_calls.specs.Laws.{BeginFewSearches, BeginRight, HaveFewSteps, HaveFewStepsLeft, HoldTheirNames, MOST_CALL_STEPS, MOST_STEPS_LEFT, ReceiveByThree};
 
 use crate::undecided_laws::calls_decide_in_few_steps;
@@ -24,6 +25,13 @@ pub fn calls_have_few_steps_left()
 /// in their kinds.
 pub fn calls_hold_their_names()
     ensures { HoldTheirNames }
+{}
+
+/// Of the file a call holds at each of its places exactly the locks that it asks for there: the
+/// directory to read in a search alone, Selective in the second try of an insert or in a merge,
+/// Exclusive from a merge's Convert on, and pages in an access alone, as it locks them.
+pub fn calls_hold_their_file_locks()
+    ensures { HoldTheirFileLocks }
 {}
 
 /// A call has begun no more searches than it may ask questions, until it inserts on trial; and a

@@ -2,7 +2,7 @@
 
 ghost use Rattle.std.specs.Prelude.{◌≡◌, ◌≢◌, None};
 ghost use Rattle.std.specs.Option.{is_some};
-ghost use Rattle.xsi_calls.specs.WriteWords.{EndsRow, IsReady, IsSeat, is_fault, row_of};
+ghost use Rattle.xsi_calls.specs.WriteWords.{EndsRow, IsReady, IsSeat, is_fault, row_of, searches_under};
 ghost use Rattle.xsi_calls.specs.MakeSteps.{MakesWrites, SetsOut, Settles};
 ghost use Rattle.xsi_calls.specs.Views.{decided_at, is_full, writes_locks};
 
@@ -59,6 +59,17 @@ impl CallWrites {
         ensures { result ≡ is_some self.now.access }
     {
         self.access.is_under_way()
+    }
+
+    /// Whether a search of the one under way is, to which the directory was granted, and which no
+    /// page has answered.
+    pub fn is_searching(&self) -> bool
+        ensures { result ≡ searches_under self.now.access }
+    {
+        match self.access.get() {
+            Some(access) => access.is_searching(),
+            None => false,
+        }
     }
 
     /// What is due.

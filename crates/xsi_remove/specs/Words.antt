@@ -1,7 +1,7 @@
 -- Words of the crates below, under one name.
 pub use Rattle.record_file.specs.AccessWords.{RecordKey, PoolState, Table, Lock, Change, Store, row_of, store_of, IsReady, OnlyWrites, Progress, Moved, Blocked, Fault, Ended, WriteRecord, World, Known, Turn as StepTurn, is_fault, EndsRow, HasNoFileLock, Sees, Step, StepHasCause, IsSeat, world, FollowsRow, NearsOrSpares, HasEnded, IsKeyed, MOST_STEPS, Look, Record, RecordWrite, Remove, Write, Delete, kind_of}
 pub use Rattle.record_file.specs.Purposes.{Purpose, ToFind, ToWrite, StandsAt, aimed_at, is_write}
-pub use Rattle.record_file.specs.Accesses.{AccessView, Allows, HasFound, Serves, access_answer, access_facts, access_key, access_left, access_locks, access_turn, begun}
+pub use Rattle.record_file.specs.Accesses.{AccessView, Allows, HasFound, Serves, access_answer, access_facts, access_key, access_left, access_locks, access_turn, begun, searches_under}
 pub use Rattle.page_locks.specs.declared.lock.LockKind.TheVariants.{Exclusive}
 pub use Rattle.numbers.specs.declared.limits.TheConstants.{MAX_MESSAGES}
 pub use Rattle.queue_model.specs.declared.queue.Queue.{Queue}

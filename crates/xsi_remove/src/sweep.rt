@@ -1,8 +1,8 @@
 //! The sweep.
 
 ghost use Rattle.std.specs.Prelude.{◌≡◌, ◌↔◌, true};
-ghost use Rattle.xsi_remove.specs.Words.{EndsRow, IsReady, IsSeat, row_of};
-ghost use Rattle.xsi_remove.specs.Sweeps.{begun_sweep, sweep_locks};
+ghost use Rattle.xsi_remove.specs.Words.{EndsRow, IsReady, IsSeat, row_of, searches_under};
+ghost use Rattle.xsi_remove.specs.Sweeps.{begun_sweep, sweep_access, sweep_locks};
 ghost use Rattle.xsi_remove.specs.SweepSteps.{IsOver, MakesSweep};
 ghost use Rattle.xsi_remove.specs.Works.{is_move};
 
@@ -58,6 +58,17 @@ impl SweepTurns {
         match &self.work {
             Some(work) => work.has_ended(),
             None => true,
+        }
+    }
+
+    /// Whether a search of it is under way: the directory was granted to it, and no page has
+    /// answered.
+    pub fn is_searching(&self) -> bool
+        ensures { result ≡ searches_under (sweep_access self.now) }
+    {
+        match &self.work {
+            Some(work) => work.access.is_searching(),
+            None => false,
         }
     }
 

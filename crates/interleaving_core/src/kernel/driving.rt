@@ -8,6 +8,7 @@ ghost use Rattle.interleaving_core.specs.Words.{IsSeat};
 use crate::active::decided_by;
 use crate::fault::{Failure, StepFault};
 use crate::kernel::{Kernel, MOST_STEPS};
+use crate::searches::ends_search;
 use crate::step::Step;
 use bucket_page::PseudoKey;
 use file_pages::FileFault;
@@ -65,8 +66,8 @@ impl<D: PageDevice + Drop, K: PseudoKey + Drop> Kernel<D, K> {
 
     /// All steps of the next question of the seat's call, in one go, where so many steps may be made,
     /// the seat was not told that it waits, and it can be asked so (`CallMachine::skip`). Else
-    /// nothing is done, and it is left to `step`. Of these steps the second alone, by which the depth
-    /// is read, changes what is counted.
+    /// nothing is done, and it is left to `step`. Of these steps the first alone, by which the
+    /// directory is granted, and the Look change what is counted.
     fn skip(&mut self, seat: u8, most: u32) -> bool
         requires { IsSeat self.old.locks seat }
         ensures made { result ≡ true →
@@ -95,7 +96,9 @@ impl<D: PageDevice + Drop, K: PseudoKey + Drop> Kernel<D, K> {
         }
         active.decided = self.journal.len();
         self.searches.are_sound();
-        self.searches.note(seat, Kind::ReadDepth, true, false);
+        self.searches.note(seat, Kind::Grant, true, false, false);
+        self.searches.are_sound();
+        self.searches.note(seat, Kind::Look, false, false, true);
         self.searches.are_sound();
         true
     }
@@ -131,9 +134,11 @@ impl<D: PageDevice + Drop, K: PseudoKey + Drop> Kernel<D, K> {
             return false;
         }
         active.decided = decided_by(&active.machine, self.journal.len(), active.decided);
+        let ends = ends_search(Kind::Look, &active.machine);
         self.searches.are_sound();
-        self.searches.note(seat, Kind::ReadDepth, true, false);
+        self.searches.note(seat, Kind::Grant, true, false, false);
         self.searches.are_sound();
+        self.searches.note(seat, Kind::Look, false, false, ends);
         true
     }
 }

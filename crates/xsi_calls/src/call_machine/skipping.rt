@@ -2,7 +2,7 @@
 
 ghost use Rattle.std.specs.Prelude.{◌≡◌, Bool, false, true};
 ghost use Rattle.xsi_calls.specs.CallSteps.{MakesCall};
-ghost use Rattle.xsi_calls.specs.Machine.{call_locks, is_undecided};
+ghost use Rattle.xsi_calls.specs.Machine.{call_locks, is_searching, is_undecided};
 ghost use Rattle.xsi_calls.specs.Words.{AsksAtOnce, IsReady, IsSeat, ReachesAtOnce, row_of};
 
 use crate::call_machine::CallMachine;
@@ -30,7 +30,7 @@ impl CallMachine {
         requires row { row_of locks.now seat ≡ call_locks self.old }
         ensures pool { pool.new ≡ pool.old }
         ensures made { result ≡ true → (stopped : Bool) → AsksAtOnce
-            (MakesCall (K.of_key keys.now) seat stopped) seat self.old self.new
+            (MakesCall (K.of_key keys.now) seat stopped) is_searching seat self.old self.new
             pool.old locks.now }
         ensures undecided { result ≡ true → is_undecided self.old.stage ≡ true }
         ensures spares { result ≡ false → self.new ≡ self.old }

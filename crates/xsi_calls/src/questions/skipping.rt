@@ -6,6 +6,7 @@ ghost use Rattle.xsi_calls.specs.Counting.{MOST_FINDS};
 ghost use Rattle.xsi_calls.specs.Parts.{asked_with};
 ghost use Rattle.xsi_calls.specs.QuestionSteps.{MakesQuestions};
 ghost use Rattle.xsi_calls.specs.QuestionRuns.{AsksAtOnce};
+ghost use Rattle.xsi_calls.specs.Questions.{question_searches};
 
 use crate::hearing::hear;
 use crate::questions::{Questions, is_ready, key_asked};
@@ -35,8 +36,8 @@ impl Questions {
         requires row { row_of locks.now seat ≡ self.old.names }
         ensures pool { pool.new ≡ pool.old }
         ensures made { result ≡ true → AsksAtOnce
-            (MakesQuestions (K.of_key keys.now) seat call.now) seat (asked_with self.old None)
-            (asked_with self.new None) pool.old locks.now }
+            (MakesQuestions (K.of_key keys.now) seat call.now) question_searches seat
+            (asked_with self.old None) (asked_with self.new None) pool.old locks.now }
         ensures spares { result ≡ false → self.new ≡ self.old }
     {
         let Some(wanted) = self.inquiry.wants(call) else {

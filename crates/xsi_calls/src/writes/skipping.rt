@@ -2,7 +2,8 @@
 
 ghost use Rattle.std.specs.Prelude.{◌≡◌, None, false, true};
 ghost use Rattle.xsi_calls.specs.WriteWords.{EndsRow, IsReady, IsSeat, row_of};
-ghost use Rattle.xsi_calls.specs.WriteRuns.{ReachesBySearch};
+ghost use Rattle.xsi_calls.specs.MakeSteps.{MakesWrites};
+ghost use Rattle.xsi_calls.specs.QuestionRuns.{ReachesAtOnce};
 ghost use Rattle.xsi_calls.specs.Views.{writes_locks};
 
 use crate::plan::PlanOf;
@@ -28,8 +29,9 @@ impl CallWrites {
         requires ready { IsReady pool.old }
         requires row { EndsRow (writes_locks self.old) 3 (row_of locks.old seat) }
         ensures pool { pool.new ≡ pool.old }
-        ensures made { result ≡ true → ReachesBySearch (K.of_key keys.now) seat plan.now
-            self.old self.new pool.old locks.old locks.new }
+        ensures made { result ≡ true →
+            ReachesAtOnce (MakesWrites (K.of_key keys.now) seat plan.now) seat self.old self.new
+            pool.old locks.old locks.new }
         ensures spares { result ≡ false → (self.new ≡ self.old) × (locks.new ≡ locks.old) }
     {
         if self.access.is_under_way() || plan.is_done(self.due) {

@@ -1,12 +1,12 @@
--- The others are counted first, and the seat's own count is put back.
-use Rattle.std.proofs.Common.{sym, subst, slice_set, ◌-◌}
+-- All are counted first, and the seat's own count is put back.
+use Rattle.std.proofs.Common.{ap, ◌∙◌, sym, subst, slice_set, ◌-◌}
 use Rattle.std.specs.Vec.{with_items}
-use Rattle.interleaving_core.specs.Counting.{CountsState, IsCountedSeat, Notes}
+use Rattle.interleaving_core.specs.Counting.{CountsState, IsCountedSeat, Notes, own_count}
 use Rattle.interleaving_core.proofs.CountLemmas.{counts_notes, counts_sound, none_touched, written_over}
 use Rattle.interleaving_core.proofs.counts.SearchCounts.count.Goals as goal
 
-pub count_others-requires : goal.count_others-requires
-count_others-requires c quiet =
+pub count_all-requires : goal.count_all-requires
+count_all-requires c quiet =
     let old : CountsState = record {
       counts = c.self.inside.counts.items;
       under_way = c.self.inside.under_way;
@@ -22,10 +22,11 @@ invariant_of-self c =
     } in
     let is : IsCountedSeat old.counts c.args.seat =
     subst (λ (s : CountsState). IsCountedSeat s.counts c.args.seat) (sym c.self.view_is) c.requires in
-    counts_sound c.args.seat c.args.kind c.args.begins c.args.goes_on old c.index.result.now c.self.invariant is
-    c.index.ensures _ c.own-own.result c.after-under_way.result c.after-under_way.ensures
+    counts_sound c.args.seat c.args.kind c.args.begins c.args.goes_on c.args.ends old c.index.result.now
+    c.self.invariant is c.index.ensures _ c.own-own.result c.after-under_way.result c.after-under_way.ensures
     (written_over c.self.inside.counts c.args.kind c.after-under_way.result c.as_mut_slice.result.now
-    c.count_others.new.counts c.as_mut_slice.ensures.value c.count_others.ensures) c.own-own.ensures
+    c.count_all.new.counts c.as_mut_slice.ensures.value c.count_all.ensures) (c.own-own.ensures
+    ∙ ap (own_count c.args.begins c.args.goes_on c.args.ends c.after-under_way.result) c.behind.ensures)
 
 pub returns : goal.returns
 returns c =
@@ -36,12 +37,14 @@ returns c =
     let is : IsCountedSeat old.counts c.args.seat =
     subst (λ (s : CountsState). IsCountedSeat s.counts c.args.seat) (sym c.self.view_is) c.requires in
     let new : CountsState = record {
-      counts = slice_set (with_items c.self.inside.counts c.count_others.new.counts).items (c.args.seat - 1)
+      counts = slice_set (with_items c.self.inside.counts c.count_all.new.counts).items (c.args.seat - 1)
           c.own-own.result;
       under_way = c.after-under_way.result;
     } in
-    subst (λ (s : CountsState). Notes c.args.seat c.args.kind c.args.begins c.args.goes_on s new) c.self.view_is
-    (counts_notes c.args.seat c.args.kind c.args.begins c.args.goes_on old c.index.result.now c.self.invariant is
-    c.index.ensures _ c.own-own.result c.after-under_way.result c.after-under_way.ensures
+    subst (λ (s : CountsState). Notes c.args.seat c.args.kind c.args.begins c.args.goes_on c.args.ends s new)
+    c.self.view_is
+    (counts_notes c.args.seat c.args.kind c.args.begins c.args.goes_on c.args.ends old c.index.result.now
+    c.self.invariant is c.index.ensures _ c.own-own.result c.after-under_way.result c.after-under_way.ensures
     (written_over c.self.inside.counts c.args.kind c.after-under_way.result c.as_mut_slice.result.now
-    c.count_others.new.counts c.as_mut_slice.ensures.value c.count_others.ensures) c.own-own.ensures)
+    c.count_all.new.counts c.as_mut_slice.ensures.value c.count_all.ensures) (c.own-own.ensures
+    ∙ ap (own_count c.args.begins c.args.goes_on c.args.ends c.after-under_way.result) c.behind.ensures))

@@ -12,6 +12,7 @@ returns c none =
     } in
     let is : IsCountedSeat s.counts c.args.seat =
     subst (λ (x : CountsState). IsCountedSeat x.counts c.args.seat) (sym c.self.view_is) c.requires in
-    subst (λ (x : CountsState). Notes c.args.seat c.args.kind c.args.begins c.args.goes_on x x) c.self.view_is
-    (none_noted c.args.seat c.args.kind c.args.begins c.args.goes_on s c.self.invariant is
+    subst (λ (x : CountsState). Notes c.args.seat c.args.kind c.args.begins c.args.goes_on c.args.ends x x)
+    c.self.view_is
+    (none_noted c.args.seat c.args.kind c.args.begins c.args.goes_on c.args.ends s c.self.invariant is
     (sym c.changes_counts.ensures ∙ none))

@@ -28,8 +28,9 @@ invariant_of-self-2 g c =
     (lent_there _ _ _ _ c.under_way.ensures.value c.in-Some.is c.active.view_is)
     (sym c.is_some-2.ensures ∙ c.if-is_some-2.false) c.active.invariant.drafted c.reach.new.self
     c.decided_by-active-inside.result c.len.result (c.len.ensures ∙ many) c.reach.new.pool
-    c.reach.ensures.pool c.note.new.self c.are_sound.ensures c.are_sound-2.ensures c.note.ensures
-    c.reach.new.locks c.decided_by-active-inside.ensures
+    c.reach.ensures.pool c.note.new.self c.note-2.new.self c.are_sound-2.ensures c.note.ensures
+    c.ends_search-ends.result c.note-2.ensures c.reach.new.locks c.ends_search-ends.ensures
+    c.decided_by-active-inside.ensures
     (c.reach.ensures.made c.if-not-reach.false)).whole
 
 pub returns-clause-made : goal.returns-clause-made
@@ -40,6 +41,7 @@ returns-clause-made g c = λ made.
     (lent_there _ _ _ _ c.under_way.ensures.value c.in-Some.is c.active.view_is)
     (sym c.is_some-2.ensures ∙ c.if-is_some-2.false) c.active.invariant.drafted c.reach.new.self
     c.decided_by-active-inside.result c.len.result (c.len.ensures ∙ many) c.reach.new.pool
-    c.reach.ensures.pool c.note.new.self c.are_sound.ensures c.are_sound-2.ensures c.note.ensures
-    c.reach.new.locks c.decided_by-active-inside.ensures
+    c.reach.ensures.pool c.note.new.self c.note-2.new.self c.are_sound-2.ensures c.note.ensures
+    c.ends_search-ends.result c.note-2.ensures c.reach.new.locks c.ends_search-ends.ensures
+    c.decided_by-active-inside.ensures
     (c.reach.ensures.made c.if-not-reach.false)).moves

@@ -1,11 +1,11 @@
 -- A step of the seat's call, or none after a failure, or where it has none or waits.
-use Rattle.std.proofs.Common.{rules, ℕ, ◌≡◌, ◌∙◌, ◌-◌, ◌≤◌, refl, sym, ap, List, Option, Some, None, length, slice_set, vec_capacity, arith}
+use Rattle.std.proofs.Common.{rules, ℕ, ◌≡◌, ◌∙◌, ◌-◌, ◌≤◌, Bool, refl, sym, ap, subst, List, Option, Some, None, length, slice_set, vec_capacity, arith}
 use Rattle.std.specs.Option.{is_some}
 use Rattle.std.specs.Vec.{vec_len}
 use Rattle.interleaving_core.specs.Active.{ActiveView}
-use Rattle.interleaving_core.specs.Counting.{CountsState}
+use Rattle.interleaving_core.specs.Counting.{CountsState, Notes}
 use Rattle.interleaving_core.specs.Owing.{failure_by}
-use Rattle.interleaving_core.specs.Searches.{CountsFrom}
+use Rattle.interleaving_core.specs.Searches.{CountsFrom, begins_search, ends_by, goes_on_from}
 use Rattle.interleaving_core.specs.Turn.{Settles, Turns, told_on}
 use Rattle.interleaving_core.specs.Words.{Entry, PoolState, Table}
 use Rattle.interleaving_core.specs.declared.fault.Failure.{Failure}
@@ -13,9 +13,10 @@ use Rattle.interleaving_core.specs.declared.step.Step.{Step}
 use Rattle.interleaving_core.specs.declared.step.Step.TheVariants as steps
 use Rattle.step_rules.specs.declared.kind.Kind.{Kind}
 use Rattle.step_rules.specs.declared.progress.Progress.TheVariants as progress
+use Rattle.xsi_calls.specs.Machine.{is_searching}
 use Rattle.interleaving_core.proofs.FailureLemmas.{none_blamed}
 use Rattle.interleaving_core.proofs.KernelLemmas.{MakesStep, counts_by, makes_step}
-use Rattle.interleaving_core.proofs.LentLemmas.{fails, rests_idle, rests_waiting, row_there, seat_behind}
+use Rattle.interleaving_core.proofs.LentLemmas.{fails, left_there, rests_idle, rests_waiting, row_there, seat_behind}
 use Rattle.interleaving_core.proofs.SeatLemmas.{awake_by, is_marked, lent_some, lent_there, none_lent, settled, tells_on}
 use Rattle.interleaving_core.proofs.kernel.Kernel.step.Given as given
 use Rattle.interleaving_core.proofs.kernel.Kernel.step.Goals.{After-note_entry}
@@ -70,7 +71,7 @@ module _ (g : given.Over) (c : After-note_entry g) (told : Step) (left : Option 
   -- and so a step of the kernel, once it is marked and counted
   made : (room : ℕ) → vec_capacity c.note_entry.new.journal ≤ room → (failure : Option Failure)
       (searches : CountsState) → failure ≡ failure_by c.args.seat told None →
-      CountsFrom c.args.seat told c.last_page-before.result locks c.self.inside.searches searches →
+      CountsFrom c.args.seat told c.last_page-before.result left locks c.self.inside.searches searches →
       MakesStep g.K.PseudoKey.of_key c.args.seat told c.args.self.now (record {
         keys = c.self.inside.keys;
         pool = pool;
@@ -91,7 +92,9 @@ module _ (g : given.Over) (c : After-note_entry g) (told : Step) (left : Option 
       c.self.view_is c.self.invariant c.requires c.index_mut-at.ensures.value turns refl refl refl refl more
       (λ none. absurd (lent_some _ _ _ c.under_way.ensures.value c.in-Some.is none))
       (sym c.is_some.ensures ∙ c.if-is_some.false) refl is
-      (counts_by c.args.seat told _ _ c.last_page-before.result c.last_page-before.ensures counts)
+      (counts_by c.args.seat told _ _ c.last_page-before.result left c.last_page-before.ensures
+      (left_there c.args.seat c.index_mut-at.result.now _ c.args.self.now c.self.view_is c.self.invariant c.requires
+      c.index_mut-at.ensures.value left) counts)
 
 -- it has made a move, and its seat is told that alone
 moves : (g : given.Over) (c : After-note_entry g) (kind : Kind) → c.step-did.result ≡ progress.Moved kind →
@@ -104,8 +107,9 @@ moves g c kind is =
     (ap told_on is)
 
 moved : (g : given.Over) (c : After-note_entry g) (kind : Kind) → c.step-did.result ≡ progress.Moved kind →
-    (searches : CountsState) →
-    CountsFrom c.args.seat (steps.Moved kind) c.last_page-before.result c.step-did.new.locks c.self.inside.searches
+    (searches : CountsState) (ends : Bool) → ends ≡ ends_by kind (is_searching c.step-did.new.self) →
+    Notes c.args.seat kind (begins_search kind c.args.seat c.step-did.new.locks)
+    (goes_on_from kind c.args.seat c.last_page-before.result c.step-did.new.locks) ends c.self.inside.searches
     searches →
     MakesStep g.K.PseudoKey.of_key c.args.seat (steps.Moved kind) c.args.self.now (record {
       keys = c.self.inside.keys;
@@ -120,11 +124,14 @@ moved : (g : given.Over) (c : After-note_entry g) (kind : Kind) → c.step-did.r
       failure = c.self.inside.failure;
       searches = searches;
     })
-moved g c kind is searches counts =
+moved g c kind is searches ends ends_is counts =
     made g c (steps.Moved kind) (Some (come g c)) c.step-did.new.pool c.step-did.new.locks
     c.note_entry.new.journal.items (moves g c kind is) (vec_capacity c.note_entry.new.journal) (omega arith)
     c.self.inside.failure searches
-    (none_blamed _ c.self.invariant (sym c.is_some.ensures ∙ c.if-is_some.false)) counts
+    (none_blamed _ c.self.invariant (sym c.is_some.ensures ∙ c.if-is_some.false))
+    (subst (λ (b : Bool). Notes c.args.seat kind (begins_search kind c.args.seat c.step-did.new.locks)
+    (goes_on_from kind c.args.seat c.last_page-before.result c.step-did.new.locks) b c.self.inside.searches searches)
+    ends_is counts)
 
 pub returns-then-is_some-clause-turn : goal.returns-then-is_some-clause-turn
 returns-then-is_some-clause-turn g c =
@@ -180,12 +187,12 @@ note_move-requires-clause-seat g c =
 pub invariant_of-self-in-Moved : goal.invariant_of-self-in-Moved
 invariant_of-self-in-Moved g c =
     (moved g (goal.at.invariant_of-self-in-Moved g c).After-note_entry c.in-Moved.kind c.in-Moved.is
-    c.note_move.new.searches c.note_move.ensures).whole
+    c.note_move.new.searches c.ends_search-ends.result c.ends_search-ends.ensures c.note_move.ensures).whole
 
 pub returns-in-Moved : goal.returns-in-Moved
 returns-in-Moved g c =
     let step = moved g (goal.at.returns-in-Moved g c).After-note_entry c.in-Moved.kind c.in-Moved.is
-    c.note_move.new.searches c.note_move.ensures in
+    c.note_move.new.searches c.ends_search-ends.result c.ends_search-ends.ensures c.note_move.ensures in
     record { turn = step.turn; makes = step.makes }
 
 -- ---- what came of one that was no move

@@ -10,6 +10,7 @@ use Rattle.record_file.proofs.FindAheadLemmas.{finds_ahead, found_there, same_ah
 use Rattle.xsi_calls.specs.Answering.{key_asked}
 use Rattle.xsi_calls.specs.Counting.{MOST_FINDS}
 use Rattle.xsi_calls.specs.QuestionRuns.{AsksAtOnce}
+use Rattle.xsi_calls.specs.Questions.{question_searches}
 use Rattle.xsi_calls.specs.QuestionSteps.{MakesQuestions}
 use Rattle.xsi_calls.specs.QuestionWords.{Lock, PoolState, RecordKey, row_of}
 use Rattle.xsi_calls.proofs.QuestionAtOnceLemmas.{asks_at_once, ready_is}
@@ -48,7 +49,7 @@ returns-clause-made g c = λ made.
     let more : c.saturating_add-self.result ≡ min (i.finds + 1) MOST_FINDS =
     c.saturating_add-self.ensures in
     subst (λ (n : ℕ). AsksAtOnce (MakesQuestions
-    (g.K.PseudoKey.of_key c.args.keys.now) c.args.seat c.args.call.now) c.args.seat (record {
+    (g.K.PseudoKey.of_key c.args.keys.now) c.args.seat c.args.call.now) question_searches c.args.seat (record {
       inquiry = c.args.self.now.inquiry;
       room = c.args.self.now.room;
       names = c.args.self.now.names;

@@ -15,5 +15,5 @@ pub returns-then-reach-clause-made : goal.returns-then-reach-clause-made
 returns-then-reach-clause-made g c = λ made.
     reaches_from (g.K.PseudoKey.of_key c.args.keys.now) c.args.seat c.args.plan.now c.args.pool.now c.args.locks.now
     c.reach.new.locks c.args.self.now (none_of _ (sym c.is_under_way.ensures ∙ c.if-is_under_way.false))
-    c.requires.row c.in-Some.deed (sym c.deed.ensures ∙ c.in-Some.is) c.begin.new.access c.begin.ensures.value
+    c.in-Some.deed (sym c.deed.ensures ∙ c.in-Some.is) c.begin.new.access c.begin.ensures.value
     c.begin.ensures.serves c.reach.new.self (c.reach.ensures.made c.if-reach.true)

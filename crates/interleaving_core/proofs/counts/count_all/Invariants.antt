@@ -1,9 +1,9 @@
 -- What the loop has passed is counted, and what is left is as it was.
 use Rattle.std.proofs.Common.{◌≡◌, ◌++◌, drop, take, map}
-use Rattle.interleaving_core.specs.Counting.{count_beside}
-use Rattle.interleaving_core.proofs.counts.count_others.Given as goal
+use Rattle.interleaving_core.specs.Counting.{count_behind}
+use Rattle.interleaving_core.proofs.counts.count_all.Given as goal
 
 abbrev pub invariant-loop-count : goal.invariant-loop-count
 invariant-loop-count l =
     let before = l.initial.counts in
-    l.counts ≡ map (count_beside l.kind l.under_way) (take l.count-index before) ++ drop l.count-index before
+    l.counts ≡ map (count_behind l.kind l.under_way) (take l.count-index before) ++ drop l.count-index before
