@@ -16,3 +16,8 @@ is_used (e ∷ es) = true
 pub record IsStopper (x : Sitter) : Type 0 where
   pub none : x.seat ≡ 0
   pub once : length x.list ≡ once_if (is_used x.list)
+
+-- the stop is known
+pub record HasStopped (x : Sitter) : Type 0 where
+  pub none : x.seat ≡ 0
+  pub one : length x.list ≡ 1

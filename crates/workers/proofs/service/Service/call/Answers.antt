@@ -1,7 +1,7 @@
 use Rattle.std.proofs.Common.{[], ◌∷◌, ◌++◌, refl, ap, ◌∙◌}
 use Rattle.queue_model.specs.declared.entry.Entry.TheVariants.{Decided}
 use Rattle.workers.specs.Words.{Call, Entry}
-use Rattle.workers.proofs.SeatLemmas.{fault_ends, seated_answered, seated_faulted, way_begins}
+use Rattle.workers.proofs.SeatLemmas.{fault_ends, list_turned_away, same_seat, same_turned_away, seated_answered, seated_faulted, seated_turned_away, way_begins, way_goes}
 use Rattle.workers.proofs.service.Service.call.Goals as goal
 
 pub loop-init : goal.loop-init
