@@ -100,7 +100,8 @@ impl<D: PageDevice + Drop, K: PseudoKey + Drop, G: Gate + Drop, N: Room + Base> 
                 seats,
                 failure,
             }),
-            Err(NotClosed::Fault(Closed { device, journal }, fault)) => {
+            Err(NotClosed::Fault(closed, fault)) => {
+                let Closed { device, journal } = closed;
                 let ended = Ended {
                     device,
                     journal,

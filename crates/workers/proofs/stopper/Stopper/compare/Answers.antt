@@ -1,5 +1,5 @@
 use Rattle.workers.proofs.CloseLemmas.{is_marked}
-use Rattle.workers.proofs.closing.Stopper.compare.Goals as goal
+use Rattle.workers.proofs.stopper.Stopper.compare.Goals as goal
 
 -- of the journal the stop is known
 pub returns-clause-mark : goal.returns-clause-mark
