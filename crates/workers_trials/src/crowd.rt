@@ -15,7 +15,7 @@ use step_rules::Kind;
 use workers::{Gate, MOST_AT_ONCE, Open};
 
 /// How often each of eight seats calls.
-const CALLS: u32 = 2000;
+const CALLS: u32 = 500;
 
 /// How often a seat sends and receives by turns.
 const TURNS: u32 = 20;
@@ -38,7 +38,7 @@ fn eight_seats_send_and_receive_on_four_queues(rt: HostRuntime) -> Result<(), Fa
         end: End::Closed,
     };
     let left = play(&rt, alloc, prepared(alloc, 352, 8)?, Open, &plan)?;
-    assert_eq!(rt; left.shown, 16_008);
+    assert_eq!(rt; left.shown, 4_008);
     assert!(rt; left.fault.is_none());
     assert!(rt; is_file_of(alloc, left.device, left.journal.as_slice()));
     Ok(())

@@ -48,10 +48,11 @@ fn calls_in_turn_are_answered_or_told_that_a_step_has_failed(rt: HostRuntime) ->
             rounds: 1,
             end: End::Closed,
         },
+        1,
     )
 }
 
-/// 40 messages are received while they are sent.
+/// 40 messages are received while they are sent; one of five transfers fails in turn.
 #[test]
 fn calls_at_once_are_answered_or_told_that_a_step_has_failed(rt: HostRuntime) -> Result<(), Fail> {
     let alloc = rt.alloc();
@@ -61,7 +62,7 @@ fn calls_at_once_are_answered_or_told_that_a_step_has_failed(rt: HostRuntime) ->
         rounds: 1,
         end: End::Closed,
     };
-    fail_each(&rt, alloc, &plan)
+    fail_each(&rt, alloc, &plan, 5)
 }
 
 /// A queue that may have as many bytes as any.
@@ -99,11 +100,12 @@ enum Run {
     Failed,
 }
 
-/// Plays a plan again and again, each time with the next transfer failed, until none is.
+/// Plays a plan again and again, each time with a transfer failed that is so much later, until none is.
 fn fail_each<R: Threads + Wait + Clock + Sync>(
     rt: &R,
     alloc: Global,
     plan: &Plan<'_>,
+    later: u64,
 ) -> Result<(), Fail> {
     let mut file = new_file(alloc, 352)?;
     let mut nth: u64 = 1;
@@ -112,7 +114,7 @@ fn fail_each<R: Threads + Wait + Clock + Sync>(
         if fail(rt, alloc, device, plan)? == Run::Well {
             return Ok(());
         }
-        nth = nth.saturating_add(1);
+        nth = nth.saturating_add(later);
     }
     Err(Fail::from("each run has failed"))
 }

@@ -15,6 +15,9 @@ use workers::Open;
 /// How often each is tried.
 const ROUNDS: u32 = 200;
 
+/// How often a system is stopped, each time on a service of its own.
+const STOPS: u32 = 50;
+
 /// A limit of time, in seconds, in which each trial ends.
 const LONG: u64 = 3600;
 
@@ -73,7 +76,7 @@ fn a_receive_is_refused_once_the_system_is_stopped(rt: HostRuntime) -> Result<()
     let alloc = rt.alloc();
     let plan = each(alloc, Deed::Call(receive(1, 10)), Deed::Stop, 1)?;
     let mut device = new_file(alloc, 258)?;
-    for _ in 0..ROUNDS {
+    for _ in 0..STOPS {
         let left = play(&rt, alloc, prepared_on(alloc, device, 2)?, Open, &plan)?;
         assert!(rt;
             is_told(
