@@ -12,7 +12,7 @@ use Rattle.workers.proofs.DeviceLemmas.{all_spared}
 use Rattle.workers.specs.Held.{IsHeld, IsKept, KeepsDevice, places_from}
 use Rattle.workers.specs.Opening.{IsOpenedOn, IsPrepared, PreparedView, dealt_desk, newcomers, origin_of}
 use Rattle.workers.specs.Origins.{Origin}
-use Rattle.workers.specs.Stopping.{IsStopper, is_used}
+use Rattle.workers.specs.Stopping.{IsStopper}
 use Rattle.workers.specs.Told.{IsSeated, Sitter}
 use Rattle.workers.specs.Words.{ActiveView, Call, Caller, Desk, Entry, RefinesFile, IsOpened, KernelState, Place, RecordKey}
 
@@ -176,7 +176,3 @@ kept_at_start of_key o name table many k d p origin is = record {
 pub stopper_at_start : (seats : ℕ) (d : Desk Entry Call) (x : Sitter) → d ≡ dealt_desk seats 0 → x ≡ newcomer d →
     IsStopper x
 stopper_at_start seats d x is new = subst IsStopper (sym (new ∙ ap newcomer is)) record { none = refl; once = refl }
-
-pub unused_at_start : (seats : ℕ) (d : Desk Entry Call) (x : Sitter) → d ≡ dealt_desk seats 0 → x ≡ newcomer d →
-    is_used x.list ≡ false
-unused_at_start seats d x is new = ap (λ (y : Sitter). is_used y.list) (new ∙ ap newcomer is)

@@ -8,7 +8,11 @@ use Rattle.queue_model.specs.declared.entry.Entry.TheVariants.{Decided}
 use Rattle.workers.specs.Views.{no_place}
 use Rattle.workers.specs.Told.{HasBegun, IsSameSeat, IsSeated, IsTakenBack, IsTold, IsTurnedAway, IsUnderWay, Rests, Sitter}
 use Rattle.workers.specs.Words.{Answer, Call, Entry, Step, answer_told, entry_of}
+use Rattle.workers.specs.Fault.{fault_of_step}
 use Rattle.workers.specs.declared.fault.Fault.{Fault}
+use Rattle.workers.specs.declared.fault.Fault.TheVariants as calls
+use Rattle.workers.specs.declared.unanswered.Unanswered.{Unanswered}
+use Rattle.workers.specs.declared.unanswered.Unanswered.TheVariants as unanswered
 
 told_nothing : (seat : ℕ) (call : Option Call) → entry_of seat call None ≡ []
 told_nothing seat None = refl
@@ -103,6 +107,16 @@ rests_after did x y t ends sound = by (is_end did) refl
 pub fault_ends : (fault : StepFault) → is_end (steps.Fault fault) ≡ false → is_failure (steps.Fault fault) ≡ true
 fault_ends (faults.File fault) stays = refl
 fault_ends faults.NoRoom stays = absurd cc
+
+-- a seat that is told 62 knows it
+pub told_failed : (fault : StepFault) (told : Fault) (x y : Sitter) → told ≡ fault_of_step fault →
+    IsTold (steps.Fault fault) x y → told ≡ calls.Failed → y.failed ≡ true
+told_failed faults.NoRoom told x y is t broken =
+    let no : ◌≡◌ {A = Fault} calls.NoRoom calls.Failed = sym is ∙ broken in absurd cc
+told_failed (faults.File fault) told x y is t broken = t.failed refl
+
+pub same_fault : (a b : Fault) → ◌≡◌ {A = Unanswered} (unanswered.Fault a) (unanswered.Fault b) → a ≡ b
+same_fault a b same = cc
 
 module _ (call : Call) (many number filled room : ℕ) (hand : List Entry)
     (old x : Sitter) (w : IsUnderWay call many number filled room hand old x) where

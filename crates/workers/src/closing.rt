@@ -130,6 +130,7 @@ impl<D: PageDevice + Drop, K: PseudoKey + Drop, G: Gate + Drop, N: Room + Base> 
             gauge,
             seats: _,
         } = self;
+        let held = latch.into_inner();
         let Held {
             kernel,
             mut pass,
@@ -137,7 +138,7 @@ impl<D: PageDevice + Drop, K: PseudoKey + Drop, G: Gate + Drop, N: Room + Base> 
             asleep: _,
             due: _,
             room: _,
-        } = latch.into_inner();
+        } = held;
         let mut seats = seats;
         let mut stopper = stopper;
         compare_all(&gauge, &mut pass, &mut seats);

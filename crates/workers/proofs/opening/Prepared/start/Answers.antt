@@ -1,6 +1,6 @@
 use Rattle.std.proofs.Common.{ap, ◌∙◌}
 use Rattle.workers.specs.Opening.{origin_of}
-use Rattle.workers.proofs.OpenLemmas.{kept_at_start, stopper_at_start, unused_at_start}
+use Rattle.workers.proofs.OpenLemmas.{kept_at_start, stopper_at_start}
 use Rattle.workers.proofs.opening.Prepared.start.Goals as goal
 
 -- nothing is decided yet
@@ -11,4 +11,4 @@ invariant_of-held g c =
     (c.in-Ok-spare.ensures ∙ c.in-Ok.ensures.own)
 
 pub invariant_of-stopper : goal.invariant_of-stopper
-invariant_of-stopper g c = stopper_at_start _ _ _ c.named.ensures c.deal-pass.ensures.seat
+invariant_of-stopper g c = stopper_at_start _ _ _ c.named-gauge.ensures c.deal.ensures.seat
