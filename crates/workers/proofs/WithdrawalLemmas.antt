@@ -1,5 +1,5 @@
 -- A call is taken back, as the kernel's pass and that of its seat know it.
-use Rattle.std.proofs.Common.{◌≡◌, ◌≤◌, ℕ, suc, List, [], ◌++◌, length, Option, Some, None, refl, sym, ap, ◌∙◌, subst, append-nil}
+use Rattle.std.proofs.Common.{◌≡◌, ℕ, suc, List, [], ◌++◌, length, Option, Some, None, refl, sym, ap, ◌∙◌, subst, append-nil}
 use Rattle.interleaving_core.proofs.PlaceLemmas.{at_other, at_same, length-with_call, seat_of_call}
 use Rattle.interleaving_core.specs.Renewing.{IsWithdrawn}
 use Rattle.interleavings.specs.Moments.{once_if}

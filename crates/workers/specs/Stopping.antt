@@ -1,5 +1,5 @@
 -- What is known of who may stop a system.
-use Rattle.std.specs.Prelude.{ℕ, ◌≡◌, Bool, true, false, List, [], ◌∷◌, length}
+use Rattle.std.specs.Prelude.{◌≡◌, Bool, true, false, List, [], ◌∷◌, length}
 use Rattle.interleavings.specs.Moments.{once_if}
 use Rattle.workers.specs.Told.{Sitter}
 use Rattle.workers.specs.Words.{Entry}

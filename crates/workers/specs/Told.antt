@@ -1,5 +1,5 @@
 -- What a hold of the latch leaves of what a seat knows.
-use Rattle.std.specs.Prelude.{ℕ, ◌≡◌, ◌≤◌, ◌<◌, Bool, true, false, List, ◌++◌, Option, Some, None, ⊤}
+use Rattle.std.specs.Prelude.{ℕ, ◌≡◌, ◌≤◌, ◌<◌, true, false, List, ◌++◌, Option, Some, None, ⊤}
 use Rattle.interleaving_core.specs.Owing.{is_end, is_failure}
 use Rattle.interleaving_core.specs.declared.step.Step.TheVariants as steps
 use Rattle.workers.specs.Views.{no_place}
