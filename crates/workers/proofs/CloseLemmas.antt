@@ -9,15 +9,18 @@ use Rattle.interleaving_core.specs.declared.fault.CloseFault.TheVariants as clos
 use Rattle.page_device.specs.Device.{HasRisen}
 use Rattle.interleavings.specs.Laws.{AnswersAsPlainLists, ClosesRefine}
 use Rattle.workers.specs.Views.{calls_in, no_place, nobody, place_at}
+use Rattle.workers.specs.Views as passes
 use Rattle.interleavings.proofs.RisenLemmas.{risen_within}
 use Rattle.interleavings.proofs.ToldLemmas.{risen_since}
 use Rattle.workers.proofs.DeviceLemmas.{stored_is}
-use Rattle.workers.proofs.EntryLemmas.{part_is}
+use Rattle.workers.proofs.EntryLemmas.{part_is, stops_are}
 use Rattle.workers.proofs.HeldLemmas.{place_is}
-use Rattle.workers.specs.Closing.{Each, HasItsPart, HasMissing, HasMostOfItsPart, IsBeside, IsClosed, IsFaulted, IsLetGo, IsSound, IsToComeBack, Remains, sits_at}
+use Rattle.workers.specs.Closing.{Each, HasItsPart, HasMissing, HasMostOfItsPart, IsBeside, IsClosed, IsFaulted, IsLeft, IsLetGo, IsMarked, IsSound, IsToComeBack, IsUnfailed, Remains, sits_at}
+use Rattle.workers.specs.Rule.{IsRight}
 use Rattle.workers.specs.Entries.{seat_of}
-use Rattle.workers.specs.Held.{IsHeld, KeepsDevice, place_of}
+use Rattle.workers.specs.Held.{IsHeld, IsKept, KeepsDevice, place_of}
 use Rattle.workers.specs.Origins.{IsJournalOf, LeavesFile, Origin}
+use Rattle.workers.specs.Stopping.{IsStopper, is_used}
 use Rattle.workers.specs.Told.{Sitter}
 use Rattle.workers.specs.Words.{ActiveView, Answer, Call, Caller, Desk, Entry, IsFifo, IsFileOf, IsFlushedTo, IsLegal, KernelState, Place, RecordKey, after, answer_of_call, call_at, call_of, entry_of, part_of, restarted, untold}
 
@@ -54,15 +57,19 @@ case_bool false on off = off refl
 
 -- ---- where no step has failed
 
+unfailed_seat : (d : Desk Entry Call) (x : Sitter) → IsBeside d x → d.failed ≡ false → x.failed ≡ false
+unfailed_seat d x b sound =
+    case_bool x.failed (λ on. let no : true ≡ false = sym (b.right.failed on) ∙ sound in absurd cc) (λ off. off)
+
 sound_seat : (d : Desk Entry Call) (x : Sitter) → IsBeside d x → d.failed ≡ false → x.place ≡ no_place
-sound_seat d x b sound =
-    case_bool x.failed (λ on. let no : true ≡ false = sym (b.right.failed on) ∙ sound in absurd cc) b.rests
+sound_seat d x b sound = b.rests (unfailed_seat d x b sound)
 
 its_part : (d : Desk Entry Call) (x : Sitter) → IsBeside d x → d.failed ≡ false → HasItsPart d.journal x
 its_part d x b sound = record {
-  part = sym (part_is x.seat d.journal) ∙ b.right.part
+  part = sym (part_is x.seat d.journal b.begun) ∙ b.right.part
       ∙ ap (λ (p : Place Entry Call). x.list ++ p.owed) (sound_seat d x b sound) ∙ append-nil x.list;
   shown = b.right.seen;
+  unfailed = unfailed_seat d x b sound;
 }
 
 no_call : (at : Option ActiveView) → call_of at ≡ None → at ≡ None
@@ -111,6 +118,21 @@ module _ {K : Type 0} (of_key : K → RecordKey → ℕ) (o : Origin) (k : Kerne
       (subst (λ (e : Desk Entry Call). HasItsPart e.journal (slice_index_or given place nobody)) h.known
       (its_part d (slice_index_or given place nobody) (each place below) sound)))
 
+  -- none of them was told of a failure
+  pub none_failed : k.failed ≡ false → Each IsUnfailed given
+  none_failed sound place below =
+      unfailed_seat d (slice_index_or given place nobody) (each place below)
+      (ap (λ (e : Desk Entry Call). e.failed) h.known ∙ sound)
+
+  pub is_left : (used : Bool) → AnswersAsPlainLists K → IsMarked used d.journal → (left : Remains) →
+      left.journal ≡ k.journal → left.seats ≡ given → left.honest ≡ k.pool.honest → IsLeft o given used left
+  is_left used plain mark left is same honest = record {
+    plain = λ true_to_it. subst (IsJournalOf o) (sym is) (journal_is of_key o k d count plain h true_to_it);
+    mark = subst (IsMarked used) (ap (λ (e : Desk Entry Call). e.journal) h.known ∙ sym is) mark;
+    same = same;
+    honest = honest ∙ h.honest;
+  }
+
   module _ (sound : k.failed ≡ false) (all : HasMissing (length o.callers) given → ⊥) where
     rests_within : (place : ℕ) → place < length o.callers → call_at k.seats (suc place) ≡ None
     rests_within place below =
@@ -143,12 +165,12 @@ module _ {K : Type 0} (of_key : K → RecordKey → ℕ) (o : Origin) (k : Kerne
         let f = any_found has_one k.seats None busy.call in
         has_none (slice_index_or k.seats f.0 None) (rests_all (suc f.0)) f.2
 
-    pub is_sound : AnswersAsPlainLists K → (left : Remains) → left.journal ≡ k.journal → left.seats ≡ given →
-        left.failure ≡ None → IsSound o given left
-    is_sound plain left is same unfailed = record {
-      plain = λ honest. subst (IsJournalOf o) (sym is) (journal_is of_key o k d count plain h honest);
-      parts = parts_of left.journal left.seats is same (ap (λ (e : Desk Entry Call). e.failed) h.known ∙ sound);
-      same = same;
+    pub is_sound : (used : Bool) (left : Remains) → IsLeft o given used left → left.journal ≡ k.journal →
+        left.failure ≡ None → IsSound o given used left
+    is_sound used left ended is unfailed = record {
+      ended = ended;
+      parts = parts_of left.journal left.seats is ended.same
+          (ap (λ (e : Desk Entry Call). e.failed) h.known ∙ sound);
       all = all;
       unfailed = unfailed;
     }
@@ -169,12 +191,14 @@ module _ {K : Type 0} (of_key : K → RecordKey → ℕ) (o : Origin) (k : Kerne
               (flushed (subst IsTrue (sym h.honest) honest)));
         }
 
-    pub is_closed : AnswersAsPlainLists K → ClosesRefine K → (left : Remains) → left.journal ≡ k.journal →
-        left.seats ≡ given → left.failure ≡ None → (IsTrue k.pool.honest → IsFlushedTo k.pool left.content) →
-        IsClosed o given left
-    is_closed plain closes left is same unfailed flushed = record {
-      sound = is_sound plain left is same unfailed;
+    pub is_closed : (used : Bool) → AnswersAsPlainLists K → ClosesRefine K → IsMarked used d.journal →
+        (left : Remains) → left.journal ≡ k.journal → left.seats ≡ given → left.honest ≡ k.pool.honest →
+        left.failure ≡ None → (IsTrue k.pool.honest → IsFlushedTo k.pool left.content) →
+        (IsTrue k.pool.honest → IsTrue left.synced) → IsClosed o given used left
+    is_closed used plain closes mark left is same honest unfailed flushed synced = record {
+      sound = is_sound used left (is_left used plain mark left is same honest) is unfailed;
       file = leaves_file plain closes left.content left.journal is flushed;
+      synced = λ true_to_it. synced (subst IsTrue (sym h.honest) true_to_it);
     }
 
   -- ---- where a step has failed
@@ -182,7 +206,7 @@ module _ {K : Type 0} (of_key : K → RecordKey → ℕ) (o : Origin) (k : Kerne
   most_of_it : (x : Sitter) → IsBeside d x → HasMostOfItsPart k.journal x
   most_of_it x b = record {
     more = x.place.owed;
-    part = ap (λ (e : Desk Entry Call). part_of x.seat e.journal) (sym h.known) ∙ sym (part_is x.seat d.journal)
+    part = ap (λ (e : Desk Entry Call). part_of x.seat e.journal) (sym h.known) ∙ sym (part_is x.seat d.journal b.begun)
         ∙ b.right.part;
     one = subst (λ (l : List Entry). length l ≤ 1)
         (ap (λ (p : Place Entry Call). p.owed) (sym (place_is k.seats x.seat)
@@ -193,27 +217,20 @@ module _ {K : Type 0} (of_key : K → RecordKey → ℕ) (o : Origin) (k : Kerne
 
   -- ---- where it is let go
 
-  module _ (device : KeepsDevice o k.pool k.failed) (plain : AnswersAsPlainLists K) (left : Remains)
-      (is : left.journal ≡ k.journal) (same : left.seats ≡ given) (told : left.failure ≡ k.failure)
-      (blamed : k.failed ≡ is_some k.failure) (later : k.pool.faults ≤ left.faults) where
+  module _ (used : Bool) (device : KeepsDevice o k.pool k.failed) (left : Remains) (ended : IsLeft o given used left)
+      (is : left.journal ≡ k.journal) (told : left.failure ≡ k.failure) (blamed : k.failed ≡ is_some k.failure)
+      (later : k.pool.faults ≤ left.faults) where
     known_failure : k.failed ≡ is_some left.failure
     known_failure = blamed ∙ ap is_some (sym told)
 
-    pub is_let_go : left.content ≡ k.pool.stored → IsLetGo K o given left
+    pub is_let_go : left.content ≡ k.pool.stored → IsLetGo o given used left
     is_let_go stored = record {
-      plain = λ honest. subst (IsJournalOf o) (sym is) (journal_is of_key o k d count plain h honest);
-      parts = subst (λ (l : List Sitter). Each (HasMostOfItsPart left.journal) l) (sym same)
+      ended = ended;
+      parts = subst (λ (l : List Sitter). Each (HasMostOfItsPart left.journal) l) (sym ended.same)
           (λ place below. subst (λ (l : List Entry). HasMostOfItsPart l (slice_index_or given place nobody)) (sym is)
           (most_of_it (slice_index_or given place nobody) (each place below)));
-      same = same;
-      unwritten = record {
-        kernel = k;
-        refines = h.led;
-        journal_is = is;
-        stored = stored;
-        before = λ spares. stored ∙ stored_is k.pool o.content (device.pages spares);
-      };
-      exact = λ none. parts_of left.journal left.seats is same
+      before = λ roomy. stored ∙ stored_is k.pool o.content (device.pages roomy);
+      exact = λ none. parts_of left.journal left.seats is ended.same
           (ap (λ (e : Desk Entry Call). e.failed) h.known ∙ known_failure ∙ ap is_some none);
       cause = λ honest some. risen_within (omega arith) device.later later
           (device.cause honest (known_failure ∙ some_of left.failure some));
@@ -223,9 +240,9 @@ module _ {K : Type 0} (of_key : K → RecordKey → ℕ) (o : Origin) (k : Kerne
     pub is_faulted : (fault : CloseFault) → (fault ≡ closes.Failed → k.failed ≡ true) →
         (fault ≡ closes.Failed → left.content ≡ k.pool.stored) → (fault ≡ closes.Device → k.failed ≡ false) →
         (fault ≡ closes.Device → HasRisen k.pool.faults left.faults) →
-        (k.failed ≡ false → HasMissing (length o.callers) given → ⊥) → IsFaulted K fault o given left
+        (k.failed ≡ false → HasMissing (length o.callers) given → ⊥) → IsFaulted fault o given used left
     is_faulted closes.Device failed stored sound risen all = record {
-      sound = is_sound (sound refl) (all (sound refl)) plain left is same
+      sound = is_sound (sound refl) (all (sound refl)) used left ended is
           (none_of left.failure (sym known_failure ∙ sound refl));
       cause = risen_since device.later (risen refl);
     }
@@ -245,10 +262,23 @@ sound_by fault told true is exact device =
     the_same e = cc
 sound_by fault told false is exact device = refl
 
--- ---- what was taken out is joined to what followed
+-- ---- nothing is closed
 
-pub all_of : (past all journal kept : List Entry) → all ≡ past ++ journal → journal ≡ kept → all ≡ past ++ kept
-all_of past all journal kept joined same = joined ∙ ap (λ (es : List Entry). past ++ es) same
+pub kept_beside : {K : Type 0} (of_key : K → RecordKey → ℕ) (o : Origin) (k : KernelState K) (d d' : Desk Entry Call)
+    (count : ℕ) → IsKept of_key o k d count → d' ≡ d → IsKept of_key o k d' count
+kept_beside of_key o k d d' count kept same =
+    subst (λ (e : Desk Entry Call). IsKept of_key o k e count) (sym same) kept
+
+-- ---- who stops it is compared
+
+pub is_marked : (d : Desk Entry Call) (x : Sitter) → IsRight seat_of d x → IsStopper x →
+    IsMarked (is_used x.list) d.journal
+is_marked d x right s =
+    sym (stops_are d.journal)
+    ∙ ap length (ap (λ (n : ℕ). passes.part_of seat_of n d.journal) (sym s.none) ∙ right.part
+    ∙ ap (λ (p : Place Entry Call). x.list ++ p.owed) (sym right.place)
+    ∙ ap (λ (n : ℕ). x.list ++ (place_at d.places n).owed) s.none ∙ append-nil x.list)
+    ∙ s.once
 
 -- ---- all seats are compared
 

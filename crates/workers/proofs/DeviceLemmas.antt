@@ -4,7 +4,6 @@ use Rattle.std.proofs.lemmas.Bool.Decides.{nat_tests}
 use Rattle.page_device.specs.Device.{HasRisen}
 use Rattle.buffer_pool.specs.Pool.{PoolState, spared}
 use Rattle.interleaving_core.specs.Owing.{is_failure}
-use Rattle.interleaving_core.specs.Renewing.{HasFlushed, IsFailedBy, PoolFault}
 use Rattle.interleavings.proofs.RisenLemmas.{risen_within, step_risen}
 use Rattle.interleavings.proofs.ToldLemmas.{risen_since}
 use Rattle.interleavings.specs.Laws.{StepsRefineAndDo}
@@ -34,14 +33,11 @@ stored_is s content is = some_of (nat_le (length s.stored) s.frames) s.stored co
 
 -- ---- what is done leaves it so
 
-not_both : {P : Type 0} (b : Bool) → b ≡ false → b ≡ true → P
-not_both b off on = let no : false ≡ true = sym off ∙ on in absurd cc
-
 module _ {K : Type 0} (o : Origin) (old new : KernelState K) (was : KeepsDevice o old.pool old.failed) where
   -- no page was read or written
   pub device_same : new.pool ≡ old.pool → new.failed ≡ old.failed → KeepsDevice o new.pool new.failed
   device_same pool failed = record {
-    pages = λ spares. ap spared pool ∙ was.pages spares;
+    pages = λ roomy. ap spared pool ∙ was.pages roomy;
     later = subst (λ (p : PoolState). o.faults ≤ p.faults) (sym pool) was.later;
     cause = λ honest broken.
         subst (λ (p : PoolState). HasRisen o.faults p.faults) (sym pool) (was.cause honest (sym failed ∙ broken));
@@ -60,11 +56,11 @@ module _ {K : Type 0} (o : Origin) (old new : KernelState K) (was : KeepsDevice 
       by true e = risen_within (omega arith) from later (was.cause honest e)
       by false e = risen_since from (first honest e)
 
-  device_after : (IsTrue o.spares → spared new.pool ≡ spared old.pool) → old.pool.faults ≤ new.pool.faults →
+  device_after : spared new.pool ≡ spared old.pool → old.pool.faults ≤ new.pool.faults →
       (IsTrue o.honest → old.failed ≡ false → new.failed ≡ true → HasRisen old.pool.faults new.pool.faults) →
       KeepsDevice o new.pool new.failed
   device_after stored later first = record {
-    pages = λ spares. stored spares ∙ was.pages spares;
+    pages = λ roomy. stored ∙ was.pages roomy;
     later = let from = was.later in omega (arith, from, later);
     cause = λ honest broken. cause_by later (λ true_to_it sound. first true_to_it sound broken) honest;
   }
@@ -74,21 +70,7 @@ module _ {K : Type 0} (o : Origin) (old new : KernelState K) (was : KeepsDevice 
       (turn : IsTurn seat did old new) → (IsTrue o.honest → IsStep hash seat did old new) →
       (IsTrue o.honest → (base : State) × Refines hash base old) → KeepsDevice o new.pool new.failed
   device_by_turn hash seat did does turn step led =
-      device_after (λ _. turn.run.rest.stored) turn.run.rest.later
+      device_after turn.run.rest.stored turn.run.rest.later
       (λ honest sound broken. let from = led honest in
       step_risen does hash from.0 seat did old new from.1 (step honest) sound
       (sym (turn.failed ∙ ap (λ (b : Bool). b || is_failure did) sound) ∙ broken))
-
-  -- a file is saved of a service that does not spare its device
-  module _ (unspared : o.spares ≡ false) where
-    pub device_flushed : HasFlushed old new → KeepsDevice o new.pool new.failed
-    device_flushed f =
-        device_after (λ spares. not_both o.spares unspared spares) f.stay.later
-        (λ honest sound broken. not_both old.failed sound
-        (sym (ap (λ (k : KernelState K). k.failed) f.stay.is) ∙ broken))
-
-    -- or a transfer fails
-    pub device_failed : (fault : PoolFault) → IsFailedBy fault old new → HasRisen old.pool.faults new.pool.faults →
-        KeepsDevice o new.pool new.failed
-    device_failed fault by risen =
-        device_after (λ spares. not_both o.spares unspared spares) by.later (λ honest sound broken. risen)

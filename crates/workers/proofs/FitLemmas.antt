@@ -1,5 +1,5 @@
 -- Passes are opened, joined, parted and dealt: each keeps the rule.
-use Rattle.std.proofs.Common.{◌≡◌, ◌≢◌, ◌≤◌, ℕ, zero, suc, ◌+◌, List, [], ◌∷◌, ◌++◌, length, set, Option, Some, refl, sym, ap, ◌∙◌, subst, ⊎_elim, arith, le_refl, eq-eqb, ne_eqb}
+use Rattle.std.proofs.Common.{◌≡◌, ◌≢◌, ◌≤◌, ℕ, zero, suc, ◌+◌, List, [], ◌∷◌, ◌++◌, length, set, Option, Some, refl, sym, ap, ◌∙◌, subst, ⊎_elim, arith, eq-eqb, ne_eqb}
 use Rattle.std.specs.Prelude.{slice_index, slice_set, if◌then◌else◌, ◌==◌}
 use mathlib.Core.Option.{some, some-ne-none, some-injective}
 use lib.ListN.{get_elem?}
@@ -174,11 +174,10 @@ module _ {E C : Type 0} (seat_of : E → Option ℕ) where
             (sits_fit id ports d port x (ports_here k.ports x.seat port) right);
       }
 
-  -- ---- a pass for the next seat, and one of no seat
+  -- ---- a pass for who stops the kernel or for the next seat, and one that only looks
 
   one_more_right : (d : Desk E C) (x : Sitting E C) → IsRight seat_of d x → IsRight seat_of (with_one_more d) x
   one_more_right d x right = record {
-    begun = right.begun;
     seated = let below = right.seated in omega arith;
     part = right.part;
     place = right.place;
@@ -186,25 +185,24 @@ module _ {E C : Type 0} (seat_of : E → Option ℕ) where
     seen = right.seen;
   }
 
-  newcomer_right : (d : Desk E C) → d.journal ≡ [] → place_at d.places (d.dealt + 1) ≡ no_place
+  newcomer_right : (d : Desk E C) → d.journal ≡ [] → place_at d.places d.dealt ≡ no_place
       → IsRight seat_of (with_one_more d) (newcomer d)
   newcomer_right d early free = record {
-    begun = omega arith;
-    seated = le_refl (d.dealt + 1);
-    part = ap (part_of seat_of (d.dealt + 1)) early;
+    seated = omega arith;
+    part = ap (part_of seat_of d.dealt) early;
     place = free;
     failed = λ e. absurd cc;
     seen = omega arith;
   }
 
-  pub seat_is_dealt : (id : ℕ) (d : Desk E C) → d.journal ≡ [] → place_at d.places (d.dealt + 1) ≡ no_place
+  pub seat_is_dealt : (id : ℕ) (d : Desk E C) → d.journal ≡ [] → place_at d.places d.dealt ≡ no_place
       → Splits (IsKept seat_of) id (writes d) (writes (with_one_more d)) (sits (newcomer d))
   seat_is_dealt id d early free s k at =
       let fits = k.views id (writes d) at in
       let mine = fits.sole d refl in
       let d' : Desk E C = with_one_more d in
       let port = length (set s.views id (writes d')) in
-      let ports = ports_with k.ports (d.dealt + 1) port in
+      let ports = ports_with k.ports d.dealt port in
       record {
         writer = id;
         ports = ports;
@@ -217,14 +215,14 @@ module _ {E C : Type 0} (seat_of : E → Option ℕ) where
               sole = λ b sits_b. absurd (far ((old.sole b sits_b).0 ∙ sym mine.0));
               right = λ y sits_y.
                   let right_y = old.right y sits_y in (
-                    ports_else k.ports (d.dealt + 1) port y.seat (λ same. let below = right_y.1.seated in omega arith)
+                    ports_else k.ports d.dealt port y.seat (λ same. let below = right_y.1.seated in omega arith)
                         ∙ right_y.0,
                     one_more_right d y right_y.1,
                   );
               seen = old.seen;
             })
             (writes_fit id ports d'))
-            (sits_fit id ports d' port (newcomer d) (ports_here k.ports (d.dealt + 1) port)
+            (sits_fit id ports d' port (newcomer d) (ports_here k.ports d.dealt port)
             (newcomer_right d early free));
       }
 

@@ -3,11 +3,10 @@ pub mod FitLemmas
 pub mod PassLemmas
 pub mod TieLemmas
 pub mod EntryLemmas
-pub mod WholeLemmas
 pub mod DeviceLemmas
 pub mod HeldLemmas
 pub mod StopLemmas
 pub mod SeatLemmas
 pub mod OpenLemmas
 pub mod CloseLemmas
-pub mod BetweenLemmas
+pub mod WithdrawalLemmas

@@ -4,13 +4,15 @@ use Rattle.std.specs.Prelude.{replicate, slice_index_or}
 use Rattle.std.proofs.lemmas.List.{length-replicate}
 use Rattle.atomic_table.specs.Seated.{TableId}
 use Rattle.interleavings.specs.Laws.{OpensRefine}
+use Rattle.interleavings.specs.Moments.{once_if}
 use Rattle.interleavings.specs.Words.{HasSystem, MAX_SEATS}
-use Rattle.workers.specs.Views.{calls_in, newcomer, no_place, place_at, with_one_more}
+use Rattle.workers.specs.Views.{calls_in, newcomer, no_place, part_of, place_at, with_one_more}
 use Rattle.workers.specs.Entries.{seat_of}
 use Rattle.workers.proofs.DeviceLemmas.{all_spared}
 use Rattle.workers.specs.Held.{IsHeld, IsKept, KeepsDevice, places_from}
-use Rattle.workers.specs.Opening.{HasFrames, IsOpenedOn, IsPrepared, PreparedView, dealt_desk, newcomers, origin_of}
+use Rattle.workers.specs.Opening.{IsOpenedOn, IsPrepared, PreparedView, dealt_desk, newcomers, origin_of}
 use Rattle.workers.specs.Origins.{Origin}
+use Rattle.workers.specs.Stopping.{IsStopper}
 use Rattle.workers.specs.Told.{IsSeated, Sitter}
 use Rattle.workers.specs.Words.{ActiveView, Call, Caller, Desk, Entry, RefinesFile, IsOpened, KernelState, Place, RecordKey}
 
@@ -57,6 +59,7 @@ module _ {K : Type 0} (of_key : K → RecordKey → ℕ) (keys : K) (content : L
       rows = ap length opened.locks ∙ length-replicate (length callers) [] ∙ sym (ap length opened.callers);
       seats_are = opened.seats ∙ ap (λ (n : ℕ). replicate n None) (sym (ap length opened.callers));
       journal = opened.journal;
+      stopped = opened.stopped;
       failed = opened.failed;
       table_has = fits;
       places = as_many ∙ sym (ap length opened.callers);
@@ -64,9 +67,9 @@ module _ {K : Type 0} (of_key : K → RecordKey → ℕ) (keys : K) (content : L
 
 -- ---- passes are dealt
 
--- so many seats have their passes
+-- who stops it and so many seats have their passes
 pub record IsDealing (seats place spare : ℕ) (d : Desk Entry Call) (dealt : List Sitter) : Type 0 where
-  pub own : d ≡ dealt_desk seats place
+  pub own : d ≡ dealt_desk seats (suc place)
   pub made : dealt ≡ newcomers place
   pub room : seats ≤ spare
 
@@ -78,12 +81,10 @@ default_of zero place = refl
 default_of (suc n) zero = refl
 default_of (suc n) (suc place) = default_of n place
 
-pub free_at : (seats place : ℕ) (d : Desk Entry Call) → d ≡ dealt_desk seats place →
-    place_at d.places (d.dealt + 1) ≡ no_place
+pub free_at : (seats place : ℕ) (d : Desk Entry Call) → d ≡ dealt_desk seats (suc place) →
+    place_at d.places d.dealt ≡ no_place
 free_at seats place d is =
-    subst (λ (b : Desk Entry Call). place_at b.places (b.dealt + 1) ≡ no_place) (sym is)
-    (subst (λ (n : ℕ). place_at (dealt_desk seats place).places n ≡ no_place) (sym (up place))
-    (default_of seats place))
+    subst (λ (b : Desk Entry Call). place_at b.places b.dealt ≡ no_place) (sym is) (default_of seats place)
 
 pub many_newcomers : (n : ℕ) → length (newcomers n) ≡ n
 many_newcomers zero = refl
@@ -92,7 +93,7 @@ many_newcomers (suc n) =
     length-append (newcomers n) _ ∙ (let more : length (newcomers n) + 1 ≡ suc n = omega arith in more)
 
 pub seated_newcomer : (seats place many number : ℕ) (hand : List Entry) (d : Desk Entry Call) (x : Sitter) →
-    d ≡ dealt_desk seats place → x ≡ newcomer d → number ≡ place + 1 → hand ≡ [] → place < seats → seats ≡ many →
+    d ≡ dealt_desk seats (suc place) → x ≡ newcomer d → number ≡ place + 1 → hand ≡ [] → place < seats → seats ≡ many →
     IsSeated many number hand x
 seated_newcomer seats place many number hand d x is new number_is empty below as_many =
     subst (IsSeated many number hand) (sym (new ∙ ap newcomer is))
@@ -100,7 +101,7 @@ seated_newcomer seats place many number hand d x is new number_is empty below as
       begun = omega arith;
       within = omega arith;
       rests = λ _. refl;
-      number_is = sym number_is;
+      number_is = sym (number_is ∙ up place);
       list_is = sym empty;
     }
 
@@ -108,11 +109,8 @@ pub dealing_goes : (seats place room room' : ℕ) (d d' : Desk Entry Call) (made
     IsDealing seats place room d made → d' ≡ with_one_more d → x ≡ newcomer d → made' ≡ made ++ x ∷ [] →
     room ≤ room' → IsDealing seats (place + 1) room' d' made'
 dealing_goes seats place room room' d d' made made' x i one new pushed more = record {
-  own = one ∙ ap with_one_more i.own;
-  made = pushed ∙ (λ k. i.made k ++ (new ∙ ap newcomer i.own) k ∷ [])
-      ∙ ap (λ (n : ℕ). newcomers place
-      ++ record { seat = n; list = []; place = no_place; failed = false; seen = 0 } ∷ []) (up place)
-      ∙ ap newcomers (sym (up place));
+  own = one ∙ ap with_one_more i.own ∙ ap (λ (n : ℕ). dealt_desk seats (suc n)) (sym (up place));
+  made = pushed ∙ (λ k. i.made k ++ (new ∙ ap newcomer i.own) k ∷ []) ∙ ap newcomers (sym (up place));
   room = let old = i.room in omega arith;
 }
 
@@ -126,10 +124,10 @@ many_none : (n : ℕ) → length (replicate {A = Option ActiveView} n None) ≡ 
 many_none zero = refl
 many_none (suc n) = ap suc (many_none n)
 
-held_at_start : {K : Type 0} (of_key : K → RecordKey → ℕ) (o : Origin) (spares : Bool) (name : TableId)
+held_at_start : {K : Type 0} (of_key : K → RecordKey → ℕ) (o : Origin) (name : TableId)
     (table many : ℕ) (k : KernelState K) (d : Desk Entry Call) → IsPrepared of_key k table many →
-    origin_of of_key spares (view_of name k) ≡ o → d ≡ dealt_desk many many → IsHeld of_key o k d 0
-held_at_start {K} of_key o spares name table many k d p origin is =
+    origin_of of_key (view_of name k) ≡ o → d ≡ dealt_desk many (suc many) → IsHeld of_key o k d 0
+held_at_start {K} of_key o name table many k d p origin is =
     subst (λ (from : Origin). IsHeld of_key from k d 0) origin
     record {
       led = p.led;
@@ -142,9 +140,10 @@ held_at_start {K} of_key o spares name table many k d p origin is =
         journal = p.journal i;
         places = (ap (places_from 1) as_none ∙ sym (places_of_none 1 many)) i;
         failed = p.failed i;
-        dealt = (length_seats ∙ sym p.places) i;
+        dealt = suc ((length_seats ∙ sym p.places) i);
       });
       counted = sym (ap (calls_in seat_of) p.journal);
+      marked = ap (λ (es : List Entry). length (part_of seat_of 0 es)) p.journal ∙ sym (ap once_if p.stopped);
     }
   where
     as_none : k.seats ≡ replicate many None
@@ -154,26 +153,26 @@ held_at_start {K} of_key o spares name table many k d p origin is =
     length_seats = ap length p.seats_are ∙ many_none (length k.callers)
 
 -- the device has what it had
-device_at_start : {K : Type 0} (of_key : K → RecordKey → ℕ) (o : Origin) (spares : Bool) (name : TableId)
-    (k : KernelState K) → k.failed ≡ false → origin_of of_key spares (view_of name k) ≡ o →
-    (IsTrue spares → HasFrames (view_of name k)) → KeepsDevice o k.pool k.failed
-device_at_start of_key o spares name k sound origin frames =
+device_at_start : {K : Type 0} (of_key : K → RecordKey → ℕ) (o : Origin) (name : TableId) (k : KernelState K) →
+    k.failed ≡ false → origin_of of_key (view_of name k) ≡ o → KeepsDevice o k.pool k.failed
+device_at_start of_key o name k sound origin =
     subst (λ (from : Origin). KeepsDevice from k.pool k.failed) origin
     record {
-      pages = λ spared. all_spared k.pool (frames spared);
+      pages = λ roomy. all_spared k.pool roomy;
       later = omega arith;
       cause = λ honest broken. let no : false ≡ true = sym sound ∙ broken in absurd cc;
     }
 
--- and nothing was taken out of its journal
-pub kept_at_start : {K : Type 0} (of_key : K → RecordKey → ℕ) (o : Origin) (spares : Bool) (name : TableId)
-    (table many : ℕ) (past : List Entry) (capacity : ℕ) (k : KernelState K) (d : Desk Entry Call) → past ≡ [] →
-    IsPrepared of_key k table many → origin_of of_key spares (view_of name k) ≡ o →
-    (IsTrue spares → HasFrames (view_of name k)) → d ≡ dealt_desk many many → IsKept of_key o past capacity k d 0
-kept_at_start {K} of_key o spares name table many past capacity k d empty p origin frames is =
-    subst (λ (es : List Entry). IsKept of_key o es capacity k d 0) (sym empty)
-    record {
-      held = held_at_start of_key o spares name table many k d p origin is;
-      room = tt;
-      device = device_at_start of_key o spares name k p.failed origin frames;
-    }
+pub kept_at_start : {K : Type 0} (of_key : K → RecordKey → ℕ) (o : Origin) (name : TableId)
+    (table many : ℕ) (k : KernelState K) (d : Desk Entry Call) → IsPrepared of_key k table many →
+    origin_of of_key (view_of name k) ≡ o → d ≡ dealt_desk many (suc many) → IsKept of_key o k d 0
+kept_at_start of_key o name table many k d p origin is = record {
+  held = held_at_start of_key o name table many k d p origin is;
+  device = device_at_start of_key o name k p.failed origin;
+}
+
+-- ---- who stops it
+
+pub stopper_at_start : (seats : ℕ) (d : Desk Entry Call) (x : Sitter) → d ≡ dealt_desk seats 0 → x ≡ newcomer d →
+    IsStopper x
+stopper_at_start seats d x is new = subst IsStopper (sym (new ∙ ap newcomer is)) record { none = refl; once = refl }

@@ -1,5 +1,5 @@
 -- The parts of a journal.
-use Rattle.std.proofs.Common.{◌≡◌, ◌≤◌, ℕ, ◌+◌, Bool, true, false, List, [], ◌∷◌, ◌++◌, length, Option, Some, None, refl, ap, ◌∙◌, arith, length-append}
+use Rattle.std.proofs.Common.{◌≡◌, ◌≤◌, ℕ, zero, suc, ◌+◌, Bool, true, false, List, [], ◌∷◌, ◌++◌, length, Option, Some, None, refl, ap, ◌∙◌, arith, length-append}
 use Rattle.std.specs.Prelude.{filter, ◌==◌}
 use Rattle.workers.specs.Views.{calls_in, is_at, is_one, part_of}
 
@@ -15,20 +15,25 @@ module _ {E : Type 0} (p : E → Bool) where
   filter_append (x ∷ xs) ys = filter_append_at x xs (filter p xs) (p x) refl refl ys (filter_append xs ys)
 
 module _ {E : Type 0} (seat_of : E → Option ℕ) where
-  longer : (seat : ℕ) (e : E) (es : List E) (o : Option ℕ) → seat_of e ≡ o
-      → length (part_of seat_of seat es) ≤ calls_in seat_of es
-      → length (part_of seat_of seat (e ∷ es)) ≤ calls_in seat_of (e ∷ es)
-  longer seat e es None is below = rw is below
-  longer seat e es (Some other) is below = longer_at (other == seat) refl
+  longer : (n : ℕ) (e : E) (es : List E) (o : Option ℕ) → seat_of e ≡ o
+      → length (part_of seat_of (suc n) es) ≤ calls_in seat_of es
+      → length (part_of seat_of (suc n) (e ∷ es)) ≤ calls_in seat_of (e ∷ es)
+  longer n e es None is below = rw is below
+  longer n e es (Some other) is below = longer_at (other == suc n) refl
     where
-      longer_at : (b : Bool) → (other == seat) ≡ b → length (part_of seat_of seat (e ∷ es)) ≤ calls_in seat_of (e ∷ es)
+      longer_at : (b : Bool) → (other == suc n) ≡ b
+          → length (part_of seat_of (suc n) (e ∷ es)) ≤ calls_in seat_of (e ∷ es)
       longer_at true same = rw (is, same) (omega arith)
       longer_at false same = rw (is, same) (omega arith)
 
+  part_within : (n : ℕ) (es : List E) → length (part_of seat_of (suc n) es) ≤ calls_in seat_of es
+  part_within n [] = omega arith
+  part_within n (e ∷ es) = longer n e es (seat_of e) refl (part_within n es)
+
   -- a seat's part is no longer than all calls
-  pub part_below : (seat : ℕ) (es : List E) → length (part_of seat_of seat es) ≤ calls_in seat_of es
-  part_below seat [] = omega arith
-  part_below seat (e ∷ es) = longer seat e es (seat_of e) refl (part_below seat es)
+  pub part_below : (seat : ℕ) (es : List E) → 1 ≤ seat → length (part_of seat_of seat es) ≤ calls_in seat_of es
+  part_below zero es begun = absurd (omega arith)
+  part_below (suc n) es begun = part_within n es
 
   pub part_append : (seat : ℕ) (xs ys : List E)
       → part_of seat_of seat (xs ++ ys) ≡ part_of seat_of seat xs ++ part_of seat_of seat ys

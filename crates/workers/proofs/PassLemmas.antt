@@ -1,5 +1,5 @@
 -- Steps of passes, and looks at the word: each keeps the rule.
-use Rattle.std.proofs.Common.{◌≡◌, ◌≢◌, ◌≤◌, ℕ, ◌+◌, Bool, List, [], ◌∷◌, ◌++◌, length, Option, Some, None, refl, sym, ap, ◌∙◌, subst, arith, le_refl, length-append, append_assoc, append-nil}
+use Rattle.std.proofs.Common.{◌≡◌, ◌≢◌, ◌≤◌, ℕ, ◌+◌, Bool, List, [], ◌∷◌, ◌++◌, length, Option, Some, refl, sym, ap, ◌∙◌, subst, arith, le_refl, length-append, append_assoc, append-nil}
 use Rattle.std.specs.Prelude.{slice_index, slice_set}
 use Rattle.atomic_table.specs.Table.{Allows, Joins, Me, Splits, keeps}
 use Rattle.workers.specs.declared.view.Desk.{Desk}
@@ -9,7 +9,7 @@ use Rattle.workers.specs.declared.view.View.{View}
 use Rattle.workers.specs.Views.{calls_in, desk_of, sitting_of, deals_left, deals_right, joined, meets, no_place, part_of, parts_left, parts_right, place_at, reads, sits, writes}
 use Rattle.workers.specs.Rule.{Fits, IsChange, IsCompared, IsKept, IsRight, IsTurned, Sees, SeesFromSeat, moved}
 use Rattle.workers.proofs.PartLemmas.{calls_append, part_append, part_below}
-use Rattle.workers.proofs.FitLemmas.{all_set, joined_fit, passes_join, passes_part, reads_fit, seat_is_dealt, sits_fit, word_stays, writes_fit}
+use Rattle.workers.proofs.FitLemmas.{all_set, joined_fit, passes_join, passes_part, reads_fit, seat_is_dealt, sits_fit, word_stays}
 
 module _ {E C : Type 0} (seat_of : E → Option ℕ) where
   -- ---- a step of the kernel
@@ -17,7 +17,6 @@ module _ {E C : Type 0} (seat_of : E → Option ℕ) where
   right_stays : (seat : ℕ) (told : List E) (d new : Desk E C) (x : Sitting E C) → IsChange seat_of seat told d new
       → x.seat ≢ seat → IsRight seat_of d x → IsRight seat_of new x
   right_stays seat told d new x change apart right = record {
-    begun = right.begun;
     seated = rw change.dealt right.seated;
     part = ap (part_of seat_of x.seat) change.journal ∙ part_append seat_of x.seat d.journal change.added
         ∙ ap (λ (l : List E). part_of seat_of x.seat d.journal ++ l) (change.others x.seat apart)
@@ -28,17 +27,17 @@ module _ {E C : Type 0} (seat_of : E → Option ℕ) where
         let below = right.seen in omega arith;
   }
 
-  right_moves : (told : List E) (d new : Desk E C) (x : Sitting E C) → IsChange seat_of x.seat told d new
+  -- a seat is right after its step
+  pub right_moves : (told : List E) (d new : Desk E C) (x : Sitting E C) → IsChange seat_of x.seat told d new
       → IsRight seat_of d x → IsRight seat_of new (moved seat_of new told x)
   right_moves told d new x change right = record {
-    begun = right.begun;
     seated = rw change.dealt right.seated;
     part = ap (part_of seat_of x.seat) change.journal ∙ part_append seat_of x.seat d.journal change.added
         ∙ ap (λ (l : List E). l ++ part_of seat_of x.seat change.added) right.part
-        ∙ ap (λ (l : List E). (x.list ++ x.place.owed) ++ l) (change.own right.begun)
+        ∙ ap (λ (l : List E). (x.list ++ x.place.owed) ++ l) change.own
         ∙ append_assoc x.list x.place.owed change.added
         ∙ ap (λ (p : Place E C). x.list ++ (p.owed ++ change.added)) (sym right.place)
-        ∙ ap (λ (l : List E). x.list ++ l) (change.owed right.begun)
+        ∙ ap (λ (l : List E). x.list ++ l) change.owed
         ∙ sym (append_assoc x.list told (place_at new.places x.seat).owed);
     place = refl;
     failed = λ e. e;
@@ -92,36 +91,6 @@ module _ {E C : Type 0} (seat_of : E → Option ℕ) where
           subst (λ (e : Desk E C). IsRight seat_of e y) (ap (λ (v : View E C). desk_of v.desk) same)
           (subst (λ (z : Sitting E C). IsRight seat_of d z) (ap (λ (v : View E C). sitting_of v.sitting) same) right)
 
-  pub publishing_is_allowed : (slots id : ℕ) (d new : Desk E C) (told : List E) (count : ℕ)
-      → count ≡ calls_in seat_of new.journal → IsChange seat_of 0 told d new
-      → Allows (IsKept seat_of) slots id (writes d, []) 0 (λ _. count)
-      (λ _ me. IsTurned seat_of new told (writes d) me.0 × (me.1 ≡ []))
-  publishing_is_allowed slots id d new told count counted change s k sized at small =
-      let mine = (k.views id (writes d) at).sole d refl in (
-        writes new,
-        keeps,
-        tt,
-        record {
-          writer = id;
-          ports = k.ports;
-          desk = new;
-          words = ap (λ (ws : List ℕ). slice_set ws 0 count) k.words ∙ ap (λ (n : ℕ). n ∷ []) counted;
-          views = all_set (Fits seat_of id k.ports new) s.views id (writes new)
-              (λ j u far e. other_fits 0 told d new id k.writer k.ports j u change (sym mine.0) far
-              (λ y sits_y none. let begun = ((k.views j u e).right y sits_y).1.begun in omega arith)
-              (rw mine.1 (k.views j u e)))
-              (writes_fit seat_of id k.ports new);
-        },
-        (
-          record {
-            right = λ b y same. let none : ◌≡◌ {A = Option (Sitting E C)} None (Some y) = ap
-                (λ (v : View E C). v.sitting) same in absurd cc;
-            now = refl;
-          },
-          refl,
-        ),
-      )
-
   -- ---- looks
 
   pub look_is_allowed : (slots id n : ℕ)
@@ -149,7 +118,6 @@ module _ {E C : Type 0} (seat_of : E → Option ℕ) where
   shown_right : (d : Desk E C) (x : Sitting E C) (n : ℕ) → n ≤ calls_in seat_of d.journal → IsRight seat_of d x
       → IsRight seat_of d (record x { seen = n })
   shown_right d x n below right = record {
-    begun = right.begun;
     seated = right.seated;
     part = right.part;
     place = right.place;
@@ -157,9 +125,10 @@ module _ {E C : Type 0} (seat_of : E → Option ℕ) where
     seen = below;
   }
 
-  list_below : (d : Desk E C) (x : Sitting E C) → IsRight seat_of d x → length x.list ≤ calls_in seat_of d.journal
-  list_below d x right =
-      let whole = part_below seat_of x.seat d.journal in
+  list_below : (d : Desk E C) (x : Sitting E C) → IsRight seat_of d x → 1 ≤ x.seat
+      → length x.list ≤ calls_in seat_of d.journal
+  list_below d x right begun =
+      let whole = part_below seat_of x.seat d.journal begun in
       let size = ap length right.part ∙ length-append x.list x.place.owed in omega arith
 
   pub seat_look_is_allowed : (slots id : ℕ) (x : Sitting E C)
@@ -187,10 +156,14 @@ module _ {E C : Type 0} (seat_of : E → Option ℕ) where
         (
           record {
             tells = λ y same. subst
-                (λ (z : Sitting E C). (length z.list ≤ found) × (z.seen ≤ found) ×
+                (λ (z : Sitting E C). 1 ≤ z.seat → (length z.list ≤ found) × (z.seen ≤ found) ×
                 (sits after ≡ sits (record z { seen = found })))
                 (ap (λ (v : View E C). sitting_of v.sitting) same)
-                (let below = list_below k.desk x was.1 in omega arith, let below = was.1.seen in omega arith, refl);
+                (λ begun. (
+                  let below = list_below k.desk x was.1 begun in omega arith,
+                  let below = was.1.seen in omega arith,
+                  refl,
+                ));
           },
           refl,
         ),
@@ -229,7 +202,7 @@ module _ {E C : Type 0} (seat_of : E → Option ℕ) where
   -- ---- the same, at views that are known
 
   pub seat_is_dealt_as : (id : ℕ) (me : Me Bool (View E C)) (d : Desk E C) → me ≡ (writes d, []) → d.journal ≡ []
-      → place_at d.places (d.dealt + 1) ≡ no_place
+      → place_at d.places d.dealt ≡ no_place
       → Splits (IsKept seat_of) id me.0 (deals_left me.0) (deals_right me.0)
   seat_is_dealt_as id me d is early free = subst
       (λ (m : Me Bool (View E C)). Splits (IsKept seat_of) id m.0 (deals_left m.0) (deals_right m.0)) (sym is)
@@ -256,15 +229,6 @@ module _ {E C : Type 0} (seat_of : E → Option ℕ) where
       subst (λ (m : Me Bool (View E C)). Allows (IsKept seat_of) slots id m 0 (λ _. count)
       (λ _ after. IsTurned seat_of new told m.0 after.0 × (after.1 ≡ m.1))) (sym is)
       (turn_is_allowed slots id d new x told count counted change)
-
-  pub publishing_as : (slots id : ℕ) (me : Me Bool (View E C)) (d new : Desk E C) (told : List E) (count : ℕ)
-      → me ≡ (writes d, []) → count ≡ calls_in seat_of new.journal → IsChange seat_of 0 told d new
-      → Allows (IsKept seat_of) slots id me 0 (λ _. count)
-      (λ _ after. IsTurned seat_of new told me.0 after.0 × (after.1 ≡ me.1))
-  publishing_as slots id me d new told count is counted change =
-      subst (λ (m : Me Bool (View E C)). Allows (IsKept seat_of) slots id m 0 (λ _. count)
-      (λ _ after. IsTurned seat_of new told m.0 after.0 × (after.1 ≡ m.1))) (sym is)
-      (publishing_is_allowed slots id d new told count counted change)
 
   pub look_as : (slots id n : ℕ) (me : Me Bool (View E C)) → me ≡ (reads n, [])
       → Allows (IsKept seat_of) slots id me 0 (λ m. m) (λ found after. Sees me.0 found after.0 × (after.1 ≡ me.1))

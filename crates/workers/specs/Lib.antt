@@ -8,5 +8,6 @@ pub mod Fault
 pub mod Unanswered
 pub mod Held
 pub mod Told
+pub mod Stopping
 pub mod Opening
 pub mod Closing

@@ -1,5 +1,5 @@
 -- How a service begins.
-use Rattle.std.specs.Prelude.{ℕ, zero, suc, ◌≡◌, ◌≤◌, Bool, false, IsTrue, List, [], ◌∷◌, ◌++◌, None, length, replicate}
+use Rattle.std.specs.Prelude.{ℕ, zero, suc, ◌≡◌, Bool, false, IsTrue, List, [], ◌∷◌, ◌++◌, None, length, replicate}
 use Rattle.atomic_table.specs.Seated.{TableId}
 use Rattle.workers.specs.Views.{first_desk, no_place}
 use Rattle.workers.specs.Origins.{Origin}
@@ -17,17 +17,13 @@ pub record PreparedView (K : Type 0) : Type 0 where
   pub frames : ℕ
   pub callers : List Caller
 
--- there is a frame for each page
-abbrev pub HasFrames : {K : Type 0} → PreparedView K → Type 0
-HasFrames p = length p.content ≤ p.frames
-
--- from there a service of it begins, which spares its device or does not
-abbrev pub origin_of : {K : Type 0} → (K → RecordKey → ℕ) → (spares : Bool) → PreparedView K → Origin
-origin_of of_key spares p = record {
+-- from there a service of it begins
+abbrev pub origin_of : {K : Type 0} → (K → RecordKey → ℕ) → PreparedView K → Origin
+origin_of of_key p = record {
   content = p.content;
   honest = p.honest;
   faults = p.faults;
-  spares = spares;
+  frames = p.frames;
   hash = of_key p.keys;
   callers = p.callers;
 }
@@ -47,11 +43,12 @@ pub record IsPrepared {K : Type 0} (of_key : K → RecordKey → ℕ) (k : Kerne
   pub rows : length k.locks ≡ length k.callers
   pub seats_are : k.seats ≡ replicate (length k.callers) None
   pub journal : k.journal ≡ []
+  pub stopped : k.stopped ≡ false
   pub failed : k.failed ≡ false
   pub table_has : table ≡ seats
   pub places : seats ≡ length k.callers
 
--- what is known of a kernel with so many seats, once passes were given to some of them
+-- what is known of a kernel with so many seats, once so many passes were given, the first to who stops it
 abbrev pub dealt_desk : ℕ → ℕ → Desk Entry Call
 dealt_desk seats some = record (first_desk {E = Entry} {C = Call} seats) { dealt = some }
 

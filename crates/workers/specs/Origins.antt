@@ -1,5 +1,5 @@
 -- From what a service began.
-use Rattle.std.specs.Prelude.{ℕ, Bool, false, List, []}
+use Rattle.std.specs.Prelude.{ℕ, ◌≤◌, Bool, false, List, [], length}
 use Rattle.workers.specs.Words.{Caller, Entry, IsFifo, IsFileOf, IsLegal, RecordKey, State, after, restarted}
 
 pub record Origin : Type 0 where
@@ -7,8 +7,8 @@ pub record Origin : Type 0 where
   pub content : List (List ℕ)
   pub honest : Bool
   pub faults : ℕ
-  -- whether the device is spared until the service ends: there is a frame for each page, and the file is not saved
-  pub spares : Bool
+  -- so many pages fit in memory
+  pub frames : ℕ
   -- the pseudokeys of the file
   pub hash : RecordKey → ℕ
   -- who sits at its seats, one caller a seat
@@ -16,7 +16,11 @@ pub record Origin : Type 0 where
 
 -- that of no service
 abbrev pub no_origin : Origin
-no_origin = record { content = []; honest = false; faults = 0; spares = false; hash = λ key. 0; callers = [] }
+no_origin = record { content = []; honest = false; faults = 0; frames = 0; hash = λ key. 0; callers = [] }
+
+-- there is a frame for each page, so that the device is spared until the service ends
+abbrev pub HasFrames : Origin → Type 0
+HasFrames o = length o.content ≤ o.frames
 
 -- a journal that is legal from the one system whose file the device had, and in which of each type messages are
 -- received in the order in which they were sent, each once

@@ -1,5 +1,5 @@
 -- The rule of the passes, and what a step of one tells it.
-use Rattle.std.specs.Prelude.{ℕ, ◌≡◌, ◌≢◌, ◌≤◌, Bool, true, List, [], ◌∷◌, ◌++◌, Option, Some, option_map, length}
+use Rattle.std.specs.Prelude.{ℕ, ◌≡◌, ◌≢◌, ◌≤◌, ◌<◌, Bool, true, List, [], ◌∷◌, ◌++◌, Option, Some, option_map, length}
 use mathlib.Core.Option.{some}
 use lib.ListN.{get_elem?}
 use Rattle.atomic_table.specs.Table.{State}
@@ -11,8 +11,7 @@ use Rattle.workers.specs.Views.{calls_in, joined, part_of, place_at, reads, sits
 module _ {E C : Type 0} (seat_of : E → Option ℕ) where
   -- what a seat knows is right beside what is known of the kernel
   pub record IsRight (d : Desk E C) (x : Sitting E C) : Type 0 where
-    pub begun : 1 ≤ x.seat
-    pub seated : x.seat ≤ d.dealt
+    pub seated : x.seat < d.dealt
     -- its list is its part of the journal, but for what it is owed
     pub part : part_of seat_of x.seat d.journal ≡ x.list ++ x.place.owed
     pub place : place_at d.places x.seat ≡ x.place
@@ -35,13 +34,13 @@ module _ {E C : Type 0} (seat_of : E → Option ℕ) where
 
   -- ---- a step of the kernel
 
-  -- the entries `added` join the journal in a step of this seat, which is told these; 0 is no seat
+  -- the entries `added` join the journal in a step of this seat, which is told these; a stop is one of 0
   pub record IsChange (seat : ℕ) (told : List E) (old new : Desk E C) : Type 0 where
     pub added : List E
     pub journal : new.journal ≡ old.journal ++ added
-    pub own : 1 ≤ seat → part_of seat_of seat added ≡ added
+    pub own : part_of seat_of seat added ≡ added
     pub others : (other : ℕ) → other ≢ seat → part_of seat_of other added ≡ []
-    pub owed : 1 ≤ seat → (place_at old.places seat).owed ++ added ≡ told ++ (place_at new.places seat).owed
+    pub owed : (place_at old.places seat).owed ++ added ≡ told ++ (place_at new.places seat).owed
     pub places : (other : ℕ) → other ≢ seat → place_at new.places other ≡ place_at old.places other
     pub failed : old.failed ≡ true → new.failed ≡ true
     pub dealt : new.dealt ≡ old.dealt
@@ -73,7 +72,7 @@ module _ {E C : Type 0} where
   -- ---- looks at the word
 
   pub record SeesFromSeat (before : View E C) (found : ℕ) (after : View E C) : Type 0 where
-    pub tells : (x : Sitting E C) → before ≡ sits x →
+    pub tells : (x : Sitting E C) → before ≡ sits x → 1 ≤ x.seat →
         (length x.list ≤ found) × (x.seen ≤ found) × (after ≡ sits (record x { seen = found }))
 
   pub record Sees (before : View E C) (found : ℕ) (after : View E C) : Type 0 where

@@ -1,5 +1,5 @@
 -- What passes know, in the shapes that come.
-use Rattle.std.specs.Prelude.{ℕ, zero, suc, ◌+◌, ◌==◌, false, true, Bool, List, [], Option, Some, None, option_map, length, filter, replicate, slice_index_or}
+use Rattle.std.specs.Prelude.{ℕ, zero, suc, ◌==◌, false, true, Bool, List, [], Option, Some, None, option_map, length, filter, replicate, slice_index_or}
 use Rattle.workers.specs.declared.view.Place.{Place}
 use Rattle.workers.specs.declared.view.Desk.{Desk}
 use Rattle.workers.specs.declared.view.Sitting.{Sitting}
@@ -42,12 +42,12 @@ module _ {E C : Type 0} where
 
   -- ---- how they are cut and joined
 
-  -- a seat that was told nothing yet
+  -- who was told nothing yet
   abbrev pub newcomer : Desk E C → Sitting E C
-  newcomer d = record { seat = d.dealt + 1; list = []; place = no_place; failed = false; seen = 0 }
+  newcomer d = record { seat = d.dealt; list = []; place = no_place; failed = false; seen = 0 }
 
   abbrev pub with_one_more : Desk E C → Desk E C
-  with_one_more d = record d { dealt = d.dealt + 1 }
+  with_one_more d = record d { dealt = suc d.dealt }
 
   abbrev pub deals_left : View E C → View E C
   deals_left v = record v { desk = option_map with_one_more v.desk }
@@ -77,16 +77,19 @@ module _ {E C : Type 0} where
 
 -- ---- entries
 
+-- those of no seat are 0's, who has no call
 abbrev pub is_at : ℕ → Option ℕ → Bool
-is_at seat None = false
-is_at seat (Some other) = other == seat
+is_at zero None = true
+is_at zero (Some other) = false
+is_at (suc n) None = false
+is_at (suc n) (Some other) = other == suc n
 
 abbrev pub is_one : Option ℕ → Bool
 is_one None = false
 is_one (Some seat) = true
 
 module _ {E : Type 0} (seat_of : E → Option ℕ) where
-  -- the entries of a seat's calls, in their order
+  -- the entries of a seat's calls, or those of no call, in their order
   abbrev pub part_of : ℕ → List E → List E
   part_of seat es = filter (λ (e : E). is_at seat (seat_of e)) es
 

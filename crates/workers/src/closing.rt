@@ -1,9 +1,8 @@
 //! How a service ends.
 
-ghost use Rattle.std.specs.Prelude.{◌≡◌, ◌↔◌, ◌+◌, ◌++◌, ◌≤◌, true, length, vec_capacity};
+ghost use Rattle.std.specs.Prelude.{◌≡◌, ◌↔◌, true, length};
 ghost use Rattle.std.specs.List.{list_any};
-ghost use Rattle.workers.specs.Closing.{Each, IsBeside, IsEndedWith, IsLetGo, IsToComeBack, remains_of, sits_at};
-ghost use Rattle.workers.specs.Held.{HasRoom};
+ghost use Rattle.workers.specs.Closing.{Each, IsBeside, IsEndedWith, IsLetGo, IsMarked, IsToComeBack, remains_of, sits_at};
 
 use crate::entries::{Own, Passes};
 use crate::gate::Gate;
@@ -12,15 +11,15 @@ use crate::naming::Base;
 use crate::pass::Room;
 use crate::seat::Seat;
 use crate::service::Service;
+use crate::stopper::Stopper;
+use crate::unclosed::Unclosed;
 use bucket_page::PseudoKey;
-use interleavings::interleaving_core::{CloseFault, Closed, Failure, MAX_DECIDED, NotClosed};
+use interleavings::interleaving_core::{CloseFault, Closed, Failure, NotClosed};
 use interleavings::{
     a_refining_kernel_answers_as_plain_lists, a_refining_kernel_closes_on_its_file,
 };
 use page_device::PageDevice;
 use queue_model::Entry;
-use std::marker::PhantomData;
-use std::sync::Mutex;
 
 /// What is left of a service that was closed.
 #[derive(Drop)]
@@ -44,7 +43,7 @@ pub enum Ending<D: PageDevice, K: PseudoKey, G: Gate, N: Room + Base> {
     /// written (20), and what was changed may be lost.
     Fault(Ended<D, N>, CloseFault),
     /// One of its seats is missing, and no step has failed (63). All of it comes back.
-    Missing(Service<D, K, G, N>, Vec<Seat<N>>),
+    Missing(Unclosed<D, K, G, N>, Vec<Seat<N>>, Stopper<N>),
 }
 
 impl<D: PageDevice + Drop, K: PseudoKey + Drop, G: Gate + Drop, N: Room + Base> Service<
@@ -53,11 +52,12 @@ impl<D: PageDevice + Drop, K: PseudoKey + Drop, G: Gate + Drop, N: Room + Base> 
     G,
     N,
 > {
-    /// Ends the service, where all of its seats come back: there is one journal, legal from the
-    /// system whose file the device had, of which each seat's list is its part. Where a step has
-    /// failed nothing is written.
-    pub fn close(self, seats: Vec<Seat<N>>) -> Ending<D, K, G, N>
-        ensures { IsEndedWith D.content D.fault_count N.origin seats.items result }
+    /// Ends the service, where all of its seats come back, and who may stop it: there is one journal,
+    /// legal from the system whose file the device had, of which each seat's list is its part. Where
+    /// a step has failed nothing is written.
+    pub fn close(self, seats: Vec<Seat<N>>, stopper: Stopper<N>) -> Ending<D, K, G, N>
+        ensures { IsEndedWith (remains_of D.content D.is_honest D.is_synced D.fault_count)
+            N.origin seats.items stopper.used result }
     {
         a_refining_kernel_answers_as_plain_lists::<K>();
         a_refining_kernel_closes_on_its_file::<K>();
@@ -68,34 +68,35 @@ impl<D: PageDevice + Drop, K: PseudoKey + Drop, G: Gate + Drop, N: Room + Base> 
             gauge,
             seats: many,
         } = self;
-        let held = latch.into_inner();
+        let mut held = latch.into_inner();
         let mut seats = seats;
+        let mut stopper = stopper;
+        compare_all(&gauge, &mut held.pass, &mut seats);
         if is_missing(held.kernel.has_failed(), seats.as_slice(), many) {
-            let service = Service {
+            let unclosed = Unclosed {
                 gate,
-                latch: Mutex::new(held),
+                held,
                 signals,
                 gauge,
                 seats: many,
             };
-            return Ending::Missing(service, seats);
+            return Ending::Missing(unclosed, seats, stopper);
         }
+        stopper.compare(&gauge, &mut held.pass);
         let Held {
             kernel,
-            past,
-            mut pass,
+            pass: _,
             count: _,
             asleep: _,
             due: _,
             room: _,
         } = held;
-        compare_all(&gauge, &mut pass, &mut seats);
         kernel.is_whole();
         let failure = kernel.failure();
         match kernel.close() {
             Ok(Closed { device, journal }) => Ending::Closed(Ended {
                 device,
-                journal: joined(past, journal),
+                journal,
                 seats,
                 failure,
             }),
@@ -103,7 +104,7 @@ impl<D: PageDevice + Drop, K: PseudoKey + Drop, G: Gate + Drop, N: Room + Base> 
                 let Closed { device, journal } = closed;
                 let ended = Ended {
                     device,
-                    journal: joined(past, journal),
+                    journal,
                     seats,
                     failure,
                 };
@@ -113,11 +114,13 @@ impl<D: PageDevice + Drop, K: PseudoKey + Drop, G: Gate + Drop, N: Room + Base> 
         }
     }
 
-    /// Lets the service go, with the seats that come back: nothing is written, and a device that
-    /// was spared has what it had. There is one journal, legal from the system whose file that was;
-    /// each seat's list is its part of it, or where a step has failed lacks one entry.
-    pub fn abandon(self, seats: Vec<Seat<N>>) -> Ended<D, N>
-        ensures { IsLetGo K N.origin seats.items (remains_of D.content D.fault_count result) }
+    /// Lets the service go, with the seats that come back and who may stop it: nothing is written,
+    /// and a device that was spared has what it had. There is one journal, legal from the system
+    /// whose file that was; each seat's list is its part of it, or where a step has failed lacks one
+    /// entry.
+    pub fn abandon(self, seats: Vec<Seat<N>>, stopper: Stopper<N>) -> Ended<D, N>
+        ensures { IsLetGo N.origin seats.items stopper.used
+            (remains_of D.content D.is_honest D.is_synced D.fault_count result) }
     {
         a_refining_kernel_answers_as_plain_lists::<K>();
         let Service {
@@ -128,42 +131,28 @@ impl<D: PageDevice + Drop, K: PseudoKey + Drop, G: Gate + Drop, N: Room + Base> 
             seats: _,
         } = self;
         let held = latch.into_inner();
-        let mut seats = seats;
         let Held {
             kernel,
-            past,
             mut pass,
             count: _,
             asleep: _,
             due: _,
             room: _,
         } = held;
+        let mut seats = seats;
+        let mut stopper = stopper;
         compare_all(&gauge, &mut pass, &mut seats);
+        stopper.compare(&gauge, &mut pass);
         kernel.is_whole();
         let failure = kernel.failure();
         let Closed { device, journal } = kernel.abandon();
         Ended {
             device,
-            journal: joined(past, journal),
+            journal,
             seats,
             failure,
         }
     }
-}
-
-/// What was taken out, and what followed it, as one journal.
-fn joined(past: Vec<Entry>, journal: Vec<Entry>) -> Vec<Entry>
-    requires room { HasRoom past.items (vec_capacity past) }
-    requires few { length journal.items ≤ MAX_DECIDED + 1 }
-    ensures { result.items ≡ past.items ++ journal.items }
-{
-    if past.is_empty() {
-        return journal;
-    }
-    let mut all = past;
-    let mut journal = journal;
-    all.append(&mut journal).unwrap();
-    all
 }
 
 /// Whether no step has failed, and one of so many seats is not among these.
@@ -206,6 +195,17 @@ impl<N: Room + Base> Seat<N> {
         ensures beside { IsBeside own.old self.old }
         ensures own { own.new ≡ own.old }
         ensures seat { self.new ≡ self.old }
+    {
+        gauge.compare(own, &mut self.pass);
+    }
+}
+
+impl<N: Room + Base> Stopper<N> {
+    /// It is right beside the kernel: a stop stands in the journal where it was used, and else none.
+    fn compare(&mut self, gauge: &Passes<N>, own: &mut Own<N>)
+        ensures mark { IsMarked self.old.used own.old.journal }
+        ensures own { own.new ≡ own.old }
+        ensures stopper { self.new ≡ self.old }
     {
         gauge.compare(own, &mut self.pass);
     }

@@ -1,7 +1,7 @@
 //! Why a call is not answered.
 
 ghost use Rattle.std.specs.Prelude.{◌≡◌};
-ghost use Rattle.workers.specs.Fault.{number_of};
+ghost use Rattle.workers.specs.Fault.{fault_of_step, number_of};
 
 use interleavings::interleaving_core::StepFault;
 use numbers::faults;
@@ -28,7 +28,9 @@ pub enum Fault {
 
 impl Fault {
     /// What a call is told that does not go on.
-    pub(crate) fn of_step(fault: StepFault) -> Fault {
+    pub(crate) fn of_step(fault: StepFault) -> Fault
+        ensures { result ≡ fault_of_step fault }
+    {
         match fault {
             StepFault::NoRoom => Fault::NoRoom,
             StepFault::File(_) => Fault::Failed,

@@ -1,6 +1,6 @@
 //! The table: its word is the number of calls in the journal.
 
-ghost use Rattle.std.specs.Prelude.{◌≡◌, ◌≤◌, ◌+◌, ℕ, [], length, IfOk};
+ghost use Rattle.std.specs.Prelude.{◌≡◌, ◌≤◌, ℕ, [], length, IfOk};
 ghost use Rattle.atomic_table.specs.Seated.{TableId};
 ghost use Rattle.workers.specs.Rule.{IsChange, IsRight, moved};
 ghost use Rattle.workers.specs.Views.{calls_in, first_desk, newcomer, no_place, place_at, with_one_more};
@@ -72,10 +72,10 @@ pub struct Gauge<E, C, J: Recorded<E>, N: Room> {
 }
 
 impl<E, C, J: Recorded<E>, N: Room> Gauge<E, C, J, N> {
-    /// A pass for the next seat, before anything is decided.
+    /// A pass for who stops the kernel, and then for the next seat each, before anything is decided.
     pub fn deal(&self, kernel: &mut KernelPass<E, C, N>) -> SeatPass<E, C, N>
         requires early { kernel.old.journal ≡ [] }
-        requires free { place_at kernel.old.places (kernel.old.dealt + 1) ≡ no_place }
+        requires free { place_at kernel.old.places kernel.old.dealt ≡ no_place }
         ensures desk { kernel.new ≡ with_one_more kernel.old }
         ensures seat { result ≡ newcomer kernel.old }
     {
@@ -108,6 +108,7 @@ impl<E, C, J: Recorded<E>, N: Room> Gauge<E, C, J, N> {
 
     /// The same, by the pass of a seat.
     pub fn look_from_seat(&self, pass: &mut SeatPass<E, C, N>) -> u64
+        requires { 1 ≤ pass.old.seat }
         ensures counts { length pass.old.list ≤ result }
         ensures rises { pass.old.seen ≤ result }
         ensures knows { pass.new ≡ record pass.old { seen = result } }
@@ -139,17 +140,6 @@ impl<E, C, J: Recorded<E>, N: Room> Gauge<E, C, J, N> {
             .store::<Turns<J, M>>(&mut kernel.pass, 0, count);
         let seat = self.table.shared.split_seat::<Meets>(&mut kernel.pass);
         pass.badge = seat.into_badge();
-    }
-
-    /// What no seat asked for is told.
-    pub fn publish<M: Change<E, C>>(&self, kernel: &mut KernelPass<E, C, N>, count: u64)
-        requires count { count ≡ calls_in J.seat_of M.desk.journal }
-        requires change { IsChange J.seat_of 0 M.told kernel.old M.desk }
-        ensures desk { kernel.new ≡ M.desk }
-    {
-        self.table
-            .shared
-            .store::<Turns<J, M>>(&mut kernel.pass, 0, count);
     }
 
     /// A seat is right beside the kernel.

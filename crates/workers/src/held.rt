@@ -1,14 +1,14 @@
-//! What lies under the latch: the kernel, what was taken out of its journal, its pass, the number
-//! of its calls, and who sleeps.
+//! What lies under the latch: the kernel, its pass, the number of its calls, and who sleeps.
 
-ghost use Rattle.std.specs.Prelude.{◌≡◌, ◌≤◌, ◌++◌, IfOk, IsTrue, OnErr, false, length};
+ghost use Rattle.std.specs.Prelude.{◌≡◌, ◌≤◌, IfErr, IfOk, IsTrue, drop, false, length};
 ghost use Rattle.interleaving_core.specs.Renewing.{Withdraws};
 ghost use Rattle.interleavings.specs.Words.{answer_told, entry_of};
 ghost use Rattle.workers.specs.Rule.{IsChange, IsRight, moved};
 ghost use Rattle.workers.specs.Views.{calls_in, place_at};
 ghost use Rattle.workers.specs.Entries.{seat_of};
-ghost use Rattle.workers.specs.Held.{known_of, whole};
-ghost use Rattle.workers.specs.Told.{HasBegun, IsTakenBack, IsTold, Rests, TakesBack};
+ghost use Rattle.workers.specs.Held.{known_of};
+ghost use Rattle.workers.specs.Stopping.{HasStopped};
+ghost use Rattle.workers.specs.Told.{HasBegun, IsTakenBack, IsTold, IsTurnedAway, Rests, TakesBack};
 
 use crate::entries::{Own, Passes, Sitter};
 use crate::fault::Fault;
@@ -33,8 +33,6 @@ use step_rules::Kind;
 #[derive(Drop)]
 pub(crate) struct Held<D: PageDevice, K: PseudoKey, N: Room + Base> {
     pub(crate) kernel: Kernel<D, K>,
-    /// What was taken out of its journal, in its order.
-    pub(crate) past: Vec<Entry>,
     pub(crate) pass: Own<N>,
     pub(crate) count: u64,
     /// Who may sleep.
@@ -45,15 +43,14 @@ pub(crate) struct Held<D: PageDevice, K: PseudoKey, N: Room + Base> {
 }
 
 impl<D: PageDevice, K: PseudoKey, N: Room + Base> Model for Held<D, K, N> {
-    ghost use Rattle.std.specs.Prelude.{vec_capacity};
-    ghost use Rattle.workers.specs.Held.{HeldState, IsKept};
+    ghost use Rattle.workers.specs.Held.{IsKept};
+    ghost use Rattle.workers.specs.Words.{KernelState};
 
-    ghost Value = { HeldState K };
+    ghost Value = { KernelState K };
 
-    ghost view = { λ h. record { kernel = h.kernel; past = h.past.items } };
+    ghost view = { λ h. h.kernel };
 
-    ghost invariant = { λ h. IsKept K.of_key N.origin h.past.items (vec_capacity h.past)
-        h.kernel h.pass h.count };
+    ghost invariant = { λ h. IsKept K.of_key N.origin h.kernel h.pass h.count };
 }
 
 impl<D: PageDevice + Drop, K: PseudoKey + Drop, N: Room + Base> Held<D, K, N> {
@@ -69,30 +66,25 @@ impl<D: PageDevice + Drop, K: PseudoKey + Drop, N: Room + Base> Held<D, K, N> {
         requires within { (1 ≤ seat) × (seat ≤ length N.origin.callers) }
         requires rests { Rests pass.old }
         ensures ok { IfOk result (λ _. HasBegun call pass.old pass.new) }
-        ensures err { OnErr result (pass.new ≡ pass.old) }
+        ensures err { IfErr result (λ fault.
+            IsTurnedAway (length N.origin.callers) fault pass.old pass.new) }
     {
         begins_refine::<K>();
         refusals_refine::<K>();
+        let did = Step::Idle;
         match self.kernel.begin(seat, call) {
             Ok(()) => {
-                let did = Step::Idle;
-                tell::<Brand, D, K, N>(
-                    gauge,
-                    &mut self.pass,
-                    pass,
-                    self.count,
-                    &self.past,
-                    &self.kernel,
-                    &did,
-                );
+                tell::<Brand, D, K, N>(gauge, &mut self.pass, pass, self.count, &self.kernel, &did);
                 Ok(())
             }
-            Err((_, BeginFault::Failed)) => Err(Fault::Failed),
-            Err((_, BeginFault::SessionFull)) => Err(Fault::SessionFull),
-            Err((_, BeginFault::NoMemory)) => Err(Fault::NoMemory),
-            Err((_, BeginFault::Busy)) => {
-                gauge.compare(&mut self.pass, pass);
-                unreachable!()
+            Err((_, fault)) => {
+                tell::<Brand, D, K, N>(gauge, &mut self.pass, pass, self.count, &self.kernel, &did);
+                match fault {
+                    BeginFault::Failed => Err(Fault::Failed),
+                    BeginFault::SessionFull => Err(Fault::SessionFull),
+                    BeginFault::NoMemory => Err(Fault::NoMemory),
+                    BeginFault::Busy => unreachable!(),
+                }
             }
         }
     }
@@ -108,17 +100,8 @@ impl<D: PageDevice + Drop, K: PseudoKey + Drop, N: Room + Base> Held<D, K, N> {
         let before = self.kernel.journal().len();
         let did = self.kernel.step(seat);
         self.kernel.is_whole();
-        let _room = self.past.capacity();
         self.count += (self.kernel.journal().len() - before) as u64;
-        tell::<Brand, D, K, N>(
-            gauge,
-            &mut self.pass,
-            pass,
-            self.count,
-            &self.past,
-            &self.kernel,
-            &did,
-        );
+        tell::<Brand, D, K, N>(gauge, &mut self.pass, pass, self.count, &self.kernel, &did);
         did
     }
 
@@ -193,7 +176,7 @@ impl<D: PageDevice + Drop, K: PseudoKey + Drop, N: Room + Base> Held<D, K, N> {
     ) -> Option<Call>
         requires seat { pass.old.seat ≡ seat }
         requires within { (1 ≤ seat) × (seat ≤ length N.origin.callers) }
-        ensures kernel { Withdraws seat result self.old.kernel self.new.kernel }
+        ensures kernel { Withdraws seat result self.old self.new }
         ensures pass { TakesBack result pass.old pass.new }
     {
         withdrawals_refine::<K>();
@@ -201,15 +184,7 @@ impl<D: PageDevice + Drop, K: PseudoKey + Drop, N: Room + Base> Held<D, K, N> {
             return None;
         };
         let did = Step::Idle;
-        tell::<Brand, D, K, N>(
-            gauge,
-            &mut self.pass,
-            pass,
-            self.count,
-            &self.past,
-            &self.kernel,
-            &did,
-        );
+        tell::<Brand, D, K, N>(gauge, &mut self.pass, pass, self.count, &self.kernel, &did);
         Some(call)
     }
 
@@ -223,11 +198,14 @@ impl<D: PageDevice + Drop, K: PseudoKey + Drop, N: Room + Base> Held<D, K, N> {
         self.withdraw(gauge, pass, seat).is_some()
     }
 
-    /// The system is stopped.
-    pub(crate) fn stop(&mut self, gauge: &Passes<N>) {
+    /// The system is stopped, and who has this pass, which is of no seat, is told.
+    pub(crate) fn stop(&mut self, gauge: &Passes<N>, pass: &mut Sitter<N>)
+        requires { pass.old.seat ≡ 0 }
+        ensures { HasStopped pass.new }
+    {
         stops_refine::<K>();
         self.kernel.stop();
-        tell_all::<Brand, D, K, N>(gauge, &mut self.pass, self.count, &self.past, &self.kernel);
+        tell_stop::<Brand, D, K, N>(gauge, &mut self.pass, pass, self.count, &self.kernel);
     }
 
     /// Among whom a seat sleeps that was blocked by another: at a name, where both hold names alone.
@@ -244,23 +222,9 @@ impl<D: PageDevice + Drop, K: PseudoKey + Drop, N: Room + Base> Held<D, K, N> {
         self.asleep = self.asleep.and(sleepers);
     }
 
-    /// Whether a moment between calls is wanted: then no call is to begin.
-    pub(crate) fn is_to_rest(&self) -> bool {
-        self.asleep.is_resting()
-    }
-
     /// Those among these who sleep are to be woken once the latch is let go.
     pub(crate) fn wake(&mut self, sleepers: Sleepers) {
         self.due = self.due.and(self.asleep.take(sleepers));
-    }
-
-    /// The moment between calls was there: who waited for it, or for its end, is to be woken; and
-    /// so are all others where a step has failed.
-    pub(crate) fn wake_rested(&mut self) {
-        self.wake(Sleepers::at_rest());
-        if self.kernel.has_failed() {
-            self.wake(Sleepers::in_calls());
-        }
     }
 
     /// Who is to be woken now that the latch is let go.
@@ -280,36 +244,36 @@ fn tell<M: Change<Entry, Call>, D: PageDevice + Drop, K: PseudoKey + Drop, N: Ro
     own: &mut Own<N>,
     pass: &mut Sitter<N>,
     count: u64,
-    past: &Vec<Entry>,
     kernel: &Kernel<D, K>,
     did: &Step,
 )
-    requires desk { M.desk ≡ known_of (whole past.now.items kernel.now) }
+    requires desk { M.desk ≡ known_of kernel.now }
     requires told { M.told ≡ entry_of pass.old.seat
         (place_at own.old.places pass.old.seat).call (answer_told did.now) }
-    requires count { count ≡ calls_in seat_of (past.now.items ++ kernel.now.journal) }
-    requires change { IsChange seat_of pass.old.seat M.told own.old
-        (known_of (whole past.now.items kernel.now)) }
+    requires count { count ≡ calls_in seat_of kernel.now.journal }
+    requires change { IsChange seat_of pass.old.seat M.told own.old (known_of kernel.now) }
     ensures right { IsRight seat_of own.old pass.old }
-    ensures own { own.new ≡ known_of (whole past.now.items kernel.now) }
-    ensures seat { pass.new ≡ moved seat_of (known_of (whole past.now.items kernel.now)) M.told
-        pass.old }
+    ensures own { own.new ≡ known_of kernel.now }
+    ensures seat { pass.new ≡ moved seat_of (known_of kernel.now) M.told pass.old }
 {
     gauge.turn::<M>(own, pass, count);
 }
 
-/// What the kernel has done for no seat is told.
-pub(crate) fn tell_all<
-    M: Change<Entry, Call>,
-    D: PageDevice + Drop,
-    K: PseudoKey + Drop,
-    N: Room + Base,
->(gauge: &Passes<N>, own: &mut Own<N>, count: u64, past: &Vec<Entry>, kernel: &Kernel<D, K>)
-    requires desk { M.desk ≡ known_of (whole past.now.items kernel.now) }
-    requires count { count ≡ calls_in seat_of (past.now.items ++ kernel.now.journal) }
-    requires change { IsChange seat_of 0 M.told own.old
-        (known_of (whole past.now.items kernel.now)) }
-    ensures own { own.new ≡ known_of (whole past.now.items kernel.now) }
+/// That the kernel was stopped is told to the pass of who did it.
+fn tell_stop<M: Change<Entry, Call>, D: PageDevice + Drop, K: PseudoKey + Drop, N: Room + Base>(
+    gauge: &Passes<N>,
+    own: &mut Own<N>,
+    pass: &mut Sitter<N>,
+    count: u64,
+    kernel: &Kernel<D, K>,
+)
+    requires desk { M.desk ≡ known_of kernel.now }
+    requires told { M.told ≡ drop (length own.old.journal) kernel.now.journal }
+    requires count { count ≡ calls_in seat_of kernel.now.journal }
+    requires change { IsChange seat_of pass.old.seat M.told own.old (known_of kernel.now) }
+    ensures right { IsRight seat_of own.old pass.old }
+    ensures own { own.new ≡ known_of kernel.now }
+    ensures seat { pass.new ≡ moved seat_of (known_of kernel.now) M.told pass.old }
 {
-    gauge.publish::<M>(own, count);
+    gauge.turn::<M>(own, pass, count);
 }

@@ -3,7 +3,6 @@
 
 #![tactic(auto)]
 
-mod between;
 mod closing;
 mod draft;
 mod entries;
@@ -19,14 +18,16 @@ mod rule;
 mod seat;
 mod service;
 mod sleepers;
+mod stopper;
 mod unanswered;
+mod unclosed;
 mod view;
 mod waits;
 
 pub use closing::{Ended, Ending};
 pub use entries::Entries;
 pub use fault::Fault;
-pub use gate::{Gate, Open};
+pub use gate::{Gate, MOST_AT_ONCE, Open};
 pub use gauge::{Gauge, Opened};
 pub use interleavings;
 pub use naming::Base;
@@ -35,5 +36,7 @@ pub use pass::{GaugePass, KernelPass, Room, SeatPass};
 pub use rule::{Change, Recorded};
 pub use seat::Seat;
 pub use service::Service;
+pub use stopper::Stopper;
 pub use unanswered::Unanswered;
+pub use unclosed::Unclosed;
 pub use view::{Desk, Place, Sitting, View};

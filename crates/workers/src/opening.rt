@@ -1,12 +1,11 @@
 //! How a service begins.
 
-ghost use Rattle.std.specs.Prelude.{◌≡◌, ◌↔◌, ◌+◌, ◌*◌, ◌≤◌, ◌<◌, IfErr, IfOk, IsErrAnd, IsTrue, length};
+ghost use Rattle.std.specs.Prelude.{◌≡◌, ◌↔◌, ◌+◌, ◌*◌, ◌≤◌, ◌<◌, IfErr, IfOk, IsErrAnd, IsTrue, false, length, suc};
 ghost use Rattle.interleavings.specs.interleaving_core.Beginning.{HasSystem, MayRefuse};
 ghost use Rattle.interleavings.specs.interleaving_core.Fault.{device_failed};
 ghost use Rattle.page_device.specs.Device.{HasRisen};
 ghost use Rattle.page_locks.specs.declared.lock_table.TheConstants.{MAX_SEATS};
-ghost use Rattle.workers.specs.Views.{first_desk};
-ghost use Rattle.workers.specs.Opening.{HasFrames, IsOpenedOn, dealt_desk, newcomers, origin_of};
+ghost use Rattle.workers.specs.Opening.{IsOpenedOn, dealt_desk, newcomers, origin_of};
 
 use crate::entries::{Own, Passes, Unnamed};
 use crate::gate::Gate;
@@ -16,6 +15,7 @@ use crate::pass::{GaugePass, Room};
 use crate::seat::Seat;
 use crate::service::Service;
 use crate::sleepers::{Signals, Sleepers};
+use crate::stopper::Stopper;
 use bucket_page::PseudoKey;
 use interleavings::an_opened_kernel_refines;
 use interleavings::interleaving_core::{Kernel, OpenFault};
@@ -52,13 +52,15 @@ impl<D: PageDevice, K: PseudoKey> Model for Prepared<D, K> {
     ghost invariant = { λ p. IsPrepared K.of_key p.kernel p.table.seats p.seats };
 }
 
-/// A service, its seats, and a pass of no seat for each.
+/// A service, its seats, who may stop it, and a pass of no seat for each seat.
 #[derive(Drop)]
 pub struct Started<D: PageDevice, K: PseudoKey, G: Gate, N: Room + Base> {
     /// The service.
     pub service: Service<D, K, G, N>,
     /// Its seats, from 1 on.
     pub seats: Vec<Seat<N>>,
+    /// Who may stop it.
+    pub stopper: Stopper<N>,
     /// Passes of no seat.
     pub passes: Vec<GaugePass<Entry, Call, N>>,
 }
@@ -116,17 +118,17 @@ impl<D: PageDevice + Drop, K: PseudoKey + Drop> Prepared<D, K> {
         self.kernel.abandon().device
     }
 
-    /// The service by this name, with one seat a caller. Its device may be spared where there is a
-    /// frame for each page.
+    /// The service by this name, with one seat a caller. Its device is spared where there is a frame
+    /// for each page.
     ///
     /// # Errors
     ///
     /// The device, with its pages as they were, where there is no memory for the seats.
     pub fn start<G: Gate + Drop, N: Room + Base>(self, gate: G) -> Result<Started<D, K, G, N>, D>
         requires table { self.table ≡ N.table }
-        requires origin { origin_of K.of_key N.origin.spares self ≡ N.origin }
-        requires spares { IsTrue N.origin.spares → HasFrames self }
+        requires origin { origin_of K.of_key self ≡ N.origin }
         ensures seats { IfOk result (λ s. s.seats.items ≡ newcomers (length self.callers)) }
+        ensures stopper { IfOk result (λ s. s.stopper.used ≡ false) }
         ensures err { IfErr result (λ device. (D.content device ≡ self.content)
             × (D.is_honest device ≡ self.honest)) }
     {
@@ -137,6 +139,9 @@ impl<D: PageDevice + Drop, K: PseudoKey + Drop> Prepared<D, K> {
             alloc,
         } = self;
         let (gauge, mut pass) = table.named::<N>();
+        let stopper = Stopper {
+            pass: gauge.deal(&mut pass),
+        };
         let Ok(dealt) = deal(alloc, &gauge, &mut pass, seats) else {
             return Err(kernel.abandon().device);
         };
@@ -145,7 +150,6 @@ impl<D: PageDevice + Drop, K: PseudoKey + Drop> Prepared<D, K> {
         };
         let held = Held {
             kernel,
-            past: Vec::new(alloc),
             pass,
             count: 0,
             asleep: Sleepers::nobody(),
@@ -161,6 +165,7 @@ impl<D: PageDevice + Drop, K: PseudoKey + Drop> Prepared<D, K> {
                 seats,
             },
             seats: dealt,
+            stopper,
             passes,
         })
     }
@@ -173,9 +178,9 @@ fn deal<N: Room + Base>(
     own: &mut Own<N>,
     seats: u8,
 ) -> Result<Vec<Seat<N>>, NoMemory>
-    requires first { own.old ≡ first_desk seats }
+    requires first { own.old ≡ dealt_desk seats 1 }
     requires seats { seats ≡ length N.origin.callers }
-    ensures own { IfOk result (λ _. own.new ≡ dealt_desk seats seats) }
+    ensures own { IfOk result (λ _. own.new ≡ dealt_desk seats (suc seats)) }
     ensures seats { IfOk result (λ made. made.items ≡ newcomers seats) }
 {
     let mut made = Vec::with_capacity(alloc, seats as usize)?;

@@ -11,7 +11,7 @@ use std::marker::{Brand, PhantomData};
 pub trait Recorded<E> {
     ghost use Rattle.std.specs.Prelude.{ℕ, Option};
 
-    /// The seat whose call was decided. An entry of none is no call.
+    /// The seat whose call was decided. An entry of none is a stop.
     ghost seat_of: { E → Option ℕ };
 }
 
@@ -48,7 +48,7 @@ impl<E, C, J: Recorded<E>> TableRule<bool, View<E, C>, u64> for Kept<J> {
     ghost first = { first_view };
 }
 
-/// A step of the kernel is told, by the kernel's pass joined with a seat's, or alone.
+/// A step of the kernel is told, by the kernel's pass joined with a seat's.
 pub(crate) struct Turns<J, M>(PhantomData<(J, M)>);
 
 impl<E, C, J: Recorded<E>, M: Change<E, C>> Play<bool, View<E, C>> for Turns<J, M> {
@@ -92,7 +92,7 @@ impl<E, C, J: Recorded<E>> Play<bool, View<E, C>> for Compares<J> {
         IsCompared J.seat_of before.0 after.0 × (after.1 ≡ before.1) };
 }
 
-/// A pass for the next seat.
+/// A pass for who stops the kernel, or for the next seat.
 pub(crate) struct Deals;
 
 impl<E, C> Split<View<E, C>> for Deals {

@@ -1,8 +1,8 @@
 //! A service: a kernel that threads share.
 
-ghost use Rattle.std.specs.Prelude.{◌≡◌, ◌≤◌, ◌∷◌, ◌++◌, [], IfErr, IfOk, IsTrue, OnErr, false, length};
+ghost use Rattle.std.specs.Prelude.{◌≡◌, ◌≤◌, ◌∷◌, ◌++◌, [], IfErr, IfOk, IsErrOf, OnErr, length, true};
 ghost use Rattle.queue_model.specs.declared.entry.Entry.TheVariants.{Decided};
-ghost use Rattle.workers.specs.Told.{GoesOn, HasBegun, IsTakenBack, IsTold, Rests};
+ghost use Rattle.workers.specs.Told.{GoesOn, HasBegun, IsSameSeat, IsTold, IsTurnedAway, Rests, SeesFull};
 ghost use Rattle.workers.specs.Unanswered.{MayReturn};
 
 use crate::draft::Draft;
@@ -15,6 +15,7 @@ use crate::naming::Base;
 use crate::pass::{GaugePass, Room};
 use crate::seat::Seat;
 use crate::sleepers::{Signals, Sleepers, queue_on};
+use crate::stopper::Stopper;
 use crate::unanswered::Unanswered;
 use crate::waits::Patience;
 use bucket_page::PseudoKey;
@@ -25,8 +26,8 @@ use std::marker::Model;
 use std::sync::{Mutex, MutexGuard, Wait};
 use std::time::{Clock, Duration};
 
-/// A kernel that threads share. One latch lies over it: each hold of it is some steps of a call, its
-/// beginning before them, or the stop, or what is done between calls.
+/// A kernel that threads share. One latch lies over it: each hold of it is the beginning of a call,
+/// or a step of one, or as many as its gate asks for, or a stop.
 #[derive(Drop)]
 pub struct Service<D: PageDevice, K: PseudoKey, G: Gate, N: Room + Base> {
     pub(crate) gate: G,
@@ -59,27 +60,23 @@ impl<D: PageDevice + Drop, K: PseudoKey + Drop, G: Gate, N: Room + Base> Service
         ensures ok { IfOk result (λ answer.
             seat.new.list ≡ seat.old.list ++ Decided seat.old.seat call answer ∷ []) }
         ensures err { OnErr result (seat.new.list ≡ seat.old.list) }
-        ensures same { seat.new.seat ≡ seat.old.seat }
+        ensures failed { IsErrOf result Fault.Failed → seat.new.failed ≡ true }
+        ensures full { IsErrOf result Fault.SessionFull →
+            SeesFull (length N.origin.callers) seat.new }
+        ensures same { IsSameSeat seat.old seat.new }
     {
         let Ok(draft) = Draft::of(&mut seat.list, &call) else {
             return Err(Fault::NoMemory);
         };
         let queue = queue_on(&call);
-        let mut held = self.hold_to_begin(rt);
-        if let Err(fault) = held.begin(&self.gauge, &mut seat.pass, seat.number, call) {
+        if let Err(fault) = self.begin(rt, &mut seat.pass, seat.number, call) {
             return Err(fault);
         }
         let mut patience = Patience::new();
         for _ in rt.forever() {
-            let (last, step) = self.advance(rt, held, &mut seat.pass, seat.number, &mut patience);
+            let (last, step) = self.advance(rt, &mut seat.pass, seat.number, &mut patience);
             match step {
-                Step::Waiting => held = self.await_call(
-                    rt,
-                    last,
-                    queue,
-                    &mut patience,
-                    Duration::MAX,
-                ),
+                Step::Waiting => self.await_call(rt, last, queue, &mut patience, Duration::MAX),
                 Step::Answered(answer) => {
                     self.end(last, queue);
                     let number = seat.number;
@@ -118,41 +115,43 @@ impl<D: PageDevice + Drop, K: PseudoKey + Drop, G: Gate, N: Room + Base> Service
             seat.new.list ≡ seat.old.list ++ Decided seat.old.seat call answer ∷ []) }
         ensures back { IfErr result (MayReturn call) }
         ensures err { OnErr result (seat.new.list ≡ seat.old.list) }
-        ensures same { seat.new.seat ≡ seat.old.seat }
+        ensures failed { IsErrOf result (Unanswered.Fault Fault.Failed) →
+            seat.new.failed ≡ true }
+        ensures full { IsErrOf result (Unanswered.Fault Fault.SessionFull) →
+            SeesFull (length N.origin.callers) seat.new }
+        ensures same { IsSameSeat seat.old seat.new }
     {
         let limit = Limit::new(rt, limit);
         let Ok(draft) = Draft::of(&mut seat.list, &call) else {
             return Err(Unanswered::Fault(Fault::NoMemory));
         };
         let queue = queue_on(&call);
-        let mut held = self.hold_to_begin(rt);
-        if let Err(fault) = held.begin(&self.gauge, &mut seat.pass, seat.number, call) {
+        if let Err(fault) = self.begin(rt, &mut seat.pass, seat.number, call) {
             return Err(Unanswered::Fault(fault));
         }
         let mut patience = Patience::new();
         for _ in rt.forever() {
-            let (last, step) = self.advance(rt, held, &mut seat.pass, seat.number, &mut patience);
-            held = last;
+            let (last, step) = self.advance(rt, &mut seat.pass, seat.number, &mut patience);
             match step {
                 Step::Waiting => match limit.left(rt) {
-                    Some(left) => {
-                        held = self.await_call(rt, held, queue, &mut patience, left);
-                    }
+                    Some(left) => self.await_call(rt, last, queue, &mut patience, left),
                     None => {
-                        if held.take_back(&self.gauge, &mut seat.pass, seat.number) {
-                            self.let_go(held);
+                        let mut held = last;
+                        let is_back = held.take_back(&self.gauge, &mut seat.pass, seat.number);
+                        self.let_go(held);
+                        if is_back {
                             return Err(Unanswered::TimedOut(draft.into_call()));
                         }
                     }
                 },
                 Step::Answered(answer) => {
-                    self.end(held, queue);
+                    self.end(last, queue);
                     let number = seat.number;
                     seat.list.push_reserved(draft.entry(rt, number, &answer));
                     return Ok(answer);
                 }
                 Step::Fault(fault) => {
-                    self.rouse_all(held);
+                    self.rouse_all(last);
                     return Err(Unanswered::Fault(Fault::of_step(fault)));
                 }
                 Step::Idle => unreachable!(),
@@ -164,10 +163,12 @@ impl<D: PageDevice + Drop, K: PseudoKey + Drop, G: Gate, N: Room + Base> Service
     }
 
     /// From here on a call that would wait is refused `EINTR`, and so are those that wait.
-    pub fn stop<R: Wait>(&self, rt: &R) {
+    pub fn stop<R: Wait>(&self, rt: &R, stopper: &mut Stopper<N>)
+        ensures { stopper.new.used ≡ true }
+    {
         let mut held = self.hold(rt);
-        held.stop(&self.gauge);
-        held.wake(Sleepers::in_calls());
+        held.stop(&self.gauge, &mut stopper.pass);
+        held.wake(Sleepers::all());
         self.let_go(held);
     }
 
@@ -188,12 +189,32 @@ impl<D: PageDevice + Drop, K: PseudoKey + Drop, G: Gate, N: Room + Base> Service
         self.gauge.look_from_seat(&mut seat.pass)
     }
 
+    /// A call begins at the seat of this pass, in a hold of its own.
+    fn begin<R: Wait>(
+        &self,
+        rt: &R,
+        pass: &mut Sitter<N>,
+        number: u8,
+        call: Call,
+    ) -> Result<(), Fault>
+        requires seat { pass.old.seat ≡ number }
+        requires within { (1 ≤ number) × (number ≤ length N.origin.callers) }
+        requires rests { Rests pass.old }
+        ensures ok { IfOk result (λ _. HasBegun call pass.old pass.new) }
+        ensures err { IfErr result (λ fault.
+            IsTurnedAway (length N.origin.callers) fault pass.old pass.new) }
+    {
+        let mut held = self.hold(rt);
+        let begun = held.begin(&self.gauge, pass, number, call);
+        self.let_go(held);
+        begun
+    }
+
     /// The call at the seat of this pass goes on until it is answered, waits or fails. The latch is
     /// held as it was in its last step.
     fn advance<'a, R: Wait>(
         &'a self,
         rt: &R,
-        held: MutexGuard<'a, Held<D, K, N>>,
         pass: &mut Sitter<N>,
         number: u8,
         patience: &mut Patience,
@@ -203,38 +224,22 @@ impl<D: PageDevice + Drop, K: PseudoKey + Drop, G: Gate, N: Room + Base> Service
         ensures told { IsTold result.1 pass.old pass.new }
         ensures rests { GoesOn result.1 → ⊥ }
     {
-        let mut held = held;
         for _ in rt.forever() {
+            let mut held = self.hold(rt);
             match held.steps(&self.gauge, pass, number, self.gate.steps_at_once()) {
                 Step::Moved(kind) => {
                     self.let_go(held);
                     *patience = Patience::new();
                     self.gate.between(number, kind);
-                    held = self.hold(rt);
                 }
-                Step::Blocked(by) => held = self.await_lock(rt, held, number, by, patience),
-                Step::Waiting => return self.last(held, Step::Waiting),
-                Step::Answered(answer) => return self.last(held, Step::Answered(answer)),
-                Step::Fault(fault) => return self.last(held, Step::Fault(fault)),
-                Step::Idle => return self.last(held, Step::Idle),
+                Step::Blocked(by) => self.await_lock(rt, held, number, by, patience),
+                Step::Waiting => return (held, Step::Waiting),
+                Step::Answered(answer) => return (held, Step::Answered(answer)),
+                Step::Fault(fault) => return (held, Step::Fault(fault)),
+                Step::Idle => return (held, Step::Idle),
             }
         }
         unreachable!()
-    }
-
-    /// A step by which a call waits or is over, with the latch as it was held in it: who wants a
-    /// moment between calls looks for it then.
-    fn last<'a>(
-        &self,
-        held: MutexGuard<'a, Held<D, K, N>>,
-        step: Step,
-    ) -> (MutexGuard<'a, Held<D, K, N>>, Step)
-        ensures { result.1 ≡ step }
-    {
-        if held.is_to_rest() {
-            self.signals.ended.notify_all();
-        }
-        (held, step)
     }
 
     /// A call on this queue is answered: lets the latch go, and wakes those whose calls wait on it.

@@ -17,10 +17,6 @@ pub(crate) struct Signals {
     freed: [Condvar; PLACES as usize],
     /// A call on a queue of this place is over, or a step has failed.
     decided: [Condvar; PLACES as usize],
-    /// A moment between calls is wanted, and a call has ended or waits; or that moment was there.
-    pub(crate) ended: Condvar,
-    /// A moment between calls was there.
-    pub(crate) rested: Condvar,
 }
 
 impl Signals {
@@ -28,8 +24,6 @@ impl Signals {
         Signals {
             freed: array::from_fn(|_| Condvar::new()),
             decided: array::from_fn(|_| Condvar::new()),
-            ended: Condvar::new(),
-            rested: Condvar::new(),
         }
     }
 
@@ -56,10 +50,6 @@ impl Signals {
                 self.decided[place as usize].notify_all();
             }
         }
-        if sleepers.resting {
-            self.ended.notify_all();
-            self.rested.notify_all();
-        }
     }
 }
 
@@ -75,9 +65,6 @@ pub(crate) struct Sleepers {
     /// A bit for each place of queues on which a call waits. Its seat sleeps until a call on its
     /// queue is over.
     waiting: u64,
-    /// One that wants a moment between calls sleeps until a call has ended or waits; and until that
-    /// moment was there who would begin a call sleeps too.
-    resting: bool,
 }
 
 impl Sleepers {
@@ -86,17 +73,11 @@ impl Sleepers {
             named: 0,
             paged: 0,
             waiting: 0,
-            resting: false,
         }
     }
 
     fn is_nobody(&self) -> bool {
-        self.named == 0 && self.paged == 0 && self.waiting == 0 && !self.resting
-    }
-
-    /// Whether a moment between calls is wanted.
-    pub(crate) fn is_resting(&self) -> bool {
-        self.resting
+        self.named == 0 && self.paged == 0 && self.waiting == 0
     }
 
     /// Those that were blocked by names of this seat.
@@ -123,21 +104,12 @@ impl Sleepers {
         }
     }
 
-    /// Those that want a moment between calls, or wait until it was there.
-    pub(crate) fn at_rest() -> Sleepers {
-        Sleepers {
-            resting: true,
-            ..Sleepers::nobody()
-        }
-    }
-
-    /// All that have a call.
-    pub(crate) fn in_calls() -> Sleepers {
+    /// All of them.
+    pub(crate) fn all() -> Sleepers {
         Sleepers {
             named: u64::MAX,
             paged: u64::MAX,
             waiting: u64::MAX,
-            resting: false,
         }
     }
 
@@ -147,7 +119,6 @@ impl Sleepers {
             named: self.named | others.named,
             paged: self.paged | others.paged,
             waiting: self.waiting | others.waiting,
-            resting: self.resting || others.resting,
         }
     }
 
@@ -157,12 +128,10 @@ impl Sleepers {
             named: self.named & these.named,
             paged: self.paged & these.paged,
             waiting: self.waiting & these.waiting,
-            resting: self.resting && these.resting,
         };
         self.named &= !these.named;
         self.paged &= !these.paged;
         self.waiting &= !these.waiting;
-        self.resting = self.resting && !these.resting;
         taken
     }
 }

@@ -1,5 +1,4 @@
-//! How the threads of a service wait: for the latch, for a lock, for a call on a queue, and for a
-//! moment between calls.
+//! How the threads of a service wait: for the latch, for a lock, and for a call on a queue.
 
 use crate::gate::Gate;
 use crate::held::Held;
@@ -63,19 +62,6 @@ impl<D: PageDevice + Drop, K: PseudoKey + Drop, G: Gate, N: Room + Base> Service
         self.latch.lock(rt)
     }
 
-    /// The latch, once it is free and no moment between calls is wanted.
-    pub(crate) fn hold_to_begin<R: Wait>(&self, rt: &R) -> MutexGuard<'_, Held<D, K, N>> {
-        let mut held = self.hold(rt);
-        for _ in rt.forever() {
-            if !held.is_to_rest() {
-                return held;
-            }
-            let rested = &self.signals.rested;
-            held = self.sleep(rt, held, rested, Sleepers::nobody(), Duration::MAX);
-        }
-        unreachable!()
-    }
-
     /// Lets the latch go, and wakes those who are to be woken.
     pub(crate) fn let_go(&self, held: MutexGuard<'_, Held<D, K, N>>) {
         let mut held = held;
@@ -86,84 +72,67 @@ impl<D: PageDevice + Drop, K: PseudoKey + Drop, G: Gate, N: Room + Base> Service
 
     /// A seat that was blocked by another lets others go on for a while, and then sleeps until that
     /// one gives a lock back.
-    pub(crate) fn await_lock<'a, R: Wait>(
-        &'a self,
+    pub(crate) fn await_lock<R: Wait>(
+        &self,
         rt: &R,
-        held: MutexGuard<'a, Held<D, K, N>>,
+        held: MutexGuard<'_, Held<D, K, N>>,
         seat: u8,
         by: u8,
         patience: &mut Patience,
-    ) -> MutexGuard<'a, Held<D, K, N>> {
+    ) {
         if patience.is_over() {
             let among = held.blocked_by(seat, by);
-            return self.sleep(rt, held, self.signals.freed(by), among, Duration::MAX);
+            self.sleep(rt, held, self.signals.freed(by), among, Duration::MAX);
+        } else {
+            self.pause(held, patience);
         }
-        self.pause(rt, held, patience)
     }
 
     /// A seat whose call on a queue waits lets others go on for a while, and then sleeps until a
     /// call on this queue is over, but for so long at most.
-    pub(crate) fn await_call<'a, R: Wait>(
-        &'a self,
+    pub(crate) fn await_call<R: Wait>(
+        &self,
         rt: &R,
-        held: MutexGuard<'a, Held<D, K, N>>,
+        held: MutexGuard<'_, Held<D, K, N>>,
         queue: Option<u32>,
         patience: &mut Patience,
         most: Duration,
-    ) -> MutexGuard<'a, Held<D, K, N>> {
+    ) {
         if patience.is_over() {
             let among = Sleepers::waiting_on(queue);
-            return self.sleep(rt, held, self.signals.decided(queue), among, most);
+            self.sleep(rt, held, self.signals.decided(queue), among, most);
+        } else {
+            self.pause(held, patience);
         }
-        self.pause(rt, held, patience)
     }
 
-    /// Who wants a moment between calls sleeps until a call has ended or waits; from here on none
-    /// begins.
-    pub(crate) fn await_rest<'a, R: Wait>(
-        &'a self,
+    /// Lets the latch go, and sleeps until this signal is given, but for so long at most. It is
+    /// noted among whom. A signal that is given once the latch is free is not missed.
+    fn sleep<R: Wait>(
+        &self,
         rt: &R,
-        held: MutexGuard<'a, Held<D, K, N>>,
-    ) -> MutexGuard<'a, Held<D, K, N>> {
-        let ended = &self.signals.ended;
-        self.sleep(rt, held, ended, Sleepers::at_rest(), Duration::MAX)
-    }
-
-    /// Sleeps until this signal is given, but for so long at most, and takes the latch again. It is
-    /// noted among whom. A signal that is given once the latch is free is not missed; and the latch
-    /// is not taken as by a wait on the signal, which soon sleeps again where it is not free.
-    fn sleep<'a, R: Wait>(
-        &'a self,
-        rt: &R,
-        held: MutexGuard<'a, Held<D, K, N>>,
+        held: MutexGuard<'_, Held<D, K, N>>,
         signal: &Condvar,
         among: Sleepers,
         most: Duration,
-    ) -> MutexGuard<'a, Held<D, K, N>> {
+    ) {
         let mut held = held;
         held.note(among);
         let seen = signal.notifications();
         self.let_go(held);
         signal.sleep(rt, seen, most);
-        self.hold(rt)
     }
 
-    /// Lets the latch go, and then others go on for a while, and takes it again.
-    fn pause<'a, R: Wait>(
-        &'a self,
-        rt: &R,
-        held: MutexGuard<'a, Held<D, K, N>>,
-        patience: &mut Patience,
-    ) -> MutexGuard<'a, Held<D, K, N>> {
+    /// Lets the latch go, and then others go on for a while.
+    fn pause(&self, held: MutexGuard<'_, Held<D, K, N>>, patience: &mut Patience) {
         self.let_go(held);
         patience.pause();
-        self.hold(rt)
     }
 
-    /// A step has failed, or a call has no room: lets the latch go, and wakes all that have a call.
+    /// A step has failed, or a call has no room: lets the latch go, and wakes all that sleep.
     pub(crate) fn rouse_all(&self, held: MutexGuard<'_, Held<D, K, N>>) {
         let mut held = held;
-        held.wake(Sleepers::in_calls());
+        held.wake(Sleepers::all());
         self.let_go(held);
     }
 }

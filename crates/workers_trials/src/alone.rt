@@ -1,7 +1,6 @@
 //! A kernel whose seat 1 is stepped alone.
 
 use crate::files::{kernel, new_file};
-use crate::gated::{before, long};
 use bucket_page::NumberKey;
 use page_device::MemDevice;
 use queue_model::{Answer, Call};
@@ -10,19 +9,19 @@ use std::test::Fail;
 use step_rules::Kind;
 use workers::interleavings::interleaving_core::{Kernel, Step};
 
-/// More steps than a Send makes.
+/// More steps than a call makes.
 const MOST_STEPS: u32 = 10_000;
 
 /// A kernel of trials.
 type Alone = Kernel<MemDevice, NumberKey>;
 
-/// The kinds by which the Send that the gate holds moves on a kernel in the same state.
-pub fn moved_kinds(alloc: Global) -> Result<Vec<Kind>, Fail> {
+/// The kinds by which a call of seat 1 moves on the kernel of a new file once it has made others.
+pub fn moved_kinds(alloc: Global, before: Vec<Call>, call: Call) -> Result<Vec<Kind>, Fail> {
     let mut kernel = kernel(alloc, new_file(alloc, 352)?, 3)?;
-    for call in before(alloc)? {
+    for call in before {
         answer(&mut kernel, call)?;
     }
-    begin(&mut kernel, long(alloc)?)?;
+    begin(&mut kernel, call)?;
     let mut kinds = Vec::new(alloc);
     for _ in 0..MOST_STEPS {
         match step(&mut kernel)? {
@@ -31,16 +30,6 @@ pub fn moved_kinds(alloc: Global) -> Result<Vec<Kind>, Fail> {
         }
     }
     Err(Fail::from("it ends"))
-}
-
-/// What calls are answered on a device, which is opened once more for one seat.
-pub fn answers_on(alloc: Global, device: MemDevice, calls: Vec<Call>) -> Result<Vec<Answer>, Fail> {
-    let mut kernel = kernel(alloc, device, 1)?;
-    let mut answers = Vec::new(alloc);
-    for call in calls {
-        answers.push(answer(&mut kernel, call)?)?;
-    }
-    Ok(answers)
 }
 
 /// A call begins at seat 1.

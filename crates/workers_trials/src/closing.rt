@@ -8,14 +8,14 @@ use queue_model::{Call, Entry};
 use std::alloc::Global;
 use std::test::Fail;
 use workers::interleavings::interleaving_core::CloseFault;
-use workers::{Base, Ended, Ending, Fault, Gate, GaugePass, Room, Seat};
+use workers::{Base, Ended, Ending, Fault, Gate, GaugePass, Room, Seat, Stopper};
 
 /// How a service ends.
 #[derive(Clone, Copy, Debug, PartialEq, Eq)]
 pub enum End {
     /// It is closed, and its file is written.
     Closed,
-    /// It is let go, and its file is as it was saved last.
+    /// It is let go, and its file is as it was.
     LetGo,
 }
 
@@ -60,23 +60,28 @@ pub fn close<D: PageDevice + Drop, G: Gate + Drop, N: Room + Base>(
 ) -> Result<Left<D>, Fail> {
     let mut faults = Vec::new(alloc);
     let mut seats = Vec::new(alloc);
+    let mut stopper = None;
     let mut taken_back: u32 = 0;
     for player in players {
         faults.push(player.fault)?;
         seats.push(player.seat)?;
+        stopper = stopper.or(player.stopper);
         taken_back = taken_back.saturating_add(player.taken_back);
     }
-    let (service, seats) = if faults.iter().all(Option::is_none) {
-        come_back(service, seats)?
+    let Some(stopper) = stopper else {
+        return Err(Fail::from("one seat may stop the system"));
+    };
+    let (service, seats, stopper) = if faults.iter().all(Option::is_none) {
+        come_back(service, seats, stopper)?
     } else {
-        (service, seats)
+        (service, seats, stopper)
     };
     let (ended, fault) = match end {
-        End::LetGo => (service.abandon(seats), None),
-        End::Closed => match service.close(seats) {
+        End::LetGo => (service.abandon(seats, stopper), None),
+        End::Closed => match service.close(seats, stopper) {
             Ending::Closed(ended) => (ended, None),
             Ending::Fault(ended, fault) => (ended, Some(fault)),
-            Ending::Missing(_, _) => return Err(Fail::from("no seat is missing")),
+            Ending::Missing(_, _, _) => return Err(Fail::from("no seat is missing")),
         },
     };
     compare(alloc, &ended, fault, shown)?;
@@ -100,16 +105,17 @@ pub fn close<D: PageDevice + Drop, G: Gate + Drop, N: Room + Base>(
 fn come_back<D: PageDevice + Drop, G: Gate + Drop, N: Room + Base>(
     service: Shared<D, G, N>,
     seats: Vec<Seat<N>>,
-) -> Result<(Shared<D, G, N>, Vec<Seat<N>>), Fail> {
+    stopper: Stopper<N>,
+) -> Result<(Shared<D, G, N>, Vec<Seat<N>>, Stopper<N>), Fail> {
     let mut seats = seats;
     let Some(last) = seats.pop() else {
         return Err(Fail::from("a service has seats"));
     };
-    match service.close(seats) {
-        Ending::Missing(service, back) => {
+    match service.close(seats, stopper) {
+        Ending::Missing(unclosed, back, stopper) => {
             let mut seats = back;
             seats.push(last)?;
-            Ok((service, seats))
+            Ok((unclosed.reopen(), seats, stopper))
         }
         _ => Err(Fail::from("it is closed though a seat is missing")),
     }

@@ -7,11 +7,15 @@ use crate::files::{is_file_of, prepared};
 use crate::playing::{Deed, Plan, play};
 use queue_model::Call;
 use std::alloc::Global;
+use std::sync::Wait;
 use std::test::Fail;
-use workers::Open;
+use std::thread::Threads;
+use std::time::Clock;
+use step_rules::Kind;
+use workers::{Gate, MOST_AT_ONCE, Open};
 
 /// How often each of eight seats calls.
-const CALLS: u32 = 2000;
+const CALLS: u32 = 500;
 
 /// How often a seat sends and receives by turns.
 const TURNS: u32 = 20;
@@ -34,16 +38,38 @@ fn eight_seats_send_and_receive_on_four_queues(rt: HostRuntime) -> Result<(), Fa
         end: End::Closed,
     };
     let left = play(&rt, alloc, prepared(alloc, 352, 8)?, Open, &plan)?;
-    assert_eq!(rt; left.shown, 16_008);
+    assert_eq!(rt; left.shown, 4_008);
     assert!(rt; left.fault.is_none());
     assert!(rt; is_file_of(alloc, left.device, left.journal.as_slice()));
     Ok(())
 }
 
-/// Each seat sends a message to queue 1 and receives one, by turns.
+/// A gate that asks for as many steps a hold as any.
+#[derive(Drop)]
+struct Wide;
+
+impl Gate for Wide {
+    fn between(&self, _seat: u8, _kind: Kind) {}
+
+    fn steps_at_once(&self) -> u32 {
+        MOST_AT_ONCE
+    }
+}
+
+/// Each seat sends a message to queue 1 and receives one, by turns: with one step a hold, and with as
+/// many as a gate may ask for.
 #[test]
 fn sixty_four_seats_send_and_receive_on_one_queue(rt: HostRuntime) -> Result<(), Fail> {
-    let alloc = rt.alloc();
+    on_one_queue(&rt, rt.alloc(), Open)?;
+    on_one_queue(&rt, rt.alloc(), Wide)
+}
+
+/// So, by a gate.
+fn on_one_queue<G: Gate + Drop + Send + Sync, R: Threads + Wait + Clock + Sync>(
+    rt: &R,
+    alloc: Global,
+    gate: G,
+) -> Result<(), Fail> {
     let mut scripts = Vec::new(alloc);
     for _ in 0..64 {
         scripts.push(by_turns(alloc, 1)?)?;
@@ -54,15 +80,16 @@ fn sixty_four_seats_send_and_receive_on_one_queue(rt: HostRuntime) -> Result<(),
         rounds: 1,
         end: End::Closed,
     };
-    let left = play(&rt, alloc, prepared(alloc, 352, 64)?, Open, &plan)?;
-    assert_eq!(rt; left.shown, 2562);
-    assert!(rt; left.fault.is_none());
-    assert!(rt; is_file_of(alloc, left.device, left.journal.as_slice()));
-    Ok(())
+    let left = play(rt, alloc, prepared(alloc, 352, 64)?, gate, &plan)?;
+    let is_right = left.shown == 2562 && left.fault.is_none();
+    if is_right && is_file_of(alloc, left.device, left.journal.as_slice()) {
+        return Ok(());
+    }
+    Err(Fail::from("each is answered, and the file is right"))
 }
 
 /// So many queues, each for some messages only.
-pub fn queues(alloc: Global, many: u32) -> Result<Vec<Call>, Fail> {
+fn queues(alloc: Global, many: u32) -> Result<Vec<Call>, Fail> {
     let mut calls = Vec::new(alloc);
     for place in 0..many {
         let queue = place.saturating_add(1);
@@ -93,7 +120,7 @@ fn receives(alloc: Global, queue: u32) -> Result<Vec<Deed<'static>>, Fail> {
 }
 
 /// Sends and receives by turns on a queue.
-pub fn by_turns<'a>(alloc: Global, queue: u32) -> Result<Vec<Deed<'a>>, Fail> {
+fn by_turns(alloc: Global, queue: u32) -> Result<Vec<Deed<'static>>, Fail> {
     let mut script = Vec::new(alloc);
     for _ in 0..TURNS {
         script.push(Deed::Call(send(alloc, queue, 1, b"ab")?))?;

@@ -1,9 +1,10 @@
-//! The first script: a caller's four calls. That the gauge shows as many, and that a service one of
-//! whose seats is missing comes back, is tried wherever a service is closed.
+//! The first script: a caller's four calls, on a service that is closed and on one that is let go.
+//! That the gauge shows as many, and that a service one of whose seats is missing comes back, is
+//! tried wherever a service ends.
 
 use crate::asks::{get, info, receive, received, send};
 use crate::closing::End;
-use crate::files::prepared;
+use crate::files::{is_file_of, prepared};
 use crate::plain::is_told;
 use crate::playing::{Plan, play};
 use queue_model::{Answer, Call};
@@ -14,15 +15,19 @@ use workers::Open;
 #[test]
 fn the_first_script_is_answered_and_counted(rt: HostRuntime) -> Result<(), Fail> {
     let alloc = rt.alloc();
-    let plan = Plan {
-        before: script(alloc)?,
-        scripts: Vec::new(alloc),
-        rounds: 0,
-        end: End::Closed,
-    };
-    let left = play(&rt, alloc, prepared(alloc, 258, 2)?, Open, &plan)?;
-    assert!(rt; is_told(left.journal.as_slice(), 1, answers(alloc)?.as_slice()));
-    assert_eq!(rt; left.shown, 4);
+    for (end, entries) in [(End::Closed, 4), (End::LetGo, 0)] {
+        let plan = Plan {
+            before: script(alloc)?,
+            scripts: Vec::new(alloc),
+            rounds: 0,
+            end,
+        };
+        let left = play(&rt, alloc, prepared(alloc, 258, 2)?, Open, &plan)?;
+        assert!(rt; is_told(left.journal.as_slice(), 1, answers(alloc)?.as_slice()));
+        assert_eq!(rt; left.shown, 4);
+        let written = left.journal.get(..entries).unwrap_or(&[]);
+        assert!(rt; is_file_of(alloc, left.device, written));
+    }
     Ok(())
 }
 

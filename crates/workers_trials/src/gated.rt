@@ -94,13 +94,16 @@ fn a_receive_is_answered_while_a_send_is_held(rt: HostRuntime) -> Result<(), Fai
         )
     );
     assert!(rt; is_told(left.journal.as_slice(), 3, &[info(7, 7168, 0, 0)]));
-    assert!(rt; kinds.into_inner().as_slice() == moved_kinds(alloc)?.as_slice());
+    assert!(rt;
+        kinds.into_inner().as_slice()
+            == moved_kinds(alloc, before(alloc)?, long(alloc)?)?.as_slice()
+    );
     Ok(())
 }
 
 /// The calls that come before: two queues, and six messages of 1,024 bytes on the first. The next
 /// one splits the second bucket.
-pub fn before(alloc: Global) -> Result<Vec<Call>, Fail> {
+fn before(alloc: Global) -> Result<Vec<Call>, Fail> {
     let mut calls = Vec::from_array(
         alloc,
         [
@@ -118,7 +121,7 @@ pub fn before(alloc: Global) -> Result<Vec<Call>, Fail> {
 }
 
 /// Each of those six, and the one that is held.
-pub fn long(alloc: Global) -> Result<Call, Fail> {
+fn long(alloc: Global) -> Result<Call, Fail> {
     Ok(send(alloc, 1, 1, &[b'a'; 1024])?)
 }
 

@@ -8,8 +8,6 @@ mod alone;
 #[cfg(test)]
 mod asks;
 #[cfg(test)]
-mod between;
-#[cfg(test)]
 mod closing;
 #[cfg(test)]
 mod crowd;
@@ -23,6 +21,8 @@ mod first;
 mod flag;
 #[cfg(test)]
 mod gated;
+#[cfg(test)]
+mod interleaved;
 #[cfg(test)]
 mod order;
 #[cfg(test)]

@@ -1,6 +1,6 @@
 //! Seats of a service at their calls, each in a thread of its own.
 
-ghost use Rattle.std.specs.Prelude.{◌≡◌, false};
+ghost use Rattle.std.specs.Prelude.{◌≡◌};
 ghost use Rattle.bucket_page.specs.Pseudokeys.{number_key};
 ghost use Rattle.workers.specs.Opening.{origin_of};
 
@@ -16,7 +16,7 @@ use std::test::Fail;
 use std::thread;
 use std::thread::Threads;
 use std::time::{Clock, Duration, Instant};
-use workers::{Base, Fault, Gate, Prepared, Room, Seat, Service, Started, Unanswered};
+use workers::{Base, Fault, Gate, Prepared, Room, Seat, Service, Started, Stopper, Unanswered};
 
 /// What a seat does next.
 #[derive(Drop)]
@@ -25,12 +25,8 @@ pub enum Deed<'a> {
     Call(Call),
     /// It makes a call, and waits for its answer so long at most.
     CallWithin(Call, Duration),
-    /// It stops the system.
+    /// It stops the system, where it is the last seat.
     Stop,
-    /// It saves the file.
-    Save,
-    /// It renews the service.
-    Renew,
     /// It waits for a flag to come up, but not for ever.
     Await(&'a Flag),
     /// It raises a flag.
@@ -53,10 +49,12 @@ pub struct Plan<'a> {
 /// A service of trials.
 pub type Shared<D, G, N> = Service<D, NumberKey, G, N>;
 
-/// A seat, and the fault that it was told: then it makes no more calls.
+/// A seat, and the fault that it was told: then it makes no more calls. The last seat may stop the
+/// system.
 #[derive(Drop)]
 pub struct Player<N: Room + Base> {
     pub seat: Seat<N>,
+    pub stopper: Option<Stopper<N>>,
     pub fault: Option<Fault>,
     /// How many of its calls were taken back, each as it was, once its time was over.
     pub taken_back: u32,
@@ -89,32 +87,41 @@ fn play_named<
     plan: &Plan<'_>,
 ) -> Result<Left<D>, Fail>
     requires table { prepared.table ≡ N.table }
-    requires origin { origin_of (λ _. number_key) false prepared ≡ N.origin }
+    requires origin { origin_of (λ _. number_key) prepared ≡ N.origin }
 {
     let Ok(
         Started {
             service,
             seats,
+            stopper,
             passes,
         },
     ) = prepared.start::<G, N>(gate)
     else {
         return Err(Fail::from("it starts"));
     };
-    let players = play_rounds(rt, &service, seated(alloc, seats)?, plan)?;
+    let players = play_rounds(rt, &service, seated(alloc, seats, stopper)?, plan)?;
     let shown = shown(&service, passes);
     close(alloc, service, players, shown, plan.end)
 }
 
 /// A player for each seat.
-fn seated<N: Room + Base>(alloc: Global, seats: Vec<Seat<N>>) -> Result<Vec<Player<N>>, Fail> {
+fn seated<N: Room + Base>(
+    alloc: Global,
+    seats: Vec<Seat<N>>,
+    stopper: Stopper<N>,
+) -> Result<Vec<Player<N>>, Fail> {
     let mut players = Vec::new(alloc);
     for seat in seats {
         players.push(Player {
             seat,
+            stopper: None,
             fault: None,
             taken_back: 0,
         })?;
+    }
+    if let Some(last) = players.last_mut() {
+        last.stopper = Some(stopper);
     }
     Ok(players)
 }
@@ -130,9 +137,7 @@ fn play_rounds<
     service: &Shared<D, G, N>,
     players: Vec<Player<N>>,
     plan: &Plan<'_>,
-) -> Result<Vec<Player<N>>, Fail>
-    requires saves { N.origin.spares ≡ false }
-{
+) -> Result<Vec<Player<N>>, Fail> {
     let mut players = players;
     if let Some(first) = players.first_mut() {
         for call in &plan.before {
@@ -156,9 +161,7 @@ fn play_round<
     service: &Shared<D, G, N>,
     players: Vec<Player<N>>,
     plan: &Plan<'_>,
-) -> Result<Vec<Player<N>>, Fail>
-    requires saves { N.origin.spares ≡ false }
-{
+) -> Result<Vec<Player<N>>, Fail> {
     let scripts = plan.scripts.as_slice();
     Ok(thread::map_vec(
         rt,
@@ -173,9 +176,7 @@ fn play_script<D: PageDevice + Drop, G: Gate, N: Room + Base, R: Wait + Clock>(
     service: &Shared<D, G, N>,
     player: Player<N>,
     scripts: &[Vec<Deed<'_>>],
-) -> Player<N>
-    requires saves { N.origin.spares ≡ false }
-{
+) -> Player<N> {
     let mut player = player;
     let place = usize::from(player.seat.number()).saturating_sub(1);
     if let Some(script) = scripts.get(place) {
@@ -193,18 +194,15 @@ impl<N: Room + Base> Player<N> {
         rt: &R,
         service: &Shared<D, G, N>,
         deed: &Deed<'_>,
-    )
-        requires saves { N.origin.spares ≡ false }
-    {
+    ) {
         match deed {
             Deed::Call(call) => self.call(rt, service, call),
             Deed::CallWithin(call, limit) => self.call_within(rt, service, call, *limit),
-            Deed::Stop => service.stop(rt),
-            Deed::Save => {
-                let fault = service.save(rt).err().map(|_| Fault::Failed);
-                self.fault = self.fault.or(fault);
+            Deed::Stop => {
+                if let Some(stopper) = &mut self.stopper {
+                    service.stop(rt, stopper);
+                }
             }
-            Deed::Renew => self.fault = self.fault.or(service.renew(rt).err()),
             Deed::Await(flag) => {
                 flag.comes_up(rt, LOOKS);
             }

@@ -1,4 +1,3 @@
-use Rattle.std.specs.Prelude.{false}
 use Rattle.bucket_page.specs.Pseudokeys.{number_key}
 use Rattle.workers.specs.Opening.{origin_of}
 use Rattle.workers_trials.proofs.playing.play.Given as goal
@@ -8,4 +7,4 @@ abbrev pub ghosts-play_named-N-Room : goal.ghosts-play_named-N-Room
 ghosts-play_named-N-Room g a = record { table = a.prepared.table }
 
 abbrev pub ghosts-play_named-N-Base : goal.ghosts-play_named-N-Base
-ghosts-play_named-N-Base g a = record { origin = origin_of (λ _. number_key) false a.prepared }
+ghosts-play_named-N-Base g a = record { origin = origin_of (λ _. number_key) a.prepared }

@@ -1,4 +1,4 @@
-use Rattle.std.proofs.Common.{◌+◌, sym, ap, ◌∙◌}
+use Rattle.std.proofs.Common.{sym, ap, ◌∙◌}
 use Rattle.workers.specs.Views.{place_at}
 use Rattle.workers.proofs.PassLemmas.{seat_is_dealt_as}
 use Rattle.workers.proofs.TieLemmas.{has_word}
@@ -10,5 +10,5 @@ split_seat-seat-requires g c = (
   has_word _ _ c.args.self.now.table_is c.args.self.now.one_word,
   seat_is_dealt_as g.J.Recorded.seat_of _ _ _ c.kernel.invariant.knows
       (ap (λ d. d.journal) c.kernel.view_is ∙ c.requires.early)
-      (ap (λ d. place_at d.places (d.dealt + 1)) c.kernel.view_is ∙ c.requires.free),
+      (ap (λ d. place_at d.places d.dealt) c.kernel.view_is ∙ c.requires.free),
 )

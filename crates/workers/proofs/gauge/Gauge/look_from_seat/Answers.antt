@@ -1,4 +1,4 @@
-use Rattle.std.proofs.Common.{[], ◌∷◌, ap, sym, ◌∙◌}
+use Rattle.std.proofs.Common.{◌≤◌, [], ◌∷◌, ap, sym, ◌∙◌, subst}
 use Rattle.workers.specs.Names.{sitting_in}
 use Rattle.workers.proofs.PassLemmas.{seat_look_as}
 use Rattle.workers.proofs.TieLemmas.{has_word, head_is, seat_knows}
@@ -19,7 +19,8 @@ invariant_of-pass g c =
     let took = c.into_seat-seat.ensures in
     let own = took.0 ∙ ap (λ b. b.table_id) c.replace.ensures.value ∙ c.pass.invariant.table in
     let seat = head_is (sym took.2 ∙ ap (λ b. b.views) c.replace.ensures.value ∙ c.pass.invariant.knows) in
-    let seen = c.load-found.ensures.2.0.tells _ seat in
+    let begun = subst (λ x. 1 ≤ x.seat) (sym c.pass.view_is) c.requires in
+    let seen = c.load-found.ensures.2.0.tells _ seat begun in
     record {
       table = c.into_badge.ensures.0 ∙ c.load-found.ensures.0 ∙ own;
       knows = seat_knows _ _ (c.into_badge.ensures.2 ∙ ap (λ v. v ∷ []) seen.2);
@@ -29,17 +30,20 @@ pub returns-clause-counts : goal.returns-clause-counts
 returns-clause-counts g c =
     let took = c.into_seat-seat.ensures in
     let seat = head_is (sym took.2 ∙ ap (λ b. b.views) c.replace.ensures.value ∙ c.pass.invariant.knows) in
-    rw (← c.pass.view_is) (c.load-found.ensures.2.0.tells _ seat).0
+    let begun = subst (λ x. 1 ≤ x.seat) (sym c.pass.view_is) c.requires in
+    rw (← c.pass.view_is) (c.load-found.ensures.2.0.tells _ seat begun).0
 
 pub returns-clause-rises : goal.returns-clause-rises
 returns-clause-rises g c =
     let took = c.into_seat-seat.ensures in
     let seat = head_is (sym took.2 ∙ ap (λ b. b.views) c.replace.ensures.value ∙ c.pass.invariant.knows) in
-    rw (← c.pass.view_is) (c.load-found.ensures.2.0.tells _ seat).1
+    let begun = subst (λ x. 1 ≤ x.seat) (sym c.pass.view_is) c.requires in
+    rw (← c.pass.view_is) (c.load-found.ensures.2.0.tells _ seat begun).1
 
 pub returns-clause-knows : goal.returns-clause-knows
 returns-clause-knows g c =
     let took = c.into_seat-seat.ensures in
     let seat = head_is (sym took.2 ∙ ap (λ b. b.views) c.replace.ensures.value ∙ c.pass.invariant.knows) in
-    let seen = c.load-found.ensures.2.0.tells _ seat in
+    let begun = subst (λ x. 1 ≤ x.seat) (sym c.pass.view_is) c.requires in
+    let seen = c.load-found.ensures.2.0.tells _ seat begun in
     rw (← c.pass.view_is) (ap sitting_in (c.into_badge.ensures.2 ∙ ap (λ v. v ∷ []) seen.2))

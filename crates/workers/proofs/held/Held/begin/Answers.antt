@@ -1,26 +1,26 @@
-use Rattle.std.proofs.Common.{◌≤◌, refl, sym, subst}
+use Rattle.std.proofs.Common.{◌≤◌, refl, sym, ◌∙◌, subst}
 use Rattle.interleaving_core.specs.Beginning.{Refuses}
-use Rattle.workers.proofs.HeldLemmas.{begun_at_desk, counted_at_begin, has_begun, kept_at_begin, kept_at_refusal, never_busy}
+use Rattle.workers.proofs.HeldLemmas.{as_it_was, begun_at_desk, counted_at_begin, counted_at_refusal, has_begun, is_turned_away, kept_at_begin, kept_at_refusal, known_at_refusal, never_busy, refused_at_desk}
 use Rattle.workers.proofs.held.Held.begin.Goals as goal
 
 -- the seat has its call, and nothing joins the journal
 pub tell-requires-clause-change : goal.tell-requires-clause-change
 tell-requires-clause-change g c =
-    begun_at_desk _ _ _ _ _ c.in-Ok.ensures.ok c.requires.within.0
+    begun_at_desk _ _ _ _ c.in-Ok.ensures.ok c.requires.within.0
     (subst (λ n. c.args.seat ≤ n) (sym c.self.invariant.held.seats) c.requires.within.1) _ _ c.self.invariant.held.known
     c.requires.seat
 
 pub tell-requires-clause-count : goal.tell-requires-clause-count
 tell-requires-clause-count g c =
-    counted_at_begin c.self.inside.past.items _ _ _ _ c.in-Ok.ensures.ok c.requires.within.0
+    counted_at_begin _ _ _ _ c.in-Ok.ensures.ok c.requires.within.0
     (subst (λ n. c.args.seat ≤ n) (sym c.self.invariant.held.seats) c.requires.within.1) _
     c.self.invariant.held.counted
 
 pub returns-in-Ok-clause-ok : goal.returns-in-Ok-clause-ok
 returns-in-Ok-clause-ok g c =
-    has_begun c.self.inside.past.items _ _ _ _ c.in-Ok.ensures.ok c.requires.within.0
+    has_begun _ _ _ _ c.in-Ok.ensures.ok c.requires.within.0
     (subst (λ n. c.args.seat ≤ n) (sym c.self.invariant.held.seats) c.requires.within.1) c.self.inside.pass _ _
-    c.requires.seat c.tell.ensures.seat
+    c.self.invariant.held.known c.requires.seat c.tell.ensures.right c.tell.ensures.seat
 
 -- a seat that rests is not busy
 pub unreachable-requires : goal.unreachable-requires
@@ -32,24 +32,41 @@ unreachable-requires g c =
 
 pub invariant_of-self : goal.invariant_of-self
 invariant_of-self g c =
-    kept_at_begin _ _ _ _ _ c.in-Ok.ensures.ok c.requires.within.0
-    (subst (λ n. c.args.seat ≤ n) (sym c.self.invariant.held.seats) c.requires.within.1) _ _ _ _ _ _
+    kept_at_begin _ _ _ _ c.in-Ok.ensures.ok c.requires.within.0
+    (subst (λ n. c.args.seat ≤ n) (sym c.self.invariant.held.seats) c.requires.within.1) _ _ _ _ _
     c.begins_refine.ensures
     (c.requires.within.0, subst (λ n. c.args.seat ≤ n) (sym c.self.invariant.held.rows) c.requires.within.1)
     c.self.invariant c.tell.ensures.own
 
--- a refusal leaves the kernel as it was
+-- a refusal leaves the kernel as it was, and where a step has failed its seat is told
+pub tell-requires-in-Err-default-Failed-clause-change : goal.tell-requires-in-Err-default-Failed-clause-change
+tell-requires-in-Err-default-Failed-clause-change g c =
+    refused_at_desk _ _ _ _ _ c.in-Err-default-Failed.ensures.err _ _ c.self.invariant.held.known c.requires.seat
+
+pub tell-requires-in-Err-default-Failed-clause-count : goal.tell-requires-in-Err-default-Failed-clause-count
+tell-requires-in-Err-default-Failed-clause-count g c =
+    counted_at_refusal _ _ _ _ _ c.in-Err-default-Failed.ensures.err _ c.self.invariant.held.counted
+
 pub invariant_of-self-in-Err-default-Failed : goal.invariant_of-self-in-Err-default-Failed
 invariant_of-self-in-Err-default-Failed g c =
-    kept_at_refusal _ _ _ _ _ _ _ _ _ _ _ _ c.refusals_refine.ensures c.in-Err-default-Failed.ensures.err
-    c.self.invariant refl
+    kept_at_refusal _ _ _ _ _ c.in-Err-default-Failed.ensures.err _ _ _ _ _ c.refusals_refine.ensures
+    c.self.invariant c.tell-in-Err-default-Failed.ensures.own
+
+pub returns-in-Err-default-Failed-clause-err : goal.returns-in-Err-default-Failed-clause-err
+returns-in-Err-default-Failed-clause-err g c =
+    let broken = subst (λ fault. Refuses c.args.seat c.self.inside.kernel fault) c.in-Err-default-Failed.field-0-1-is
+    c.in-Err-default-Failed.ensures.err.cause in
+    is_turned_away _ _ _ _ _ c.in-Err-default-Failed.ensures.err _ c.self.inside.pass _ _ broken
+    c.self.invariant.held.known c.tell-in-Err-default-Failed.ensures.right c.tell-in-Err-default-Failed.ensures.seat
 
 pub invariant_of-self-in-Err-default-SessionFull : goal.invariant_of-self-in-Err-default-SessionFull
 invariant_of-self-in-Err-default-SessionFull g c =
-    kept_at_refusal _ _ _ _ _ _ _ _ _ _ _ _ c.refusals_refine.ensures c.in-Err-default-SessionFull.ensures.err
-    c.self.invariant refl
+    kept_at_refusal _ _ _ _ _ c.in-Err-default-SessionFull.ensures.err _ _ _ _ _ c.refusals_refine.ensures
+    c.self.invariant
+    (c.self.invariant.held.known ∙ sym (known_at_refusal _ _ _ _ _ c.in-Err-default-SessionFull.ensures.err))
 
 pub invariant_of-self-in-Err-default-NoMemory : goal.invariant_of-self-in-Err-default-NoMemory
 invariant_of-self-in-Err-default-NoMemory g c =
-    kept_at_refusal _ _ _ _ _ _ _ _ _ _ _ _ c.refusals_refine.ensures c.in-Err-default-NoMemory.ensures.err
-    c.self.invariant refl
+    kept_at_refusal _ _ _ _ _ c.in-Err-default-NoMemory.ensures.err _ _ _ _ _ c.refusals_refine.ensures
+    c.self.invariant
+    (c.self.invariant.held.known ∙ sym (known_at_refusal _ _ _ _ _ c.in-Err-default-NoMemory.ensures.err))

@@ -1,7 +1,10 @@
-use Rattle.std.specs.Prelude.{[]}
-use Rattle.workers.specs.Held.{known_of, whole}
+use Rattle.std.specs.Prelude.{drop, length}
+use Rattle.workers.specs.Held.{known_of}
 use Rattle.workers.proofs.held.Held.stop.Given as goal
 
--- what the kernel leaves; no seat is told of it
-abbrev pub ghosts-tell_all : goal.ghosts-tell_all
-ghosts-tell_all g a = record { desk = known_of (whole a.past.now.items a.kernel.now); told = [] }
+-- what the kernel leaves, and what joined its journal
+abbrev pub ghosts-tell_stop : goal.ghosts-tell_stop
+ghosts-tell_stop g a = record {
+  desk = known_of a.kernel.now;
+  told = drop (length a.own.now.journal) a.kernel.now.journal;
+}

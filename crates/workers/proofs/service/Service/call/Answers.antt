@@ -1,7 +1,7 @@
 use Rattle.std.proofs.Common.{[], ◌∷◌, ◌++◌, refl, ap, ◌∙◌}
 use Rattle.queue_model.specs.declared.entry.Entry.TheVariants.{Decided}
 use Rattle.workers.specs.Words.{Call, Entry}
-use Rattle.workers.proofs.SeatLemmas.{fault_ends, seated_answered, seated_faulted, way_begins}
+use Rattle.workers.proofs.SeatLemmas.{fault_ends, seated_answered, seated_faulted, told_failed, way_begins}
 use Rattle.workers.proofs.service.Service.call.Goals as goal
 
 pub loop-init : goal.loop-init
@@ -23,3 +23,8 @@ pub invariant_of-seat-in-Fault : goal.invariant_of-seat-in-Fault
 invariant_of-seat-in-Fault g c =
     let told = rw c.in-Fault.is at c.advance-last.ensures.told in
     seated_faulted _ _ _ _ _ _ _ _ c.loop.invariant _ _ told refl (fault_ends c.in-Fault.fault)
+
+pub returns-in-Fault-clause-failed : goal.returns-in-Fault-clause-failed
+returns-in-Fault-clause-failed g c =
+    let told = rw c.in-Fault.is at c.advance-last.ensures.told in
+    λ broken. told_failed _ _ _ _ c.of_step.ensures told broken

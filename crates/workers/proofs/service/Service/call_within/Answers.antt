@@ -1,7 +1,7 @@
 use Rattle.std.proofs.Common.{[], ◌∷◌, ◌++◌, refl, ap, ◌∙◌}
 use Rattle.queue_model.specs.declared.entry.Entry.TheVariants.{Decided}
 use Rattle.workers.specs.Words.{Call, Entry}
-use Rattle.workers.proofs.SeatLemmas.{fault_ends, list_taken_back, seated_answered, seated_faulted, seated_taken_back, way_begins, way_goes}
+use Rattle.workers.proofs.SeatLemmas.{fault_ends, list_taken_back, same_fault, seated_answered, seated_faulted, seated_taken_back, told_failed, way_begins, way_goes}
 use Rattle.workers.proofs.service.Service.call_within.Goals as goal
 
 pub loop-init : goal.loop-init
@@ -10,20 +10,20 @@ loop-init g c =
     c.in_default-begin.ensures.ok
 
 -- told that it waits, its call is under way still, and is taken back
-pub invariant_of-seat-then-take_back : goal.invariant_of-seat-then-take_back
-invariant_of-seat-then-take_back g c =
+pub invariant_of-seat-then-is_back : goal.invariant_of-seat-then-is_back
+invariant_of-seat-then-is_back g c =
     let told = rw c.in-Waiting.is at c.advance-last.ensures.told in
     let way = way_goes _ _ _ _ _ _ _ _ c.loop.invariant _ _ told refl refl in
-    seated_taken_back _ _ _ _ _ _ _ _ way _ (c.take_back.ensures.back c.if-take_back.true)
+    seated_taken_back _ _ _ _ _ _ _ _ way _ (c.take_back-is_back.ensures.back c.if-is_back.true)
 
-pub returns-then-take_back-clause-back : goal.returns-then-take_back-clause-back
-returns-then-take_back-clause-back g c = c.into_call.ensures ∙ c.in-Ok.ensures.call
+pub returns-then-is_back-clause-back : goal.returns-then-is_back-clause-back
+returns-then-is_back-clause-back g c = c.into_call.ensures ∙ c.in-Ok.ensures.call
 
-pub returns-then-take_back-clause-err : goal.returns-then-take_back-clause-err
-returns-then-take_back-clause-err g c =
+pub returns-then-is_back-clause-err : goal.returns-then-is_back-clause-err
+returns-then-is_back-clause-err g c =
     let told = rw c.in-Waiting.is at c.advance-last.ensures.told in
     let way = way_goes _ _ _ _ _ _ _ _ c.loop.invariant _ _ told refl refl in
-    list_taken_back _ _ _ _ _ _ _ _ way _ (c.take_back.ensures.back c.if-take_back.true)
+    list_taken_back _ _ _ _ _ _ _ _ way _ (c.take_back-is_back.ensures.back c.if-is_back.true)
 
 -- its entry joins the list at hand
 pub invariant_of-seat-in-Answered : goal.invariant_of-seat-in-Answered
@@ -39,3 +39,8 @@ pub invariant_of-seat-in-Fault : goal.invariant_of-seat-in-Fault
 invariant_of-seat-in-Fault g c =
     let told = rw c.in-Fault.is at c.advance-last.ensures.told in
     seated_faulted _ _ _ _ _ _ _ _ c.loop.invariant _ _ told refl (fault_ends c.in-Fault.fault)
+
+pub returns-in-Fault-clause-failed : goal.returns-in-Fault-clause-failed
+returns-in-Fault-clause-failed g c =
+    let told = rw c.in-Fault.is at c.advance-last.ensures.told in
+    λ broken. told_failed _ _ _ _ c.of_step.ensures told (same_fault _ _ broken)

@@ -1,7 +1,0 @@
-use Rattle.std.specs.Prelude.{[]}
-use Rattle.workers.specs.Held.{known_of, whole}
-use Rattle.workers.proofs.held.Held.save.Given as goal
-
--- what the kernel leaves; no seat is told of it
-abbrev pub ghosts-tell_all : goal.ghosts-tell_all
-ghosts-tell_all g a = record { desk = known_of (whole a.past.now.items a.kernel.now); told = [] }
