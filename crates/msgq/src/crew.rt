@@ -11,13 +11,13 @@ use std::alloc::Global;
 use std::io::Eprint;
 use std::marker::Model;
 use std::snapshot::Snapshot;
-use std::sync::Wait;
+use std::sync::{Mutex, Wait};
 use std::sync::atomic::AtomicU64;
 use std::sync::atomic::Ordering::SeqCst;
 use std::thread;
 use std::thread::{Promise, PromisedHandle, Scope, SpawnError, Threads};
 use std::time::{Clock, Duration};
-use workers::{Base, Fault, GaugePass, Room, Seat};
+use workers::{Base, Fault, GaugePass, Room, Seat, Stopper};
 
 /// Milliseconds between two looks whether all threads are done, where that is shown.
 const BETWEEN_LOOKS: u64 = 10;
@@ -44,6 +44,11 @@ impl<'a, R> ThreadASeat<'a, R> {
         }
     }
 
+    /// Their handle.
+    pub fn rt(&self) -> &'a R {
+        self.rt
+    }
+
     /// Where memory is taken.
     pub fn alloc(&self) -> Global {
         self.alloc
@@ -60,14 +65,20 @@ impl<R: Wait> Waiter for ThreadASeat<'_, R> {
         service.call(self.rt, seat, call)
     }
 
-    fn stop<D: PageDevice + Drop, N: Room + Base>(&self, service: &Shared<D, N>) {
-        service.stop(self.rt);
+    fn stop<D: PageDevice + Drop, N: Room + Base>(
+        &self,
+        service: &Shared<D, N>,
+        stopper: &Mutex<Stopper<N>>,
+    ) {
+        let mut stopper = stopper.lock(self.rt);
+        service.stop(self.rt, &mut stopper);
     }
 }
 
 /// Has each desk make its lines in a thread of its own, beside the others, and waits until all
-/// have. The lines of a desk for which no thread can be started are each replied 60. How many calls
-/// were decided so far is seen by the pass, if there is one.
+/// have, with a stopper where one of the lines is a `stop`. The lines of a desk for which no thread
+/// can be started are each replied 60. How many calls were decided so far is seen by the pass, if
+/// there is one.
 pub fn make_all<
     's,
     R: Threads + Wait + Clock + Eprint + Sync,
@@ -76,6 +87,7 @@ pub fn make_all<
 >(
     crew: &ThreadASeat<'_, R>,
     service: &Shared<D, N>,
+    stopper: Option<&Mutex<Stopper<N>>>,
     gauge: Option<GaugePass<Entry, Call, N>>,
     desks: Vec<Desk<'s, N>>,
 ) -> Vec<Desk<'s, N>>
@@ -85,6 +97,7 @@ pub fn make_all<
     let team = Team {
         crew,
         service,
+        stopper,
         refused: AtomicU64::new(0),
         left: AtomicU64::new(desks.len() as u64),
     };
@@ -105,6 +118,7 @@ pub fn make_all<
 struct Team<'e, R, D: PageDevice, N: Room + Base> {
     crew: &'e ThreadASeat<'e, R>,
     service: &'e Shared<D, N>,
+    stopper: Option<&'e Mutex<Stopper<N>>>,
     /// The seat for which no thread could be started.
     refused: AtomicU64,
     /// How many are not done.
@@ -205,7 +219,7 @@ fn start<
         if team.refused.load(SeqCst) == seat {
             desk.refuse();
         } else {
-            desk.make(team.crew, team.service);
+            desk.make(team.crew, team.service, team.stopper);
         }
         team.left.fetch_sub(1, SeqCst);
         desk

@@ -1,16 +1,18 @@
 -- A desk that makes its lines.
-use Rattle.std.proofs.Common.{◌≡◌, ◌<◌, ◌≤◌, ℕ, ◌+◌, true, false, List, [], ◌∷◌, ◌++◌, Some, length, take, get_or, refl, sym, ap, ◌∙◌, subst, length-append, arith}
+use Rattle.std.proofs.Common.{◌≡◌, ◌<◌, ◌≤◌, ℕ, ◌+◌, true, false, inl, inr, List, [], ◌∷◌, ◌++◌, Some, length, take, get_or, refl, sym, ap, ◌∙◌, subst, length-append, arith}
+use Rattle.std.specs.List.{list_any}
 use Rattle.msgq_cli.specs.declared.command.Command.{Command}
 use Rattle.msgq_cli.specs.declared.command.Command.TheVariants as commands
 use Rattle.msgq_cli.specs.declared.line.Line.{Line}
 use Rattle.msgq_cli.specs.declared.reply.Reply.{Reply}
 use Rattle.msgq_cli.specs.declared.reply.Reply.TheVariants.{Failed}
 use Rattle.queue_model.specs.declared.entry.Entry.{Entry}
+use Rattle.workers.specs.Told.{IsSameSeat}
 use Rattle.replays.specs.Journal.{entry_at}
-use Rattle.replays.proofs.FitLemmas.{fits_more}
+use Rattle.replays.proofs.FitLemmas.{any_more, fits_more}
 use Rattle.replays.proofs.LineLemmas.{entries_more, other_more, own_more, room_at}
 use Rattle.replays.specs.Desks.{DeskView, IsFresh, IsMadeOf}
-use Rattle.replays.specs.Lines.{AreFitting, Fits, HasMade, entries_to, is_line_of, lines_of}
+use Rattle.replays.specs.Lines.{AreFitting, Fits, HasMade, entries_to, is_failure, is_line_of, lines_of}
 
 -- of the lines of its script these were made
 pub record IsMaking (taken : List Line) (old d : DeskView) : Type 0 where
@@ -20,6 +22,7 @@ pub record IsMaking (taken : List Line) (old d : DeskView) : Type 0 where
   pub all : length d.lines.replies ≡ length (lines_of old.lines.seat taken)
   pub fits : AreFitting (lines_of old.lines.seat taken) d.lines.replies
   pub told : d.sitter.list ≡ entries_to (lines_of old.lines.seat taken) d.lines.replies
+  pub failed : list_any is_failure d.lines.replies ≡ true → d.sitter.failed ≡ true
 
 pub making_starts : (d : DeskView) → IsFresh d → d.sitter.seat ≡ d.lines.seat → IsMaking [] d d
 making_starts d fresh at = record {
@@ -29,6 +32,7 @@ making_starts d fresh at = record {
   all = ap length fresh.unmade;
   fits = tt;
   told = fresh.list ∙ sym (ap (entries_to []) fresh.unmade);
+  failed = λ is. let none = ap (list_any is_failure) fresh.unmade in absurd cc;
 }
 
 pub making_skips : (taken : List Line) (old d : DeskView) (line : Line) → IsMaking taken old d →
@@ -41,13 +45,14 @@ making_skips taken old d line m other =
       all = m.all ∙ sym (ap length own);
       fits = subst (λ (l : List Line). AreFitting l d.lines.replies) (sym own) m.fits;
       told = m.told ∙ sym (ap (λ (l : List Line). entries_to l d.lines.replies) own);
+      failed = m.failed;
     }
 
 pub making_goes : (taken : List Line) (old d e : DeskView) (line : Line) (reply : Reply) → IsMaking taken old d →
     is_line_of old.lines.seat line ≡ true → e.sitter.list ≡ d.sitter.list ++ entry_at line (Some reply) →
-    e.sitter.seat ≡ d.sitter.seat → Fits line.command reply →
+    IsSameSeat d.sitter e.sitter → Fits line.command reply → (is_failure reply ≡ true → e.sitter.failed ≡ true) →
     e.lines ≡ record d.lines { replies = d.lines.replies ++ reply ∷ [] } → IsMaking (taken ++ line ∷ []) old e
-making_goes taken old d e line reply m its told same fits lines =
+making_goes taken old d e line reply m its told same fits knows lines =
     let own = own_more old.lines.seat taken line its in
     let replies : e.lines.replies ≡ d.lines.replies ++ reply ∷ [] = ap (λ v. v.replies) lines in
     let number : e.lines.seat ≡ d.lines.seat = ap (λ v. v.seat) lines in
@@ -55,7 +60,7 @@ making_goes taken old d e line reply m its told same fits lines =
     record {
       seat = number ∙ m.seat;
       lines_are = ap (λ v. v.lines) lines ∙ m.lines_are;
-      at_seat = same ∙ m.at_seat ∙ sym number;
+      at_seat = same.seat ∙ m.at_seat ∙ sym number;
       all = ap length replies ∙ length-append d.lines.replies (reply ∷ []) ∙ ap (λ (n : ℕ). n + 1) m.all
           ∙ sym (length-append more (line ∷ [])) ∙ sym (ap length own);
       fits = subst (λ (l : List Line). AreFitting l e.lines.replies) (sym own)
@@ -65,6 +70,10 @@ making_goes taken old d e line reply m its told same fits lines =
           ∙ sym (entries_more more d.lines.replies line reply m.all)
           ∙ sym (ap (λ (l : List Line). entries_to l (d.lines.replies ++ reply ∷ [])) own)
           ∙ sym (ap (entries_to (lines_of old.lines.seat (taken ++ line ∷ []))) replies);
+      failed = λ is. elim any_more is_failure d.lines.replies reply (sym (ap (list_any is_failure) replies) ∙ is) [
+        | inl before ↦ same.failed (m.failed before)
+        | inr now ↦ knows now
+      ];
     }
 
 -- there is room for the reply to a line that is its own
@@ -90,6 +99,7 @@ making_ends old d m =
         fits = subst (λ (l : List Line). AreFitting l d.lines.replies) (sym same) m.fits;
         told = m.told ∙ sym (ap (λ (l : List Line). entries_to l d.lines.replies) same);
       };
+      failed = m.failed;
     }
 
 -- ---- a fault

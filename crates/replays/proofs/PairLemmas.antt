@@ -11,7 +11,7 @@ use Rattle.workers.specs.Closing.{HasMissing, sits_at}
 use Rattle.workers.specs.Opening.{newcomers}
 use Rattle.workers.specs.Told.{Sitter}
 use Rattle.replays.specs.Desks.{AreFresh, AreMade, ArePaired, AreUntouched, DeskView, desk_at, lines_at, no_lines}
-use Rattle.replays.specs.Lines.{AreFitting, LinesView, entries_to, lines_of}
+use Rattle.replays.specs.Lines.{AreFitting, LinesView, entries_to, is_failure, lines_of}
 use Rattle.replays.specs.Printing.{AreOfSeats}
 
 -- ---- seats that were told nothing
@@ -63,6 +63,7 @@ newcomer_at (suc n) place below = by (cases_eq place n) (λ few. newcomer_at n p
 pub record HasDone (script : List Line) (place : ℕ) (d : DeskView) : Type 0 where
   pub seat : d.sitter.seat ≡ place + 1
   pub fits : AreFitting (lines_of (place + 1) script) d.lines.replies
+  pub failed : list_any is_failure d.lines.replies ≡ true → d.sitter.failed ≡ true
   pub told : d.sitter.list ≡ entries_to (lines_of (place + 1) script) d.lines.replies
 
 -- a seat and its lines have one number
@@ -129,6 +130,7 @@ module _ (script : List Line) (many : ℕ) (lines : List LinesView) (desks : Lis
               (lines_there place below)
               (subst (λ (n : ℕ). AreFitting (lines_of n d.lines.lines) d.lines.replies) (seat_at place below)
               (are.each place (here place below)).made.fits);
+          failed = (are.each place (here place below)).failed;
           told = (are.each place (here place below)).made.told
               ∙ ap (λ (n : ℕ). entries_to (lines_of n d.lines.lines) d.lines.replies) (seat_at place below)
               ∙ ap (λ (l : List Line). entries_to (lines_of (place + 1) l) d.lines.replies) (lines_there place below);

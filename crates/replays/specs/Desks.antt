@@ -1,13 +1,14 @@
 -- Desks: the seats of a service, each with its lines of a script. docs/SCRIPTS.md, "Runs".
-use Rattle.std.specs.Prelude.{ℕ, ◌≡◌, ◌+◌, ◌<◌, Bool, List, [], length, replicate, slice_index_or}
+use Rattle.std.specs.Prelude.{ℕ, ◌≡◌, ◌+◌, ◌<◌, ◌≤◌, Bool, true, List, [], length, replicate, slice_index_or}
+use Rattle.std.specs.List.{list_any}
 use Rattle.bucket_page.specs.declared.pseudokey.ShaKey.{ShaKey}
 use Rattle.msgq_cli.specs.Scripts.{Parts, greatest_seat}
 use Rattle.msgq_cli.specs.declared.line.Line.{Line}
 use Rattle.replays.specs.Replays.{callers_of}
 use Rattle.workers.specs.Views.{nobody}
-use Rattle.workers.specs.Opening.{HasFrames, PreparedView}
+use Rattle.workers.specs.Opening.{PreparedView}
 use Rattle.workers.specs.Told.{Sitter}
-use Rattle.replays.specs.Lines.{HasMade, LinesView}
+use Rattle.replays.specs.Lines.{HasMade, LinesView, is_failure}
 use Rattle.replays.specs.declared.service_opening.Plan.{Plan}
 
 -- ---- before the file is opened
@@ -45,7 +46,7 @@ pub record IsPreparedFor (script : Parts) (content : List (List ℕ)) (honest : 
     -- there are as many seats as the script has
     pub many : length p.callers ≡ greatest_seat script.lines
     -- and there is a frame for each page
-    pub enough : HasFrames p
+    pub enough : length p.content ≤ p.frames
 
 -- ---- desks
 
@@ -75,6 +76,8 @@ pub record IsMadeOf (old new : DeskView) : Type 0 where
   pub lines_are : new.lines.lines ≡ old.lines.lines
   pub at_seat : new.sitter.seat ≡ new.lines.seat
   pub made : HasMade new.lines new.sitter.list
+  -- where one of them was told of a failure the seat knows of it
+  pub failed : list_any is_failure new.lines.replies ≡ true → new.sitter.failed ≡ true
 
 -- so at each of these desks
 pub record AreMade (old new : List DeskView) : Type 0 where

@@ -19,29 +19,22 @@ use Rattle.msgq.proofs.runs.run_prepared.Goals as goal
 
 -- ---- there is no memory to begin
 
-pub returns-in_default : goal.returns-in_default
-returns-in_default g c =
+pub returns-in_default-clause-ran : goal.returns-in_default-clause-ran
+returns-in_default-clause-ran g c =
     λ was before. no_room _ _ _ _ (rw c.unrun.ensures.device c.abandon.ensures.content)
     (rw c.unrun.ensures.ending c.leave_refused.ensures) c.unrun.ensures.told
 
-pub returns-in_default-with_capacity : goal.returns-in_default-with_capacity
-returns-in_default-with_capacity g c =
+pub returns-in_default-with_capacity-clause-ran : goal.returns-in_default-with_capacity-clause-ran
+returns-in_default-with_capacity-clause-ran g c =
     λ was before. no_room _ _ _ _
     (rw c.unrun-in_default-with_capacity.ensures.device c.abandon-in_default-with_capacity.ensures.content)
     (rw c.unrun-in_default-with_capacity.ensures.ending c.leave_refused-in_default-with_capacity.ensures)
     c.unrun-in_default-with_capacity.ensures.told
 
-pub returns-in-Err : goal.returns-in-Err
-returns-in-Err g c =
+pub returns-in-Err-clause-ran : goal.returns-in-Err-clause-ran
+returns-in-Err-clause-ran g c =
     λ was before. no_room _ _ _ _ (rw c.unrun-in-Err.ensures.device c.in-Err.ensures.err.0)
     (rw c.unrun-in-Err.ensures.ending c.leave_refused-in-Err.ensures) c.unrun-in-Err.ensures.told
-
--- ---- the service spares its device
-
-pub start-requires-clause-origin : goal.start-requires-clause-origin
-start-requires-clause-origin g c =
-    subst (λ (spares : Bool). origin_of (λ _. sha_key) spares c.args.prepared ≡ g.N.Base.origin)
-    (ap (λ (o : Origin). o.spares) c.requires.origin) c.requires.origin
 
 -- ---- each seat has its lines at a desk
 
@@ -67,8 +60,8 @@ at_desks-desks-requires-clause-room g c =
     omega (arith, cap, long, lines, many, same)
 
 -- nobody has begun, and what the threads are handed may cross
-pub make_all-desks-requires : goal.make_all-desks-requires
-make_all-desks-requires g c =
+pub make_lines-desks-requires : goal.make_lines-desks-requires
+make_lines-desks-requires g c =
     let new = c.in-Ok-start.ensures.seats ∙ ap newcomers c.requires.many in
     let fresh = untouched _ _ _ _ c.requires.plan.seats
     (subst (λ (l : List Sitter). ArePaired l c.args.plan.seats.items c.at_desks-desks.result.items) new
@@ -84,7 +77,7 @@ print_all-so_far-requires-clause-made g c =
     c.at_desks-desks.ensures in
     rw c.lines.ensures
     (rw c.as_slice.ensures.value
-    (of_seats _ _ _ _ c.requires.plan.seats paired _ c.make_all-desks.ensures.made
+    (of_seats _ _ _ _ c.requires.plan.seats paired _ c.make_lines-desks.ensures.made
     (seats_within c.args.plan.script.now.lines c.keeps_seats.ensures.seats)))
 
 pub print_all-so_far-requires-clause-none : goal.print_all-so_far-requires-clause-none
@@ -92,7 +85,7 @@ print_all-so_far-requires-clause-none g c =
     let new = c.in-Ok-start.ensures.seats ∙ ap newcomers c.requires.many in
     let paired = subst (λ (l : List Sitter). ArePaired l c.args.plan.seats.items c.at_desks-desks.result.items) new
     c.at_desks-desks.ensures in
-    let many = many_made _ _ _ _ c.requires.plan.seats paired _ c.make_all-desks.ensures.made in
+    let many = many_made _ _ _ _ c.requires.plan.seats paired _ c.make_lines-desks.ensures.made in
     c.as_mut_slice.ensures.value ∙ c.requires.plan.printed
     ∙ ap (λ (n : ℕ). replicate n 0) (sym (ap length c.as_slice.ensures.value ∙ many))
 
@@ -101,7 +94,7 @@ seats_of-requires-clause-room g c =
     let new = c.in-Ok-start.ensures.seats ∙ ap newcomers c.requires.many in
     let paired = subst (λ (l : List Sitter). ArePaired l c.args.plan.seats.items c.at_desks-desks.result.items) new
     c.at_desks-desks.ensures in
-    let made = many_made _ _ _ _ c.requires.plan.seats paired _ c.make_all-desks.ensures.made in
+    let made = many_made _ _ _ _ c.requires.plan.seats paired _ c.make_lines-desks.ensures.made in
     let cap = c.in-Ok-with_capacity.ensures.capacity in
     let lines = c.requires.plan.seats.as_many in
     let many = c.len-many.ensures in
@@ -116,8 +109,8 @@ end_service-ended-requires g c =
     c.at_desks-desks.ensures in
     let callers = sym (ap (λ (o : Origin). length o.callers) c.requires.origin) ∙ c.requires.many in
     record {
-      all = λ missing. all_back _ _ _ _ c.requires.plan.seats paired _ c.make_all-desks.ensures.made
-          (subst (λ (n : ℕ). HasMissing n (sitters c.make_all-desks.result.items)) callers
+      all = λ missing. all_back _ _ _ _ c.requires.plan.seats paired _ c.make_lines-desks.ensures.made
+          (subst (λ (n : ℕ). HasMissing n (sitters c.make_lines-desks.result.0.items)) callers
           (subst (λ (l : List Sitter). HasMissing (length g.N.Base.origin.callers) l) c.seats_of.ensures missing));
     }
 
@@ -126,11 +119,11 @@ returns g c =
     let new = c.in-Ok-start.ensures.seats ∙ ap newcomers c.requires.many in
     let paired = subst (λ (l : List Sitter). ArePaired l c.args.plan.seats.items c.at_desks-desks.result.items) new
     c.at_desks-desks.ensures in
-    let made = many_made _ _ _ _ c.requires.plan.seats paired _ c.make_all-desks.ensures.made in
-    let done = done_at _ _ _ _ c.requires.plan.seats paired _ c.make_all-desks.ensures.made in
+    let made = many_made _ _ _ _ c.requires.plan.seats paired _ c.make_lines-desks.ensures.made in
+    let done = done_at _ _ _ _ c.requires.plan.seats paired _ c.make_lines-desks.ensures.made in
     let told = c.flush.new.self in
     let first = c.print_all-so_far.new.output in
-    let printed = subst (λ (l : List Line). IsPrintedOf l c.make_all-desks.result.items c.args.output.now first
+    let printed = subst (λ (l : List Line). IsPrintedOf l c.make_lines-desks.result.0.items c.args.output.now first
     c.print_all-so_far.result) c.lines.ensures
     (subst (λ (l : List DeskView). IsPrintedOf c.lines.result.now l c.args.output.now first c.print_all-so_far.result)
     c.as_slice.ensures.value c.print_all-so_far.ensures) in
@@ -141,7 +134,7 @@ returns g c =
     let pages = sym (ap (λ (o : Origin). o.content) c.requires.origin) in
     let spared = sym (ap (λ (o : Origin). o.spares) c.requires.origin) in
     λ was before. from_origin _ _ (counted_from was g.N.Base.origin) _ _ (ap (counted_from was) c.requires.origin)
-    (beside c.args.plan.script.now c.make_all-desks.result.items made done
+    (beside c.args.plan.script.now c.make_lines-desks.result.0.items made done
     (seats_within c.args.plan.script.now.lines c.keeps_seats.ensures.seats) g.N.Base.origin _ _
     c.print_all-so_far.result c.end_service-ended.result.1 c.end_service-ended.result.0.journal.items
     c.end_service-ended.result.0.seats.items c.end_service-ended.result.0.failure first told printed

@@ -41,7 +41,7 @@ loop-line-preserved g c =
           rw w.self-inside-is
           (making_goes (take i lines) old now _ line w.reply-reply.result before
           (is_its old.lines.seat line (at ∙ before.seat)) w.reply-reply.ensures.told w.reply-reply.ensures.same
-          w.reply-reply.ensures.fits w.push.ensures)
+          w.reply-reply.ensures.fits w.reply-reply.ensures.failed w.push.ensures)
       | else-line-seat w ↦
           let apart : line.seat ≢ c.loop-line.self-inside.lines.seat = search rules in
           rw w.self-inside-is
