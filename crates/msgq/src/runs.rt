@@ -15,8 +15,8 @@ use msgq_cli::{Command, Line, Output, Script};
 use page_device::PageDevice;
 use queue_model::{Call, Entry};
 use replays::{
-    Desk, FileKeys, Plan, Ran, Shared, at_desks, end_service, is_of_one_seat, leave_refused, prepare, print_all,
-    seats_of, tell_end,
+    Desk, FileKeys, Plan, Ran, Shared, at_desks, end_service, is_of_one_seat, leave_refused,
+    prepare, print_all, seats_of, tell_end,
 };
 use std::io::{Eprint, Write};
 use std::marker::Brand;

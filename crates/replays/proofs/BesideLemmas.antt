@@ -116,7 +116,8 @@ module _ (script : Parts) (made : List DeskView) (many : length made ≡ greates
       failure_at o used untold fault left replies ended own a.seat a.some a.few a.any
 
   -- and the whole of it
-  pub beside : All (IsWithin (greatest_seat script.lines)) script.lines → (o : Origin) (c : Effects) (ending so_far : Ending) (fault : Option ℕ) (journal : List Entry)
+  pub beside : All (IsWithin (greatest_seat script.lines)) script.lines → (o : Origin) (c : Effects)
+      (ending so_far : Ending) (fault : Option ℕ) (journal : List Entry)
       (seats : List Sitter) (failure : Option Failure) (honest : Bool) (first told : OutputState)
       (has_stopped lent used : Bool) → used ≡ (has_stopped || lent) →
       (list_any is_stop script.lines ≡ false → lent ≡ false) →

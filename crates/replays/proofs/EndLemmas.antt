@@ -42,9 +42,10 @@ Known fault given = Each (λ (x : Sitter). x.failed ≡ true → fault ≡ Some 
 wholes : (fault : Option ℕ) (journal : List Entry) (given seats : List Sitter) → seats ≡ given →
     Each (HasItsPart journal) seats → Parts fault journal given × Known fault given
 wholes fault journal given seats same each =
-    subst (λ (l : List Sitter). Parts fault journal l × Known fault l) same
-    ((λ place below. whole fault journal (slice_index_or seats place nobody) (each place below)),
-    (λ place below failed. unknown (each place below).unfailed failed))
+    subst (λ (l : List Sitter). Parts fault journal l × Known fault l) same (
+      (λ place below. whole fault journal (slice_index_or seats place nobody) (each place below)),
+      (λ place below failed. unknown (each place below).unfailed failed),
+    )
   where
     unknown : {P : Type 0} {b : Bool} → b ≡ false → b ≡ true → P
     unknown unfailed failed = absurd cc
@@ -52,9 +53,10 @@ wholes fault journal given seats same each =
 mosts : (journal : List Entry) (given seats : List Sitter) → seats ≡ given →
     Each (HasMostOfItsPart journal) seats → Parts (Some FAILED) journal given × Known (Some FAILED) given
 mosts journal given seats same each =
-    subst (λ (l : List Sitter). Parts (Some FAILED) journal l × Known (Some FAILED) l) same
-    ((λ place below. most journal (slice_index_or seats place nobody) (each place below)),
-    (λ place below failed. refl))
+    subst (λ (l : List Sitter). Parts (Some FAILED) journal l × Known (Some FAILED) l) same (
+      (λ place below. most journal (slice_index_or seats place nobody) (each place below)),
+      (λ place below failed. refl),
+    )
 
 -- ---- it is let go, or closed, or not closed well
 

@@ -70,7 +70,7 @@ making_goes taken old d e line reply m its told same fits knows lines =
           ∙ sym (entries_more more d.lines.replies line reply m.all)
           ∙ sym (ap (λ (l : List Line). entries_to l (d.lines.replies ++ reply ∷ [])) own)
           ∙ sym (ap (entries_to (lines_of old.lines.seat (taken ++ line ∷ []))) replies);
-      failed = λ is. elim any_more is_failure d.lines.replies reply (sym (ap (list_any is_failure) replies) ∙ is) [
+      failed = λ is. elim (any_more is_failure d.lines.replies reply (sym (ap (list_any is_failure) replies) ∙ is)) [
         | inl before ↦ same.failed (m.failed before)
         | inr now ↦ knows now
       ];

@@ -98,7 +98,8 @@ either_way false true = refl
 either_way false false = refl
 
 module _ (taken : List Line) (desks : List DeskView) (counts counts' : List ℕ)
-    (old now next : OutputState) (ending ending' : Ending) (stopped stopped' : Bool) (line : Line) (reply : Reply) (place : ℕ)
+    (old now next : OutputState) (ending ending' : Ending) (stopped stopped' : Bool) (line : Line) (reply : Reply)
+    (place : ℕ)
     (p : ArePrinting taken desks counts old now ending stopped) (at : line.seat ≡ place + 1)
     (below : place < length desks) (room : count_at counts place < length (desk_at desks place).lines.replies)
     (has : reply ≡ slice_index_or (desk_at desks place).lines.replies (count_at counts place) reply)

@@ -9,21 +9,24 @@ loop-line-init g c = printing_starts c.args.desks.now c.args.printed.now c.args.
 pub reply-reply-requires : goal.reply-reply-requires
 reply-reply-requires g c =
     room_there c.args.lines.now c.args.desks.now c.loop-line.printed c.args.output.now c.loop-line.output
-    c.loop-line.ending c.loop-line.has_stopped c.loop-line.line-index c.line-item.result c.index-desks-place.result c.requires.made
+    c.loop-line.ending c.loop-line.has_stopped c.loop-line.line-index c.line-item.result c.index-desks-place.result
+    c.requires.made
     c.loop-line.invariant c.loop-line-test.true c.line-item.is c.index-desks-place.is
 
 pub overflow_add-printed : goal.overflow_add-printed
 overflow_add-printed g c =
     let short : length c.args.lines.now < 18446744073709551616 = search rules in
     let more = counts_there c.args.lines.now c.args.desks.now c.loop-line.printed c.args.output.now c.loop-line.output
-    c.loop-line.ending c.loop-line.has_stopped c.loop-line.line-index c.line-item.result c.index-desks-place.result c.requires.made
+    c.loop-line.ending c.loop-line.has_stopped c.loop-line.line-index c.line-item.result c.index-desks-place.result
+    c.requires.made
     c.loop-line.invariant c.loop-line-test.true c.line-item.is c.index-desks-place.is short in
     search rules
 
 pub loop-line-preserved : goal.loop-line-preserved
 loop-line-preserved g c =
     printing_there c.args.lines.now c.args.desks.now c.loop-line.printed c.args.output.now c.loop-line.output
-    c.loop-line.ending c.loop-line.has_stopped c.loop-line.line-index c.line-item.result c.index-desks-place.result c.requires.made
+    c.loop-line.ending c.loop-line.has_stopped c.loop-line.line-index c.line-item.result c.index-desks-place.result
+    c.requires.made
     c.loop-line.invariant c.loop-line-test.true c.line-item.is c.index-desks-place.is c.print.new.output
     c.after-ending.result _ c.reply-reply.result.now c.reply-reply.ensures c.print.ensures c.after-ending.ensures
     ?
