@@ -1,5 +1,6 @@
 -- Lines that were replied as they may be.
 use Rattle.std.proofs.Common.{◌≡◌, ◌≤◌, ℕ, ◌+◌, Bool, true, false, inl, inr, ◌⊎◌, List, [], ◌∷◌, ◌++◌, ◌||◌, if◌then◌else◌, length, refl, sym, subst, arith}
+use Rattle.std.specs.Prelude.{◌==◌}
 use Rattle.std.specs.List.{All, list_any}
 use Rattle.std.proofs.lemmas.List.Elements.{All-head, All-tail}
 use Rattle.msgq_cli.specs.declared.command.Command.{Command}
@@ -20,6 +21,13 @@ call_fault calls.NoRoom = inl refl
 call_fault calls.NoMemory = inr (inl refl)
 call_fault calls.SessionFull = inr (inr (inl refl))
 call_fault calls.Failed = inr (inr (inr refl))
+
+-- 62 is that of a failure alone
+pub failed_alone : (fault : Fault) → (number_of fault == 62) ≡ true → fault ≡ calls.Failed
+failed_alone calls.NoRoom is = absurd cc
+failed_alone calls.NoMemory is = absurd cc
+failed_alone calls.SessionFull is = absurd cc
+failed_alone calls.Failed is = refl
 
 -- for want of memory each line may be refused
 pub refusal_fits : (command : Command) → Fits command (Failed 60)
