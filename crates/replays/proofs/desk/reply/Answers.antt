@@ -1,4 +1,4 @@
-use Rattle.std.proofs.Common.{◌≡◌, ℕ, true, sym, subst}
+use Rattle.std.proofs.Common.{◌≡◌, ◌∙◌, ℕ, true, Err, ap, sym, subst}
 use Rattle.std.specs.Prelude.{◌==◌}
 use Rattle.msgq_cli.specs.declared.command.Command.{Command}
 use Rattle.msgq_cli.specs.declared.reply.Reply.TheVariants.{Failed}
@@ -15,4 +15,6 @@ returns-in-Err-clause-fits g c =
 -- and the seat knows of a failure
 pub returns-in-Err-clause-failed : goal.returns-in-Err-clause-failed
 returns-in-Err-clause-failed g c =
-    λ is. c.in-Err.ensures.failed (failed_alone c.in-Err.fault (subst (λ (n : ℕ). (n == 62) ≡ true) c.number.ensures is))
+    λ is. c.call.ensures.failed
+    (c.in-Err.is
+    ∙ ap Err (failed_alone c.in-Err.fault (subst (λ (n : ℕ). (n == 62) ≡ true) c.number.ensures is)))
