@@ -1,5 +1,5 @@
 -- The entries of a seat's calls, as passes read them.
-use Rattle.std.proofs.Common.{◌≡◌, ◌≢◌, ◌≤◌, ℕ, zero, suc, Bool, true, false, List, [], ◌∷◌, length, refl, ap, ◌∙◌, arith}
+use Rattle.std.proofs.Common.{◌≡◌, ◌≢◌, ◌≤◌, ℕ, zero, suc, Bool, true, false, List, [], ◌∷◌, length, ◌+◌, refl, ap, ◌∙◌, arith}
 use Rattle.std.specs.Prelude.{filter, sum_by}
 use Rattle.std.proofs.lemmas.List.Sums.{sum_by-cons}
 use Rattle.std.proofs.Math.Path.{fun_ext}
@@ -50,6 +50,13 @@ pub calls_own : (seat : ℕ) (es : List Entry) → AreOf seat es → passes.call
 calls_own seat [] all = refl
 calls_own seat (Decided other call answer ∷ es) all = ap suc (calls_own seat es all.1)
 calls_own seat (Stopped ∷ es) all = let no : false ≡ true = all.0 in absurd cc
+
+-- each entry is a call or a stop
+pub calls_and_stops : (es : List Entry) →
+    length es ≡ passes.calls_in seat_of es + length (passes.part_of seat_of 0 es)
+calls_and_stops [] = refl
+calls_and_stops (Decided seat call answer ∷ es) = ap suc (calls_and_stops es)
+calls_and_stops (Stopped ∷ es) = let rest = calls_and_stops es in omega (arith, rest)
 
 pub calls_below : (es : List Entry) → passes.calls_in seat_of es ≤ length es
 calls_below [] = omega arith

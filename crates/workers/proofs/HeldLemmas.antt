@@ -2,9 +2,10 @@
 use Rattle.std.proofs.Common.{◌≡◌, ◌≢◌, ◌≤◌, ◌<◌, ℕ, zero, suc, ◌+◌, ◌-◌, Bool, true, false, ◌||◌, List, [], ◌∷◌, ◌++◌, length, Option, Some, None, refl, sym, ap, ◌∙◌, subst, arith, append-nil, length-append}
 use Rattle.std.specs.Prelude.{slice_index_or}
 use Rattle.interleaving_core.proofs.PartLemmas.{added_is_of}
-use Rattle.interleaving_core.proofs.PlaceLemmas.{at_other, at_same, length-with_call}
+use Rattle.interleaving_core.proofs.PlaceLemmas.{all_due, at_other, at_same, length-with_call}
 use Rattle.interleaving_core.proofs.TurnLemmas.{new_unanswered}
-use Rattle.interleaving_core.specs.Kernel.{IsWhole}
+use Rattle.interleaving_core.specs.Beginning.{IsFull}
+use Rattle.interleaving_core.specs.Kernel.{IsWhole, due_for_stop}
 use Rattle.interleaving_core.specs.Owing.{is_failure}
 use Rattle.interleaving_core.specs.declared.kernel.TheConstants.{MAX_DECIDED}
 use Rattle.interleavings.specs.Laws.{BeginsRefine, RefusalsRefine, StepsRefine, StepsRefineAndDo}
@@ -14,7 +15,7 @@ use Rattle.interleavings.specs.Words.{IsStep}
 use Rattle.page_locks.proofs.ChangeLemmas.{length-with_row}
 use Rattle.workers.proofs.PartLemmas.{calls_append, part_append}
 use Rattle.workers.proofs.DeviceLemmas.{device_by_turn, device_same}
-use Rattle.workers.proofs.EntryLemmas.{calls_below, calls_own, none_stops, part_of_other, part_of_own}
+use Rattle.workers.proofs.EntryLemmas.{calls_and_stops, calls_below, calls_own, none_stops, part_of_other, part_of_own}
 use Rattle.workers.specs.Rule.{IsChange, IsRight, moved}
 use Rattle.workers.specs.Views.{calls_in, no_place, part_of, place_at}
 use Rattle.workers.specs.Entries.{seat_of}
@@ -49,6 +50,13 @@ told_none seat None = refl
 told_none seat (Some call) = refl
 
 -- ---- a step
+
+-- what a seat was shown is no more than the journal has later
+grows : (a b c d : ℕ) → a ≤ b → c ≡ b + d → a ≤ c
+grows a b c d below is = omega arith
+
+pub stays_below : (a b c : ℕ) → a ≤ b → b ≡ c → a ≤ c
+stays_below a b c below is = omega arith
 
 or_stays : (a b c : Bool) → c ≡ (a || b) → a ≡ true → c ≡ true
 or_stays true b c is on = is
@@ -107,6 +115,9 @@ module _ {K : Type 0} (seat : ℕ) (did : Step) (old new : KernelState K)
         same = record {
           seat = refl;
           failed = λ e. or_stays old.failed (is_failure did) new.failed t.failed (right.failed e);
+          seen = grows x.seen (calls_in seat_of old.journal) (calls_in seat_of new.journal)
+              (calls_in seat_of t.run.added) right.seen
+              (ap (calls_in seat_of) t.run.journal ∙ calls_append seat_of old.journal t.run.added);
         };
         list = ap (λ (l : List Entry). x.list ++ l) (is
             ∙ ap (λ (c : Option Call). entry_of seat c (answer_told did)) call
@@ -233,7 +244,12 @@ module _ {K : Type 0} (seat : ℕ) (call : Call) (old new : KernelState K)
   begun_by : (x : Sitter) (told : List Entry) → x.seat ≡ seat → told ≡ [] → IsRight seat_of (known_of old) x →
       HasBegun call x (moved seat_of (known_of new) told x)
   begun_by x told at none right = record {
-    same = record { seat = refl; failed = λ e. ap (λ (k : KernelState K). k.failed) h.is ∙ right.failed e };
+    same = record {
+      seat = refl;
+      failed = λ e. ap (λ (k : KernelState K). k.failed) h.is ∙ right.failed e;
+      seen = stays_below x.seen (calls_in seat_of old.journal) (calls_in seat_of new.journal) right.seen
+          (sym (ap (λ (k : KernelState K). calls_in seat_of k.journal) h.is));
+    };
     list = ap (λ (l : List Entry). x.list ++ l) none ∙ append-nil x.list;
     under_way = ap (λ (p : Place Entry Call). p.call)
         (ap (place_at (known_of new).places) at ∙ place_is new.seats seat
@@ -333,29 +349,47 @@ module _ {K : Type 0} (seat : ℕ) (call : Call) (refusal : Call × BeginFault) 
   refused_at_desk at d known same =
       nothing_told seat d (known_of old) (known_of new) change_by_refusal at known same
 
-  -- its seat knows that a step has failed
-  pub is_turned_away : (fault : Fault) (d : Desk Entry Call) (x y : Sitter) → old.failed ≡ true → d ≡ known_of old →
+  -- its seat is shown why
+  pub is_turned_away : (many : ℕ) (fault : Fault) (d : Desk Entry Call) (x y : Sitter) →
+      (fault ≡ faults.Failed → old.failed ≡ true) →
+      (fault ≡ faults.SessionFull → MAX_DECIDED ≤ calls_in seat_of old.journal + many) → d ≡ known_of old →
       IsRight seat_of d x →
       y ≡ moved seat_of (known_of new) (entry_of x.seat (place_at d.places x.seat).call None) x →
-      IsTurnedAway fault x y
-  is_turned_away fault d x y broken known right now =
-      let failed : new.failed ≡ true = ap (λ (k : KernelState K). k.failed) refused.same ∙ broken in
-      subst (IsTurnedAway fault x) (sym now) record {
-        same = record { seat = refl; failed = λ _. failed };
+      IsTurnedAway many fault x y
+  is_turned_away many fault d x y broken full known right now =
+      let before : IsRight seat_of (known_of old) x = subst (λ (b : Desk Entry Call). IsRight seat_of b x) known right
+      in
+      let failed : new.failed ≡ old.failed = ap (λ (k : KernelState K). k.failed) refused.same in
+      let calls : calls_in seat_of old.journal ≡ calls_in seat_of new.journal =
+      counted_at_refusal (calls_in seat_of old.journal) refl in
+      subst (IsTurnedAway many fault x) (sym now) record {
+        same = record {
+          seat = refl;
+          failed = λ e. failed ∙ before.failed e;
+          seen = stays_below x.seen (calls_in seat_of old.journal) (calls_in seat_of new.journal) before.seen calls;
+        };
         list = ap (λ (l : List Entry). x.list ++ l) (told_none x.seat (place_at d.places x.seat).call)
             ∙ append-nil x.list;
         place = ap (λ (e : Desk Entry Call). place_at e.places x.seat) (known_at_refusal ∙ sym known) ∙ right.place;
-        failed = λ _. failed;
+        failed = λ is. failed ∙ broken is;
+        full = λ is. subst (λ (n : ℕ). MAX_DECIDED ≤ n + many) calls (full is);
       }
 
--- where none has, it is told nothing
-pub as_it_was : (fault : Fault) (x y : Sitter) → y ≡ x → fault ≢ faults.Failed → IsTurnedAway fault x y
-as_it_was fault x y same sound = subst (IsTurnedAway fault x) (sym same) record {
-  same = record { seat = refl; failed = λ e. e };
-  list = refl;
-  place = refl;
-  failed = λ broken. absurd (sound broken);
-}
+one_for_stop : (stopped : Bool) → due_for_stop stopped + once_if stopped ≡ 1
+one_for_stop true = refl
+one_for_stop false = refl
+
+-- a session is full where its calls, and one at each seat, are as many as it may decide
+pub full_by : {K : Type 0} (of_key : K → RecordKey → ℕ) (o : Origin) (k : KernelState K) (d : Desk Entry Call)
+    (count : ℕ) → IsHeld of_key o k d count → IsFull k →
+    MAX_DECIDED ≤ calls_in seat_of k.journal + length o.callers
+full_by of_key o k d count h full =
+    let due = all_due k.seats in
+    let seats = h.seats in
+    let parts = calls_and_stops k.journal in
+    let marked = h.marked in
+    let one = one_for_stop k.stopped in
+    omega (arith, full, due, seats, parts, marked, one)
 
 no_call : (at : Option ActiveView) → call_of at ≡ None → at ≡ None
 no_call None is = refl

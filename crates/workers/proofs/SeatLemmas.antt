@@ -1,5 +1,5 @@
 -- A seat in a call, and after it.
-use Rattle.std.proofs.Common.{◌≡◌, ◌≤◌, ◌<◌, ℕ, Bool, true, false, List, [], ◌∷◌, ◌++◌, Option, Some, None, refl, sym, ap, ◌∙◌, subst, append-nil}
+use Rattle.std.proofs.Common.{◌≡◌, ◌≤◌, ◌<◌, ℕ, Bool, true, false, List, [], ◌∷◌, ◌++◌, Option, Some, None, refl, sym, ap, ◌∙◌, subst, append-nil, arith}
 use Rattle.interleaving_core.specs.Owing.{is_end, is_failure}
 use Rattle.interleaving_core.specs.declared.fault.StepFault.{StepFault}
 use Rattle.interleaving_core.specs.declared.fault.StepFault.TheVariants as faults
@@ -27,10 +27,18 @@ pub record Stays (old x : Sitter) : Type 0 where
   pub call : x.place.call ≡ old.place.call
 
 pub stays_at_first : (x : Sitter) → Stays x x
-stays_at_first x = record { same = record { seat = refl; failed = λ e. e }; list = refl; call = refl }
+stays_at_first x = record {
+  same = record { seat = refl; failed = λ e. e; seen = omega arith };
+  list = refl;
+  call = refl;
+}
 
 same_after : (x y z : Sitter) → IsSameSeat x y → IsSameSeat y z → IsSameSeat x z
-same_after x y z first next = record { seat = next.seat ∙ first.seat; failed = λ e. next.failed (first.failed e) }
+same_after x y z first next = record {
+  seat = next.seat ∙ first.seat;
+  failed = λ e. next.failed (first.failed e);
+  seen = let a = first.seen in let b = next.seen in omega (arith, a, b);
+}
 
 module _ (old x : Sitter) (s : Stays old x) (did : Step) (y : Sitter) (t : IsTold did x y) where
   pub stays_on : is_end did ≡ false → answer_told did ≡ None → Stays old y
@@ -64,6 +72,7 @@ way_begins call many number filled room hand hand' old inside x s is same spare 
   same = record {
     seat = begun.same.seat ∙ ap (λ (y : Sitter). y.seat) is;
     failed = λ e. begun.same.failed (ap (λ (y : Sitter). y.failed) is ∙ e);
+    seen = subst (λ (y : Sitter). y.seen ≤ x.seen) is begun.same.seen;
   };
   at_hand = same ∙ sym s.list_is ∙ ap (λ (y : Sitter). y.list) is;
   list = begun.list ∙ ap (λ (y : Sitter). y.list) is;
@@ -73,16 +82,16 @@ way_begins call many number filled room hand hand' old inside x s is same spare 
 
 -- or it does not begin
 
-pub same_turned_away : (fault : Fault) (old inside x : Sitter) → inside ≡ old → IsTurnedAway fault inside x →
-    IsSameSeat old x
-same_turned_away fault old inside x is away = subst (λ (y : Sitter). IsSameSeat y x) is away.same
+pub same_turned_away : (many : ℕ) (fault : Fault) (old inside x : Sitter) → inside ≡ old →
+    IsTurnedAway many fault inside x → IsSameSeat old x
+same_turned_away many fault old inside x is away = subst (λ (y : Sitter). IsSameSeat y x) is away.same
 
-pub list_turned_away : (fault : Fault) (old inside x : Sitter) → inside ≡ old → IsTurnedAway fault inside x →
-    x.list ≡ old.list
-list_turned_away fault old inside x is away = away.list ∙ ap (λ (y : Sitter). y.list) is
+pub list_turned_away : (many : ℕ) (fault : Fault) (old inside x : Sitter) → inside ≡ old →
+    IsTurnedAway many fault inside x → x.list ≡ old.list
+list_turned_away many fault old inside x is away = away.list ∙ ap (λ (y : Sitter). y.list) is
 
 pub seated_turned_away : (many number : ℕ) (hand hand' : List Entry) (fault : Fault) (inside x : Sitter) →
-    IsSeated many number hand inside → hand' ≡ hand → IsTurnedAway fault inside x → IsSeated many number hand' x
+    IsSeated many number hand inside → hand' ≡ hand → IsTurnedAway many fault inside x → IsSeated many number hand' x
 seated_turned_away many number hand hand' fault inside x s same away = record {
   begun = subst (λ (n : ℕ). 1 ≤ n) (sym away.same.seat) s.begun;
   within = subst (λ (n : ℕ). n ≤ many) (sym away.same.seat) s.within;
@@ -114,6 +123,13 @@ pub told_failed : (fault : StepFault) (told : Fault) (x y : Sitter) → told ≡
 told_failed faults.NoRoom told x y is t broken =
     let no : ◌≡◌ {A = Fault} calls.NoRoom calls.Failed = sym is ∙ broken in absurd cc
 told_failed (faults.File fault) told x y is t broken = t.failed refl
+
+-- and none is told by a step that the session is full
+pub never_full : (fault : StepFault) (told : Fault) → told ≡ fault_of_step fault → told ≡ calls.SessionFull → ⊥
+never_full faults.NoRoom told is full =
+    let no : ◌≡◌ {A = Fault} calls.NoRoom calls.SessionFull = sym is ∙ full in absurd cc
+never_full (faults.File fault) told is full =
+    let no : ◌≡◌ {A = Fault} calls.Failed calls.SessionFull = sym is ∙ full in absurd cc
 
 pub same_fault : (a b : Fault) → ◌≡◌ {A = Unanswered} (unanswered.Fault a) (unanswered.Fault b) → a ≡ b
 same_fault a b same = cc

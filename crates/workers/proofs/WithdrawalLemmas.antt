@@ -5,7 +5,7 @@ use Rattle.interleaving_core.specs.Renewing.{IsWithdrawn}
 use Rattle.interleavings.specs.Moments.{once_if}
 use Rattle.interleavings.specs.Renewing.{WithdrawsRefine}
 use Rattle.workers.proofs.DeviceLemmas.{device_same}
-use Rattle.workers.proofs.HeldLemmas.{carried, nothing_told, place_is, told_none}
+use Rattle.workers.proofs.HeldLemmas.{carried, nothing_told, place_is, stays_below, told_none}
 use Rattle.workers.specs.Rule.{IsChange, IsRight, moved}
 use Rattle.workers.specs.Views.{calls_in, part_of, place_at}
 use Rattle.workers.specs.Entries.{seat_of}
@@ -60,6 +60,9 @@ module _ {K : Type 0} (seat : ℕ) (call : Call) (old new : KernelState K)
       seat = refl;
       failed = λ e. ap (λ (k : KernelState K). k.failed) w.is
           ∙ ap (λ (b : Desk Entry Call). b.failed) (sym known) ∙ right.failed e;
+      seen = stays_below x.seen (calls_in seat_of d.journal) (calls_in seat_of new.journal) right.seen
+          (ap (λ (b : Desk Entry Call). calls_in seat_of b.journal) known
+          ∙ sym (ap (λ (k : KernelState K). calls_in seat_of k.journal) w.is));
     };
     list = ap (λ (l : List Entry). x.list ++ l) (told_none x.seat (place_at d.places x.seat).call)
         ∙ append-nil x.list;

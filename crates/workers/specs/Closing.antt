@@ -121,13 +121,14 @@ pub record IsClosed (o : Origin) (given : List Sitter) (used : Bool) (left : Rem
   pub file : IsTrue o.honest → LeavesFile o left.journal left.content
   pub synced : IsTrue o.honest → IsTrue left.synced
 
--- nothing is closed, and all of it comes back; none of these seats was told of a failure
-pub record ComesBack (o : Origin) (given : List Sitter) (used : Bool) (seats : List Sitter) (stops : Bool) : Type 0
-  where
-    pub same : seats ≡ given
-    pub stopper : stops ≡ used
-    pub missing : HasMissing (length o.callers) given
-    pub unfailed : Each IsUnfailed given
+-- nothing is closed, and all of it comes back: no step has failed, and so none of these seats was told of a failure
+pub record ComesBack (o : Origin) (given : List Sitter) (used failed : Bool) (seats : List Sitter) (stops : Bool) :
+    Type 0 where
+  pub same : seats ≡ given
+  pub stopper : stops ≡ used
+  pub missing : HasMissing (length o.callers) given
+  pub sound : failed ≡ false
+  pub unfailed : Each IsUnfailed given
 
 -- the file was not written well, or a step has failed
 abbrev pub IsFaulted : CloseFault → Origin → (given : List Sitter) → (used : Bool) → (left : Remains) → Type 0
@@ -138,4 +139,5 @@ abbrev pub IsEndedWith : {D K G N : Type 0} → (Ended D N → Remains) → Orig
     Type 0
 IsEndedWith remains o given used (Closed ended) = IsClosed o given used (remains ended)
 IsEndedWith remains o given used (Fault ended fault) = IsFaulted fault o given used (remains ended)
-IsEndedWith remains o given used (Missing service seats stopper) = ComesBack o given used seats.items stopper.used
+IsEndedWith remains o given used (Missing unclosed seats stopper) =
+    ComesBack o given used unclosed seats.items stopper.used

@@ -1,11 +1,12 @@
 -- What a hold of the latch leaves of what a seat knows.
-use Rattle.std.specs.Prelude.{ℕ, ◌≡◌, ◌≤◌, ◌<◌, true, false, List, ◌++◌, Option, Some, None, ⊤}
+use Rattle.std.specs.Prelude.{ℕ, ◌≡◌, ◌≤◌, ◌<◌, ◌+◌, true, false, List, ◌++◌, Option, Some, None, ⊤}
 use Rattle.interleaving_core.specs.Owing.{is_end, is_failure}
+use Rattle.interleaving_core.specs.declared.kernel.TheConstants.{MAX_DECIDED}
 use Rattle.interleaving_core.specs.declared.step.Step.TheVariants as steps
 use Rattle.workers.specs.Views.{no_place}
 use Rattle.workers.specs.Words.{Call, Entry, Sitting, Step, answer_told, entry_of}
 use Rattle.workers.specs.declared.fault.Fault.{Fault}
-use Rattle.workers.specs.declared.fault.Fault.TheVariants.{Failed}
+use Rattle.workers.specs.declared.fault.Fault.TheVariants.{Failed, SessionFull}
 
 abbrev pub Sitter : Type 0
 Sitter = Sitting Entry Call
@@ -14,10 +15,11 @@ Sitter = Sitting Entry Call
 abbrev pub Rests : Sitter → Type 0
 Rests x = x.failed ≡ false → x.place ≡ no_place
 
--- the same seat, which does not forget a failure
+-- the same seat, which forgets neither a failure nor how many calls it was shown
 pub record IsSameSeat (old new : Sitter) : Type 0 where
   pub seat : new.seat ≡ old.seat
   pub failed : old.failed ≡ true → new.failed ≡ true
+  pub seen : old.seen ≤ new.seen
 
 -- a call begins
 pub record HasBegun (call : Call) (old new : Sitter) : Type 0 where
@@ -25,12 +27,17 @@ pub record HasBegun (call : Call) (old new : Sitter) : Type 0 where
   pub list : new.list ≡ old.list
   pub under_way : new.place.call ≡ Some call
 
--- or does not, and where a step has failed the seat knows it
-pub record IsTurnedAway (fault : Fault) (old new : Sitter) : Type 0 where
+-- the calls that it was shown, and one at each of so many seats, are as many as one session may decide
+abbrev pub SeesFull : ℕ → Sitter → Type 0
+SeesFull many x = MAX_DECIDED ≤ x.seen + many
+
+-- or does not: where a step has failed the seat knows it, and where the session is full it was shown that
+pub record IsTurnedAway (many : ℕ) (fault : Fault) (old new : Sitter) : Type 0 where
   pub same : IsSameSeat old new
   pub list : new.list ≡ old.list
   pub place : new.place ≡ old.place
   pub failed : fault ≡ Failed → new.failed ≡ true
+  pub full : fault ≡ SessionFull → SeesFull many new
 
 -- a step of its call
 pub record IsTold (did : Step) (old new : Sitter) : Type 0 where

@@ -12,6 +12,7 @@ use crate::pass::Room;
 use crate::seat::Seat;
 use crate::service::Service;
 use crate::stopper::Stopper;
+use crate::unclosed::Unclosed;
 use bucket_page::PseudoKey;
 use interleavings::interleaving_core::{CloseFault, Closed, Failure, NotClosed};
 use interleavings::{
@@ -19,7 +20,6 @@ use interleavings::{
 };
 use page_device::PageDevice;
 use queue_model::Entry;
-use std::sync::Mutex;
 
 /// What is left of a service that was closed.
 #[derive(Drop)]
@@ -43,7 +43,7 @@ pub enum Ending<D: PageDevice, K: PseudoKey, G: Gate, N: Room + Base> {
     /// written (20), and what was changed may be lost.
     Fault(Ended<D, N>, CloseFault),
     /// One of its seats is missing, and no step has failed (63). All of it comes back.
-    Missing(Service<D, K, G, N>, Vec<Seat<N>>, Stopper<N>),
+    Missing(Unclosed<D, K, G, N>, Vec<Seat<N>>, Stopper<N>),
 }
 
 impl<D: PageDevice + Drop, K: PseudoKey + Drop, G: Gate + Drop, N: Room + Base> Service<
@@ -73,14 +73,14 @@ impl<D: PageDevice + Drop, K: PseudoKey + Drop, G: Gate + Drop, N: Room + Base> 
         let mut stopper = stopper;
         compare_all(&gauge, &mut held.pass, &mut seats);
         if is_missing(held.kernel.has_failed(), seats.as_slice(), many) {
-            let service = Service {
+            let unclosed = Unclosed {
                 gate,
-                latch: Mutex::new(held),
+                held,
                 signals,
                 gauge,
                 seats: many,
             };
-            return Ending::Missing(service, seats, stopper);
+            return Ending::Missing(unclosed, seats, stopper);
         }
         stopper.compare(&gauge, &mut held.pass);
         let Held {

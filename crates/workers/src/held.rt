@@ -66,39 +66,25 @@ impl<D: PageDevice + Drop, K: PseudoKey + Drop, N: Room + Base> Held<D, K, N> {
         requires within { (1 ≤ seat) × (seat ≤ length N.origin.callers) }
         requires rests { Rests pass.old }
         ensures ok { IfOk result (λ _. HasBegun call pass.old pass.new) }
-        ensures err { IfErr result (λ fault. IsTurnedAway fault pass.old pass.new) }
+        ensures err { IfErr result (λ fault.
+            IsTurnedAway (length N.origin.callers) fault pass.old pass.new) }
     {
         begins_refine::<K>();
         refusals_refine::<K>();
         let did = Step::Idle;
         match self.kernel.begin(seat, call) {
             Ok(()) => {
-                tell::<Brand, D, K, N>(
-                    gauge,
-                    &mut self.pass,
-                    pass,
-                    self.count,
-                    &self.kernel,
-                    &did,
-                );
+                tell::<Brand, D, K, N>(gauge, &mut self.pass, pass, self.count, &self.kernel, &did);
                 Ok(())
             }
-            Err((_, BeginFault::Failed)) => {
-                tell::<Brand, D, K, N>(
-                    gauge,
-                    &mut self.pass,
-                    pass,
-                    self.count,
-                    &self.kernel,
-                    &did,
-                );
-                Err(Fault::Failed)
-            }
-            Err((_, BeginFault::SessionFull)) => Err(Fault::SessionFull),
-            Err((_, BeginFault::NoMemory)) => Err(Fault::NoMemory),
-            Err((_, BeginFault::Busy)) => {
-                gauge.compare(&mut self.pass, pass);
-                unreachable!()
+            Err((_, fault)) => {
+                tell::<Brand, D, K, N>(gauge, &mut self.pass, pass, self.count, &self.kernel, &did);
+                match fault {
+                    BeginFault::Failed => Err(Fault::Failed),
+                    BeginFault::SessionFull => Err(Fault::SessionFull),
+                    BeginFault::NoMemory => Err(Fault::NoMemory),
+                    BeginFault::Busy => unreachable!(),
+                }
             }
         }
     }
@@ -115,14 +101,7 @@ impl<D: PageDevice + Drop, K: PseudoKey + Drop, N: Room + Base> Held<D, K, N> {
         let did = self.kernel.step(seat);
         self.kernel.is_whole();
         self.count += (self.kernel.journal().len() - before) as u64;
-        tell::<Brand, D, K, N>(
-            gauge,
-            &mut self.pass,
-            pass,
-            self.count,
-            &self.kernel,
-            &did,
-        );
+        tell::<Brand, D, K, N>(gauge, &mut self.pass, pass, self.count, &self.kernel, &did);
         did
     }
 
@@ -205,14 +184,7 @@ impl<D: PageDevice + Drop, K: PseudoKey + Drop, N: Room + Base> Held<D, K, N> {
             return None;
         };
         let did = Step::Idle;
-        tell::<Brand, D, K, N>(
-            gauge,
-            &mut self.pass,
-            pass,
-            self.count,
-            &self.kernel,
-            &did,
-        );
+        tell::<Brand, D, K, N>(gauge, &mut self.pass, pass, self.count, &self.kernel, &did);
         Some(call)
     }
 

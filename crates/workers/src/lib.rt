@@ -20,6 +20,7 @@ mod service;
 mod sleepers;
 mod stopper;
 mod unanswered;
+mod unclosed;
 mod view;
 mod waits;
 
@@ -37,4 +38,5 @@ pub use seat::Seat;
 pub use service::Service;
 pub use stopper::Stopper;
 pub use unanswered::Unanswered;
+pub use unclosed::Unclosed;
 pub use view::{Desk, Place, Sitting, View};

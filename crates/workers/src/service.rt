@@ -2,7 +2,7 @@
 
 ghost use Rattle.std.specs.Prelude.{◌≡◌, ◌≤◌, ◌∷◌, ◌++◌, [], IfErr, IfOk, IsErrOf, OnErr, length, true};
 ghost use Rattle.queue_model.specs.declared.entry.Entry.TheVariants.{Decided};
-ghost use Rattle.workers.specs.Told.{GoesOn, HasBegun, IsSameSeat, IsTold, IsTurnedAway, Rests};
+ghost use Rattle.workers.specs.Told.{GoesOn, HasBegun, IsSameSeat, IsTold, IsTurnedAway, Rests, SeesFull};
 ghost use Rattle.workers.specs.Unanswered.{MayReturn};
 
 use crate::draft::Draft;
@@ -61,6 +61,8 @@ impl<D: PageDevice + Drop, K: PseudoKey + Drop, G: Gate, N: Room + Base> Service
             seat.new.list ≡ seat.old.list ++ Decided seat.old.seat call answer ∷ []) }
         ensures err { OnErr result (seat.new.list ≡ seat.old.list) }
         ensures failed { IsErrOf result Fault.Failed → seat.new.failed ≡ true }
+        ensures full { IsErrOf result Fault.SessionFull →
+            SeesFull (length N.origin.callers) seat.new }
         ensures same { IsSameSeat seat.old seat.new }
     {
         let Ok(draft) = Draft::of(&mut seat.list, &call) else {
@@ -115,6 +117,8 @@ impl<D: PageDevice + Drop, K: PseudoKey + Drop, G: Gate, N: Room + Base> Service
         ensures err { OnErr result (seat.new.list ≡ seat.old.list) }
         ensures failed { IsErrOf result (Unanswered.Fault Fault.Failed) →
             seat.new.failed ≡ true }
+        ensures full { IsErrOf result (Unanswered.Fault Fault.SessionFull) →
+            SeesFull (length N.origin.callers) seat.new }
         ensures same { IsSameSeat seat.old seat.new }
     {
         let limit = Limit::new(rt, limit);
@@ -197,7 +201,8 @@ impl<D: PageDevice + Drop, K: PseudoKey + Drop, G: Gate, N: Room + Base> Service
         requires within { (1 ≤ number) × (number ≤ length N.origin.callers) }
         requires rests { Rests pass.old }
         ensures ok { IfOk result (λ _. HasBegun call pass.old pass.new) }
-        ensures err { IfErr result (λ fault. IsTurnedAway fault pass.old pass.new) }
+        ensures err { IfErr result (λ fault.
+            IsTurnedAway (length N.origin.callers) fault pass.old pass.new) }
     {
         let mut held = self.hold(rt);
         let begun = held.begin(&self.gauge, pass, number, call);

@@ -112,10 +112,10 @@ fn come_back<D: PageDevice + Drop, G: Gate + Drop, N: Room + Base>(
         return Err(Fail::from("a service has seats"));
     };
     match service.close(seats, stopper) {
-        Ending::Missing(service, back, stopper) => {
+        Ending::Missing(unclosed, back, stopper) => {
             let mut seats = back;
             seats.push(last)?;
-            Ok((service, seats, stopper))
+            Ok((unclosed.reopen(), seats, stopper))
         }
         _ => Err(Fail::from("it is closed though a seat is missing")),
     }

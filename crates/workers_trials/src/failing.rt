@@ -24,13 +24,17 @@ const MESSAGES: u32 = 40;
 /// The calls: two make the queue, and each message is sent and received.
 const ENTRIES: usize = 82;
 
+/// The first transfer that is made to fail: one of the last of the 352 by which the file is checked.
+const FIRST: u64 = 345;
+
 /// More transfers than one run makes.
 const MOST_TRANSFERS: u64 = 100_000;
 
 /// A device one of whose transfers fails.
 type Faulty = FaultyDevice<MemDevice>;
 
-/// 40 messages are received once all have been sent; each transfer fails in turn.
+/// 40 messages are received once all have been sent; each transfer fails in turn, from the last of
+/// the check on.
 #[test]
 fn calls_in_turn_are_answered_or_told_that_a_step_has_failed(rt: HostRuntime) -> Result<(), Fail> {
     let alloc = rt.alloc();
@@ -100,7 +104,8 @@ enum Run {
     Failed,
 }
 
-/// Plays a plan again and again, each time with a transfer failed that is so much later, until none is.
+/// Plays a plan again and again, each time with a transfer failed that is so much later, until none
+/// is.
 fn fail_each<R: Threads + Wait + Clock + Sync>(
     rt: &R,
     alloc: Global,
@@ -108,7 +113,7 @@ fn fail_each<R: Threads + Wait + Clock + Sync>(
     later: u64,
 ) -> Result<(), Fail> {
     let mut file = new_file(alloc, 352)?;
-    let mut nth: u64 = 1;
+    let mut nth: u64 = FIRST;
     for _ in 0..MOST_TRANSFERS {
         let device = FaultyDevice::new(copy_of(alloc, &mut file)?, nth);
         if fail(rt, alloc, device, plan)? == Run::Well {

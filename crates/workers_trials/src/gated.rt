@@ -94,8 +94,10 @@ fn a_receive_is_answered_while_a_send_is_held(rt: HostRuntime) -> Result<(), Fai
         )
     );
     assert!(rt; is_told(left.journal.as_slice(), 3, &[info(7, 7168, 0, 0)]));
-    assert!(rt; kinds.into_inner().as_slice()
-            == moved_kinds(alloc, before(alloc)?, long(alloc)?)?.as_slice());
+    assert!(rt;
+        kinds.into_inner().as_slice()
+            == moved_kinds(alloc, before(alloc)?, long(alloc)?)?.as_slice()
+    );
     Ok(())
 }
 

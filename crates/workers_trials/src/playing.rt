@@ -137,8 +137,7 @@ fn play_rounds<
     service: &Shared<D, G, N>,
     players: Vec<Player<N>>,
     plan: &Plan<'_>,
-) -> Result<Vec<Player<N>>, Fail>
-{
+) -> Result<Vec<Player<N>>, Fail> {
     let mut players = players;
     if let Some(first) = players.first_mut() {
         for call in &plan.before {
@@ -162,8 +161,7 @@ fn play_round<
     service: &Shared<D, G, N>,
     players: Vec<Player<N>>,
     plan: &Plan<'_>,
-) -> Result<Vec<Player<N>>, Fail>
-{
+) -> Result<Vec<Player<N>>, Fail> {
     let scripts = plan.scripts.as_slice();
     Ok(thread::map_vec(
         rt,
@@ -178,8 +176,7 @@ fn play_script<D: PageDevice + Drop, G: Gate, N: Room + Base, R: Wait + Clock>(
     service: &Shared<D, G, N>,
     player: Player<N>,
     scripts: &[Vec<Deed<'_>>],
-) -> Player<N>
-{
+) -> Player<N> {
     let mut player = player;
     let place = usize::from(player.seat.number()).saturating_sub(1);
     if let Some(script) = scripts.get(place) {

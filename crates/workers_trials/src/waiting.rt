@@ -6,7 +6,7 @@ use crate::files::{new_file, prepared, prepared_on};
 use crate::plain::is_told;
 use crate::playing::{Deed, Plan, play};
 use page_device::MemDevice;
-use queue_model::{Answer, Errno};
+use queue_model::{Answer, Entry, Errno};
 use std::alloc::Global;
 use std::test::Fail;
 use std::time::Duration;
@@ -16,7 +16,10 @@ use workers::Open;
 const ROUNDS: u32 = 200;
 
 /// How often a system is stopped, each time on a service of its own.
-const STOPS: u32 = 50;
+const STOPS: u32 = 8;
+
+/// How many seats wait for a message then.
+const WAITING: u8 = 7;
 
 /// A limit of time, in seconds, in which each trial ends.
 const LONG: u64 = 3600;
@@ -70,22 +73,45 @@ fn of_rounds(alloc: Global) -> Result<(Vec<Answer>, Vec<Answer>), Fail> {
     Ok((first, second))
 }
 
-/// A Receive of an empty queue and a stop: whichever comes first, the Receive is refused.
+/// Receives of an empty queue at seven seats, and a stop at the eighth: whichever comes first, each
+/// Receive is refused.
 #[test]
 fn a_receive_is_refused_once_the_system_is_stopped(rt: HostRuntime) -> Result<(), Fail> {
     let alloc = rt.alloc();
-    let plan = each(alloc, Deed::Call(receive(1, 10)), Deed::Stop, 1)?;
+    let plan = Plan {
+        before: Vec::from_array(alloc, [get(7)])?,
+        scripts: receives_and_a_stop(alloc)?,
+        rounds: 1,
+        end: End::Closed,
+    };
     let mut device = new_file(alloc, 258)?;
     for _ in 0..STOPS {
-        let left = play(&rt, alloc, prepared_on(alloc, device, 2)?, Open, &plan)?;
-        assert!(rt;
-            is_told(
-                left.journal.as_slice(),
-                1,
-                &[Answer::Id(1), Answer::Refused(Errno::EINTR)]
-            )
-        );
+        let left = play(
+            &rt,
+            alloc,
+            prepared_on(alloc, device, WAITING + 1)?,
+            Open,
+            &plan,
+        )?;
+        assert!(rt; are_refused(left.journal.as_slice()));
         device = left.device;
     }
     Ok(())
+}
+
+/// What the seats do then.
+fn receives_and_a_stop(alloc: Global) -> Result<Vec<Vec<Deed<'static>>>, Fail> {
+    let mut scripts = Vec::new(alloc);
+    for _ in 0..WAITING {
+        scripts.push(Vec::from_array(alloc, [Deed::Call(receive(1, 10))])?)?;
+    }
+    scripts.push(Vec::from_array(alloc, [Deed::Stop])?)?;
+    Ok(scripts)
+}
+
+/// Whether the queue was made at seat 1, and then a Receive was refused at each.
+fn are_refused(journal: &[Entry]) -> bool {
+    let refused = Answer::Refused(Errno::EINTR);
+    is_told(journal, 1, &[Answer::Id(1), refused])
+        && (2..=WAITING).all(|seat| is_told(journal, seat, &[Answer::Refused(Errno::EINTR)]))
 }

@@ -17,6 +17,7 @@ returns-then-is_missing g c =
       stopper = refl;
       missing = subst (λ l. HasMissing (length g.N.Base.origin.callers) l)
           (c.as_slice.ensures.value ∙ c.compare_all.ensures.seats) away.1;
+      sound = sym c.has_failed.ensures ∙ away.0;
       unfailed = none_failed _ _ _ _ _ _ c.held.invariant.held c.compare_all.ensures.beside
           (sym c.has_failed.ensures ∙ away.0);
     }
