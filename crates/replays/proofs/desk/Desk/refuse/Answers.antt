@@ -45,9 +45,8 @@ loop-line-preserved g c =
           (making_goes (take i lines) old now _ line (Failed 60) before
           (is_its old.lines.seat line (at ∙ before.seat))
           (sym (append-nil now.sitter.list) ∙ ap (λ (l : List Entry). now.sitter.list ++ l)
-          (sym (no_entry line 60))) (record { seat = refl; failed = λ is. is }) (refusal_fits line.command)
-          (λ is. absurd cc)
-          w.push.ensures)
+          (sym (no_entry line 60))) (record { seat = refl; failed = λ is. is; seen = omega arith })
+          (refusal_fits line.command) (λ is. absurd cc) w.push.ensures)
       | else-line-seat w ↦
           let apart : line.seat ≢ c.loop-line.self-inside.lines.seat = search rules in
           rw w.self-inside-is
