@@ -8,7 +8,9 @@ use Rattle.interleavings.specs.interleaving_core.declared.fault.CloseFault.{Clos
 use Rattle.interleavings.specs.interleaving_core.declared.fault.CloseFault.TheVariants as closes
 use Rattle.interleavings.specs.interleaving_core.declared.fault.Failure.{Failure}
 use Rattle.queue_model.specs.declared.entry.Entry.{Entry}
-use Rattle.workers.specs.Views.{nobody}
+use Rattle.workers.proofs.EntryLemmas.{calls_below}
+use Rattle.workers.specs.Entries.{seat_of}
+use Rattle.workers.specs.Views.{calls_in, nobody}
 use Rattle.workers.specs.Closing.{Each, HasItsPart, HasMostOfItsPart, IsClosed, IsFaulted, IsLetGo, Remains}
 use Rattle.workers.specs.Origins.{Origin}
 use Rattle.workers.specs.Told.{Sitter}
@@ -36,26 +38,37 @@ most journal x its = record {
 abbrev Parts : Option ℕ → List Entry → List Sitter → Type 0
 Parts fault journal given = Each (λ (x : Sitter). IsPart fault journal x.seat x.list) given
 
-abbrev Known : Option ℕ → List Sitter → Type 0
-Known fault given = Each (λ (x : Sitter). x.failed ≡ true → fault ≡ Some FAILED) given
+-- what each seat knows is told, and stands in the journal
+record Known (fault : Option ℕ) (journal : List Entry) (given : List Sitter) : Type 0 where
+  pub failed : Each (λ (x : Sitter). x.failed ≡ true → fault ≡ Some FAILED) given
+  pub shown : Each (λ (x : Sitter). x.seen ≤ length journal) given
+
+seen_by : (journal : List Entry) (x : Sitter) → x.seen ≤ calls_in seat_of journal → x.seen ≤ length journal
+seen_by journal x shown = let few = calls_below journal in omega (arith, shown, few)
 
 wholes : (fault : Option ℕ) (journal : List Entry) (given seats : List Sitter) → seats ≡ given →
-    Each (HasItsPart journal) seats → Parts fault journal given × Known fault given
+    Each (HasItsPart journal) seats → Parts fault journal given × Known fault journal given
 wholes fault journal given seats same each =
-    subst (λ (l : List Sitter). Parts fault journal l × Known fault l) same (
+    subst (λ (l : List Sitter). Parts fault journal l × Known fault journal l) same (
       (λ place below. whole fault journal (slice_index_or seats place nobody) (each place below)),
-      (λ place below failed. unknown (each place below).unfailed failed),
+      record {
+        failed = λ place below failed. unknown (each place below).unfailed failed;
+        shown = λ place below. seen_by journal (slice_index_or seats place nobody) (each place below).shown;
+      },
     )
   where
     unknown : {P : Type 0} {b : Bool} → b ≡ false → b ≡ true → P
     unknown unfailed failed = absurd cc
 
 mosts : (journal : List Entry) (given seats : List Sitter) → seats ≡ given →
-    Each (HasMostOfItsPart journal) seats → Parts (Some FAILED) journal given × Known (Some FAILED) given
+    Each (HasMostOfItsPart journal) seats → Parts (Some FAILED) journal given × Known (Some FAILED) journal given
 mosts journal given seats same each =
-    subst (λ (l : List Sitter). Parts (Some FAILED) journal l × Known (Some FAILED) l) same (
+    subst (λ (l : List Sitter). Parts (Some FAILED) journal l × Known (Some FAILED) journal l) same (
       (λ place below. most journal (slice_index_or seats place nobody) (each place below)),
-      (λ place below failed. refl),
+      record {
+        failed = λ place below failed. refl;
+        shown = λ place below. seen_by journal (slice_index_or seats place nobody) (each place below).shown;
+      },
     )
 
 -- ---- it is let go, or closed, or not closed well
@@ -68,7 +81,7 @@ none_told n is = absurd cc
 
 module _ (o : Origin) (given : List Sitter) (used : Bool) (left : Remains) where
   let_go : (untold : Bool) (fault : Option ℕ) → IsLetGo o given used left →
-      Parts fault left.journal given × Known fault given → (untold ≡ false → fault ≡ None → ⊥) →
+      Parts fault left.journal given × Known fault left.journal given → (untold ≡ false → fault ≡ None → ⊥) →
       ((n : ℕ) → fault ≡ Some n → (n ≡ FAILED) × (left.failure ≢ None)) → HasEnded o given used untold fault left
   let_go untold fault g parts never only = record {
     plain = g.ended.plain;
@@ -79,7 +92,8 @@ module _ (o : Origin) (given : List Sitter) (used : Bool) (left : Remains) where
     synced = λ told none honest. absurd (never told none);
     before = λ either framed. g.before framed;
     number = λ n is. inr (only n is).0;
-    failed = parts.1;
+    failed = parts.1.failed;
+    shown = parts.1.shown;
     reason = record {
       device = λ is. let no = (only DEVICE is).0 in absurd (omega (arith, no));
       step = λ honest is. g.cause honest (only FAILED is).1;
@@ -108,7 +122,8 @@ module _ (o : Origin) (given : List Sitter) (used : Bool) (left : Remains) where
         synced = λ told none honest. e.synced honest;
         before = λ either framed. elim either [ inl is ↦ absurd cc | inr is ↦ none_told FAILED is ];
         number = λ n is. none_told n is;
-        failed = parts.1;
+        failed = parts.1.failed;
+        shown = parts.1.shown;
         reason = record { device = λ is. none_told DEVICE is; step = λ honest is. none_told FAILED is };
       }
 
@@ -125,7 +140,8 @@ module _ (o : Origin) (given : List Sitter) (used : Bool) (left : Remains) where
         synced = λ told none honest. absurd cc;
         before = λ either framed. elim either [ inl is ↦ absurd cc | inr is ↦ no_step is ];
         number = λ n is. inl (sym (same_number _ _ is));
-        failed = parts.1;
+        failed = parts.1.failed;
+        shown = parts.1.shown;
         reason = record { device = λ is. e.cause; step = λ honest is. no_step is };
       }
     where

@@ -29,6 +29,13 @@ failed_alone calls.NoMemory is = absurd cc
 failed_alone calls.SessionFull is = absurd cc
 failed_alone calls.Failed is = refl
 
+-- and 61 that of a full session
+pub full_alone : (fault : Fault) → (number_of fault == 61) ≡ true → fault ≡ calls.SessionFull
+full_alone calls.NoRoom is = absurd cc
+full_alone calls.NoMemory is = absurd cc
+full_alone calls.SessionFull is = refl
+full_alone calls.Failed is = absurd cc
+
 -- for want of memory each line may be refused
 pub refusal_fits : (command : Command) → Fits command (Failed 60)
 refusal_fits commands.Stop = refl

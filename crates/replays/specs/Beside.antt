@@ -1,8 +1,9 @@
 -- A script whose seats made their lines beside one another, on the file of a device. docs/SCRIPTS.md, "Runs".
-use Rattle.std.specs.Prelude.{ℕ, ◌≡◌, ◌≢◌, ◌⊎◌, ◌≤◌, ◌==◌, Bool, true, false, IsTrue, List, [], ◌++◌, length, Option, Some, None, Result, Ok, Err}
+use Rattle.std.specs.Prelude.{ℕ, ◌≡◌, ◌≢◌, ◌⊎◌, ◌≤◌, ◌+◌, ◌==◌, Bool, true, false, IsTrue, List, [], ◌++◌, length, Option, Some, None, Result, Ok, Err}
 use Rattle.std.specs.List.{list_all, list_any}
 use Rattle.numbers.specs.declared.faults.TheConstants.{DEVICE, FAILED, NO_MEMORY}
 use Rattle.page_device.specs.Device.{HasRisen}
+use Rattle.interleavings.specs.interleaving_core.declared.kernel.TheConstants.{MAX_DECIDED}
 use Rattle.bucket_page.specs.Pseudokeys.{sha_key}
 use Rattle.msgq_cli.specs.Outputs.{OutputState, Prints}
 use Rattle.msgq_cli.specs.Runs.{ending_of, printed}
@@ -22,7 +23,7 @@ use Rattle.replays.specs.declared.serving.TheConstants.{MEMORY_PAGES}
 use Rattle.workers.specs.Closing.{Each, IsMarked, Remains}
 use Rattle.workers.specs.Origins.{HasFrames, IsJournalOf, LeavesFile, Origin}
 use Rattle.workers.specs.Told.{Sitter}
-use Rattle.replays.specs.Lines.{AreFitting, Marks, entries_to, is_failure, lines_of, replies_to}
+use Rattle.replays.specs.Lines.{AreFitting, Marks, entries_to, is_failure, is_session_full, lines_of, replies_to}
 
 -- ---- what is told
 
@@ -66,6 +67,8 @@ pub record HasEnded (o : Origin) (given : List Sitter) (used untold : Bool) (fau
   pub number : (n : ℕ) → fault ≡ Some n → (n ≡ DEVICE) ⊎ (n ≡ FAILED)
   -- a seat that knows of a failure makes it told
   pub failed : Each (λ (x : Sitter). x.failed ≡ true → fault ≡ Some FAILED) given
+  -- no seat was shown more calls than the journal has entries
+  pub shown : Each (λ (x : Sitter). x.seen ≤ length left.journal) given
   pub reason : HasReason o.honest o.faults left.faults fault
 
 -- ---- a run
@@ -111,6 +114,8 @@ pub record RunsBeside (script : Parts) (o : Origin) (c : Effects) (ending : Endi
   pub number : (n : ℕ) → fault ≡ Some n → (n ≡ DEVICE) ⊎ (n ≡ FAILED)
   -- a line is replied 62 only where that is told
   pub failed : list_any is_failure replies ≡ true → fault ≡ Some FAILED
+  -- and 61 only where the entries, and one call at each seat, are as many as a session decides
+  pub full : list_any is_session_full replies ≡ true → MAX_DECIDED ≤ length journal + greatest_seat script.lines
   pub reason : HasReason o.honest c.was c.faults fault
   pub ends : EndsWith fault told (ending_of replies) c.new ending
 

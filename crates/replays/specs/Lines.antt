@@ -47,6 +47,12 @@ is_failure (Answered answer) = false
 is_failure Stopped = false
 is_failure (Failed fault) = fault == FAILED
 
+-- or that the session is full
+abbrev pub is_session_full : Reply → Bool
+is_session_full (Answered answer) = false
+is_session_full Stopped = false
+is_session_full (Failed fault) = fault == SESSION_FULL
+
 -- or that a stop is made
 abbrev pub is_stopped : Reply → Bool
 is_stopped (Answered answer) = false

@@ -4,8 +4,8 @@ ghost use Rattle.std.specs.Prelude.{◌≡◌, ◌<◌, ◌≤◌, ℕ, ◌++◌
 ghost use Rattle.replays.specs.Journal.{entry_at};
 ghost use Rattle.workers.specs.Views.{nobody};
 ghost use Rattle.replays.specs.Desks.{ArePaired, DeskView, IsFresh, IsMadeOf, lines_at};
-ghost use Rattle.replays.specs.Lines.{Fits, is_failure};
-ghost use Rattle.workers.specs.Told.{IsSameSeat};
+ghost use Rattle.replays.specs.Lines.{Fits, is_failure, is_session_full};
+ghost use Rattle.workers.specs.Told.{IsSameSeat, SeesFull};
 
 use crate::seat_lines::SeatLines;
 use crate::waiter::{Shared, Waiter};
@@ -56,7 +56,7 @@ impl<'s, N: Room + Base> Desk<'s, N> {
         stopper: Option<&Mutex<Stopper<N>>>,
     )
         requires fresh { IsFresh self.old }
-        ensures made { IsMadeOf self.old self.new }
+        ensures made { IsMadeOf (length N.origin.callers) self.old self.new }
     {
         for line in self.lines.script() {
             if line.seat == self.lines.seat() {
@@ -69,7 +69,7 @@ impl<'s, N: Room + Base> Desk<'s, N> {
     /// Makes none of its lines: each is replied 60.
     pub fn refuse(&mut self)
         requires fresh { IsFresh self.old }
-        ensures made { IsMadeOf self.old self.new }
+        ensures made { IsMadeOf (length N.origin.callers) self.old self.new }
     {
         for line in self.lines.script() {
             if line.seat == self.lines.seat() {
@@ -132,6 +132,7 @@ fn reply<C: Waiter, D: PageDevice + Drop, N: Room + Base>(
     ensures told { seat.new.list ≡ seat.old.list ++ entry_at line.now (Some result) }
     ensures fits { Fits line.now.command result }
     ensures failed { is_failure result ≡ true → seat.new.failed ≡ true }
+    ensures full { is_session_full result ≡ true → SeesFull (length N.origin.callers) seat.new }
     ensures same { IsSameSeat seat.old seat.new }
 {
     let call = match &line.command {

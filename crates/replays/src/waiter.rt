@@ -1,8 +1,8 @@
 //! Who waits for answers. This crate starts no thread and waits for none: the program does.
 
-ghost use Rattle.std.specs.Prelude.{◌≡◌, ◌∷◌, ◌++◌, [], IfOk, IsErrOf, OnErr, true};
+ghost use Rattle.std.specs.Prelude.{◌≡◌, ◌∷◌, ◌++◌, [], IfOk, IsErrOf, OnErr, length, true};
 ghost use Rattle.queue_model.specs.declared.entry.Entry.TheVariants.{Decided};
-ghost use Rattle.workers.specs.Told.{IsSameSeat};
+ghost use Rattle.workers.specs.Told.{IsSameSeat, SeesFull};
 
 use crate::opening::FileKeys;
 use page_device::PageDevice;
@@ -26,6 +26,8 @@ pub trait Waiter {
             seat.new.list ≡ seat.old.list ++ Decided seat.old.seat call answer ∷ []) }
         ensures err { OnErr result (seat.new.list ≡ seat.old.list) }
         ensures failed { IsErrOf result Fault.Failed → seat.new.failed ≡ true }
+        ensures full { IsErrOf result Fault.SessionFull →
+            SeesFull (length N.origin.callers) seat.new }
         ensures same { IsSameSeat seat.old seat.new };
 
     /// As `Service::stop`, by a stopper that the seats share.

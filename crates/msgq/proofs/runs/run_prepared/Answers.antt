@@ -79,7 +79,7 @@ print_all-so_far-requires-clause-made g c =
     c.at_desks-desks.ensures in
     rw c.lines.ensures
     (rw c.as_slice.ensures.value
-    (of_seats _ _ _ _ c.requires.plan.seats paired _ c.make_lines-desks.ensures.made
+    (of_seats _ _ _ _ c.requires.plan.seats paired _ _ c.make_lines-desks.ensures.made
     (seats_within c.args.plan.script.now.lines c.keeps_seats.ensures.seats)))
 
 pub print_all-so_far-requires-clause-none : goal.print_all-so_far-requires-clause-none
@@ -87,7 +87,7 @@ print_all-so_far-requires-clause-none g c =
     let new = c.in-Ok-start.ensures.seats ∙ ap newcomers c.requires.many in
     let paired = subst (λ (l : List Sitter). ArePaired l c.args.plan.seats.items c.at_desks-desks.result.items) new
     c.at_desks-desks.ensures in
-    let many = many_made _ _ _ _ c.requires.plan.seats paired _ c.make_lines-desks.ensures.made in
+    let many = many_made _ _ _ _ c.requires.plan.seats paired _ _ c.make_lines-desks.ensures.made in
     c.as_mut_slice.ensures.value ∙ c.requires.plan.printed
     ∙ ap (λ (n : ℕ). replicate n 0) (sym (ap length c.as_slice.ensures.value ∙ many))
 
@@ -96,7 +96,7 @@ seats_of-requires-clause-room g c =
     let new = c.in-Ok-start.ensures.seats ∙ ap newcomers c.requires.many in
     let paired = subst (λ (l : List Sitter). ArePaired l c.args.plan.seats.items c.at_desks-desks.result.items) new
     c.at_desks-desks.ensures in
-    let made = many_made _ _ _ _ c.requires.plan.seats paired _ c.make_lines-desks.ensures.made in
+    let made = many_made _ _ _ _ c.requires.plan.seats paired _ _ c.make_lines-desks.ensures.made in
     let cap = c.in-Ok-with_capacity.ensures.capacity in
     let lines = c.requires.plan.seats.as_many in
     let many = c.len-many.ensures in
@@ -111,7 +111,7 @@ end_service-ended-requires g c =
     c.at_desks-desks.ensures in
     let callers = sym (ap (λ (o : Origin). length o.callers) c.requires.origin) ∙ c.requires.many in
     record {
-      all = λ missing. all_back _ _ _ _ c.requires.plan.seats paired _ c.make_lines-desks.ensures.made
+      all = λ missing. all_back _ _ _ _ c.requires.plan.seats paired _ _ c.make_lines-desks.ensures.made
           (subst (λ (n : ℕ). HasMissing n (sitters c.make_lines-desks.result.0.items)) callers
           (subst (λ (l : List Sitter). HasMissing (length g.N.Base.origin.callers) l) c.seats_of.ensures missing));
     }
@@ -121,8 +121,8 @@ returns-clause-ran g c =
     let new = c.in-Ok-start.ensures.seats ∙ ap newcomers c.requires.many in
     let paired = subst (λ (l : List Sitter). ArePaired l c.args.plan.seats.items c.at_desks-desks.result.items) new
     c.at_desks-desks.ensures in
-    let made = many_made _ _ _ _ c.requires.plan.seats paired _ c.make_lines-desks.ensures.made in
-    let done = done_at _ _ _ _ c.requires.plan.seats paired _ c.make_lines-desks.ensures.made in
+    let made = many_made _ _ _ _ c.requires.plan.seats paired _ _ c.make_lines-desks.ensures.made in
+    let done = done_at _ _ _ _ c.requires.plan.seats paired _ _ c.make_lines-desks.ensures.made in
     let told = c.flush.new.self in
     let first = c.print_all-so_far.new.output in
     let stopped = c.print_all-so_far.result.1 in
@@ -136,10 +136,11 @@ returns-clause-ran g c =
     c.end_service-ended.result.0)) c.seats_of.ensures c.end_service-ended.ensures in
     let pages = sym (ap (λ (o : Origin). o.content) c.requires.origin) in
     let framed = subst HasFrames c.requires.origin c.requires.frames in
+    let callers = sym (ap (λ (o : Origin). length o.callers) c.requires.origin) ∙ c.requires.many in
     let unused = λ none. c.make_lines-desks.ensures.none (ap (list_any is_stop) c.lines.ensures ∙ none)
     ∙ c.in-Ok-start.ensures.stopper in
     λ was before. from_origin _ _ (counted_from was g.N.Base.origin) _ _ (ap (counted_from was) c.requires.origin)
-    (beside c.args.plan.script.now c.make_lines-desks.result.0.items made done
+    (beside c.args.plan.script.now c.make_lines-desks.result.0.items made _ callers done
     (seats_within c.args.plan.script.now.lines c.keeps_seats.ensures.seats) g.N.Base.origin _ _
     c.print_all-so_far.result.0 c.end_service-ended.result.1 c.end_service-ended.result.0.journal.items
     c.end_service-ended.result.0.seats.items c.end_service-ended.result.0.failure _ first told stopped

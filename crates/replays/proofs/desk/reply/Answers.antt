@@ -3,7 +3,7 @@ use Rattle.std.specs.Prelude.{◌==◌}
 use Rattle.msgq_cli.specs.declared.command.Command.{Command}
 use Rattle.msgq_cli.specs.declared.reply.Reply.TheVariants.{Failed}
 use Rattle.replays.specs.Lines.{Fits, IsOfCall}
-use Rattle.replays.proofs.FitLemmas.{call_fault, failed_alone}
+use Rattle.replays.proofs.FitLemmas.{call_fault, failed_alone, full_alone}
 use Rattle.replays.proofs.desk.reply.Goals as goal
 
 -- a fault of a call is one of four
@@ -18,3 +18,9 @@ returns-in-Err-clause-failed g c =
     λ is. c.call.ensures.failed
     (c.in-Err.is
     ∙ ap Err (failed_alone c.in-Err.fault (subst (λ (n : ℕ). (n == 62) ≡ true) c.number.ensures is)))
+
+-- or that the session is full
+pub returns-in-Err-clause-full : goal.returns-in-Err-clause-full
+returns-in-Err-clause-full g c =
+    λ is. c.call.ensures.full
+    (c.in-Err.is ∙ ap Err (full_alone c.in-Err.fault (subst (λ (n : ℕ). (n == 61) ≡ true) c.number.ensures is)))
