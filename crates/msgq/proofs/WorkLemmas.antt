@@ -81,72 +81,74 @@ module _ (R : DeskView → DeskView → Type 0) (all left : List DeskView) (coun
 
 -- ---- desks that were made
 
-as_many : (old new : List DeskView) → AllZip IsMadeOf old new → length new ≡ length old
-as_many [] [] made = refl
-as_many [] (e ∷ es) made = absurd made
-as_many (d ∷ ds) [] made = absurd made
-as_many (d ∷ ds) (e ∷ es) made = ap suc (as_many ds es made.1)
+-- at one of so many desks
+module _ (many : ℕ) where
+  as_many : (old new : List DeskView) → AllZip (IsMadeOf many) old new → length new ≡ length old
+  as_many [] [] made = refl
+  as_many [] (e ∷ es) made = absurd made
+  as_many (d ∷ ds) [] made = absurd made
+  as_many (d ∷ ds) (e ∷ es) made = ap suc (as_many ds es made.1)
 
-each : (old new : List DeskView) → AllZip IsMadeOf old new → (place : ℕ) → place < length old →
-    IsMadeOf (desk_at old place) (desk_at new place)
-each [] [] made place below = absurd (omega arith)
-each [] (e ∷ es) made place below = absurd made
-each (d ∷ ds) [] made place below = absurd made
-each (d ∷ ds) (e ∷ es) made zero below = made.0
-each (d ∷ ds) (e ∷ es) made (suc place) below = each ds es made.1 place (omega arith)
+  each : (old new : List DeskView) → AllZip (IsMadeOf many) old new → (place : ℕ) → place < length old →
+      IsMadeOf many (desk_at old place) (desk_at new place)
+  each [] [] made place below = absurd (omega arith)
+  each [] (e ∷ es) made place below = absurd made
+  each (d ∷ ds) [] made place below = absurd made
+  each (d ∷ ds) (e ∷ es) made zero below = made.0
+  each (d ∷ ds) (e ∷ es) made (suc place) below = each ds es made.1 place (omega arith)
 
-pub all_made : (old new : List DeskView) → AllZip IsMadeOf old new → AreMade old new
-all_made old new made = record { as_many = as_many old new made; each = each old new made }
+  pub all_made : (old new : List DeskView) → AllZip (IsMadeOf many) old new → AreMade many old new
+  all_made old new made = record { as_many = as_many old new made; each = each old new made }
 
--- ---- desks none of which makes its lines
+  -- ---- desks none of which makes its lines
 
--- those before a place were refused, and nobody has begun at the others
-pub record IsRefusing (old now : List DeskView) (count : ℕ) : Type 0 where
-  pub as_many : length now ≡ length old
-  pub refused : (place : ℕ) → place < count → place < length old → IsMadeOf (desk_at old place) (desk_at now place)
-  pub left : (place : ℕ) → count ≤ place → desk_at now place ≡ desk_at old place
+  -- those before a place were refused, and nobody has begun at the others
+  pub record IsRefusing (old now : List DeskView) (count : ℕ) : Type 0 where
+    pub as_many : length now ≡ length old
+    pub refused : (place : ℕ) → place < count → place < length old → IsMadeOf many (desk_at old place) (desk_at now place)
+    pub left : (place : ℕ) → count ≤ place → desk_at now place ≡ desk_at old place
 
-pub refusing_starts : (old : List DeskView) → IsRefusing old old 0
-refusing_starts old = record {
-  as_many = refl;
-  refused = λ place none. absurd (omega (arith, none));
-  left = λ place behind. refl;
-}
-
-pub refusing_ends : (old now : List DeskView) (count : ℕ) → IsRefusing old now count → length old ≤ count →
-    AreMade old now
-refusing_ends old now count r all = record {
-  as_many = r.as_many;
-  each = λ place below. r.refused place (omega (arith, all, below)) below;
-}
-
-module _ (old now : List DeskView) (count : ℕ) (r : IsRefusing old now count) where
-  pub refusing_fresh : count < length old → AreUntouched old → IsFresh (desk_at now count)
-  refusing_fresh below untouched =
-      let not_less : count ≤ count = omega arith in
-      subst IsFresh (sym (r.left count not_less)) (untouched count below)
-
-  pub refusing_goes : (d : DeskView) → count < length old → IsMadeOf (desk_at now count) d →
-      IsRefusing old (slice_set now count d) (count + 1)
-  refusing_goes d below made = record {
-    as_many = length-set now count d ∙ r.as_many;
-    refused = λ place before here. by place before here (cases_eq place count);
-    left = λ place behind.
-        let apart : place ≢ count = omega (arith, behind) in
-        get_or-set_other now count place d no_desk apart ∙ r.left place (omega (arith, behind));
+  pub refusing_starts : (old : List DeskView) → IsRefusing old old 0
+  refusing_starts old = record {
+    as_many = refl;
+    refused = λ place none. absurd (omega (arith, none));
+    left = λ place behind. refl;
   }
-    where
-      by : (place : ℕ) → place < count + 1 → place < length old → (place ≡ count) ⊎ (place ≢ count) →
-          IsMadeOf (desk_at old place) (desk_at (slice_set now count d) place)
-      by place before here (inl same) =
-          let as_many = r.as_many in
-          let not_less : count ≤ count = omega arith in
-          let its : desk_at (slice_set now count d) place ≡ d =
-          ap (λ (n : ℕ). desk_at (slice_set now count d) n) same
-          ∙ get_or-set_same now count d no_desk (omega (arith, as_many, below)) in
-          let was : desk_at now count ≡ desk_at old place =
-          r.left count not_less ∙ ap (λ (n : ℕ). desk_at old n) (sym same) in
-          subst (IsMadeOf (desk_at old place)) (sym its) (subst (λ (x : DeskView). IsMadeOf x d) was made)
-      by place before here (inr apart) =
-          subst (IsMadeOf (desk_at old place)) (sym (get_or-set_other now count place d no_desk apart))
-          (r.refused place (omega (arith, before, apart)) here)
+
+  pub refusing_ends : (old now : List DeskView) (count : ℕ) → IsRefusing old now count → length old ≤ count →
+      AreMade many old now
+  refusing_ends old now count r all = record {
+    as_many = r.as_many;
+    each = λ place below. r.refused place (omega (arith, all, below)) below;
+  }
+
+  module _ (old now : List DeskView) (count : ℕ) (r : IsRefusing old now count) where
+    pub refusing_fresh : count < length old → AreUntouched old → IsFresh (desk_at now count)
+    refusing_fresh below untouched =
+        let not_less : count ≤ count = omega arith in
+        subst IsFresh (sym (r.left count not_less)) (untouched count below)
+
+    pub refusing_goes : (d : DeskView) → count < length old → IsMadeOf many (desk_at now count) d →
+        IsRefusing old (slice_set now count d) (count + 1)
+    refusing_goes d below made = record {
+      as_many = length-set now count d ∙ r.as_many;
+      refused = λ place before here. by place before here (cases_eq place count);
+      left = λ place behind.
+          let apart : place ≢ count = omega (arith, behind) in
+          get_or-set_other now count place d no_desk apart ∙ r.left place (omega (arith, behind));
+    }
+      where
+        by : (place : ℕ) → place < count + 1 → place < length old → (place ≡ count) ⊎ (place ≢ count) →
+            IsMadeOf many (desk_at old place) (desk_at (slice_set now count d) place)
+        by place before here (inl same) =
+            let as_many = r.as_many in
+            let not_less : count ≤ count = omega arith in
+            let its : desk_at (slice_set now count d) place ≡ d =
+            ap (λ (n : ℕ). desk_at (slice_set now count d) n) same
+            ∙ get_or-set_same now count d no_desk (omega (arith, as_many, below)) in
+            let was : desk_at now count ≡ desk_at old place =
+            r.left count not_less ∙ ap (λ (n : ℕ). desk_at old n) (sym same) in
+            subst (IsMadeOf many (desk_at old place)) (sym its) (subst (λ (x : DeskView). IsMadeOf many x d) was made)
+        by place before here (inr apart) =
+            subst (IsMadeOf many (desk_at old place)) (sym (get_or-set_other now count place d no_desk apart))
+            (r.refused place (omega (arith, before, apart)) here)

@@ -1,6 +1,6 @@
 //! The threads of a script's seats.
 
-ghost use Rattle.std.specs.Prelude.{◌≡◌};
+ghost use Rattle.std.specs.Prelude.{◌≡◌, length};
 ghost use Rattle.std.specs.Thread.{IsSend, IsSync};
 ghost use Rattle.replays.specs.Desks.{AreMade, AreUntouched, IsFresh, IsMadeOf};
 
@@ -11,13 +11,13 @@ use std::alloc::Global;
 use std::io::Eprint;
 use std::marker::Model;
 use std::snapshot::Snapshot;
-use std::sync::Wait;
 use std::sync::atomic::AtomicU64;
 use std::sync::atomic::Ordering::SeqCst;
+use std::sync::{Mutex, Wait};
 use std::thread;
 use std::thread::{Promise, PromisedHandle, Scope, SpawnError, Threads};
 use std::time::{Clock, Duration};
-use workers::{Base, Fault, GaugePass, Room, Seat};
+use workers::{Base, Fault, GaugePass, Room, Seat, Stopper};
 
 /// Milliseconds between two looks whether all threads are done, where that is shown.
 const BETWEEN_LOOKS: u64 = 10;
@@ -44,6 +44,11 @@ impl<'a, R> ThreadASeat<'a, R> {
         }
     }
 
+    /// Their handle.
+    pub fn rt(&self) -> &'a R {
+        self.rt
+    }
+
     /// Where memory is taken.
     pub fn alloc(&self) -> Global {
         self.alloc
@@ -60,14 +65,20 @@ impl<R: Wait> Waiter for ThreadASeat<'_, R> {
         service.call(self.rt, seat, call)
     }
 
-    fn stop<D: PageDevice + Drop, N: Room + Base>(&self, service: &Shared<D, N>) {
-        service.stop(self.rt);
+    fn stop<D: PageDevice + Drop, N: Room + Base>(
+        &self,
+        service: &Shared<D, N>,
+        stopper: &Mutex<Stopper<N>>,
+    ) {
+        let mut stopper = stopper.lock(self.rt);
+        service.stop(self.rt, &mut stopper);
     }
 }
 
 /// Has each desk make its lines in a thread of its own, beside the others, and waits until all
-/// have. The lines of a desk for which no thread can be started are each replied 60. How many calls
-/// were decided so far is seen by the pass, if there is one.
+/// have, with a stopper where one of the lines is a `stop`. The lines of a desk for which no thread
+/// can be started are each replied 60. How many calls were decided so far is seen by the pass, if
+/// there is one.
 pub fn make_all<
     's,
     R: Threads + Wait + Clock + Eprint + Sync,
@@ -76,15 +87,17 @@ pub fn make_all<
 >(
     crew: &ThreadASeat<'_, R>,
     service: &Shared<D, N>,
+    stopper: Option<&Mutex<Stopper<N>>>,
     gauge: Option<GaugePass<Entry, Call, N>>,
     desks: Vec<Desk<'s, N>>,
 ) -> Vec<Desk<'s, N>>
     requires fresh { AreUntouched desks.items }
-    ensures made { AreMade desks.entry.items result.items }
+    ensures made { AreMade (length N.origin.callers) desks.entry.items result.items }
 {
     let team = Team {
         crew,
         service,
+        stopper,
         refused: AtomicU64::new(0),
         left: AtomicU64::new(desks.len() as u64),
     };
@@ -95,7 +108,7 @@ pub fn make_all<
         move |scope| -> Vec<Desk<N>>
             requires { IsSync R.row × IsSend D.row × IsSend N.row × IsSync N.row
                 × AreUntouched desks.items }
-            ensures { AreMade desks.entry.items result.items }
+            ensures { AreMade (length N.origin.callers) desks.entry.items result.items }
         { make_in(scope, team, gauge, desks) },
     )
 }
@@ -105,6 +118,7 @@ pub fn make_all<
 struct Team<'e, R, D: PageDevice, N: Room + Base> {
     crew: &'e ThreadASeat<'e, R>,
     service: &'e Shared<D, N>,
+    stopper: Option<&'e Mutex<Stopper<N>>>,
     /// The seat for which no thread could be started.
     refused: AtomicU64,
     /// How many are not done.
@@ -118,9 +132,10 @@ struct Makes<'s, N: Room + Base> {
 }
 
 impl<'s, N: Room + Base> Promise<Desk<'s, N>> for Makes<'s, N> {
+    ghost use Rattle.std.specs.Prelude.{length};
     ghost use Rattle.replays.specs.Desks.{IsMadeOf};
 
-    ghost kept_by = { λ p d. IsMadeOf p.desk.value d };
+    ghost kept_by = { λ p d. IsMadeOf (length N.origin.callers) p.desk.value d };
 }
 
 /// What becomes of a desk: a thread makes its lines, or none could be started and they are refused.
@@ -132,7 +147,7 @@ struct Work<'s, N: Room + Base> {
 }
 
 impl<'s, N: Room + Base> Model for Work<'s, N> {
-    ghost use Rattle.std.specs.Prelude.{◌≡◌, IfErr, IfOk};
+    ghost use Rattle.std.specs.Prelude.{◌≡◌, IfErr, IfOk, length};
     ghost use Rattle.replays.specs.Desks.{DeskView, IsMadeOf};
 
     ghost Value = { DeskView };
@@ -141,7 +156,7 @@ impl<'s, N: Room + Base> Model for Work<'s, N> {
 
     ghost invariant = { λ w.
         IfOk w.made (λ thread. thread.promise.desk.value ≡ w.desk.value)
-        × IfErr w.made (IsMadeOf w.desk.value) };
+        × IfErr w.made (IsMadeOf (length N.origin.callers) w.desk.value) };
 }
 
 /// Has each desk make its lines in a thread of this scope, and waits until all have.
@@ -159,7 +174,7 @@ fn make_in<
     desks: Vec<Desk<'s, N>>,
 ) -> Vec<Desk<'s, N>>
     requires { AreUntouched desks.items }
-    ensures { AreMade desks.entry.items result.items }
+    ensures { AreMade (length N.origin.callers) desks.entry.items result.items }
 {
     let Ok(mut works) = Vec::with_capacity(team.crew.alloc, desks.len()) else {
         return refuse_all(desks);
@@ -199,13 +214,13 @@ fn start<
     let seat = u64::from(desk.number());
     let work = move || -> Desk<N>
         requires { IsFresh desk }
-        ensures { IsMadeOf desk.entry result }
+        ensures { IsMadeOf (length N.origin.callers) desk.entry result }
     {
         let mut desk = desk;
         if team.refused.load(SeqCst) == seat {
             desk.refuse();
         } else {
-            desk.make(team.crew, team.service);
+            desk.make(team.crew, team.service, team.stopper);
         }
         team.left.fetch_sub(1, SeqCst);
         desk
@@ -225,7 +240,7 @@ fn end<'s, R: Threads, D: PageDevice, N: Room + Base>(
     team: &Team<R, D, N>,
     work: Work<'s, N>,
 ) -> Desk<'s, N>
-    ensures { IsMadeOf work.entry result }
+    ensures { IsMadeOf (length N.origin.callers) work.entry result }
 {
     let Work { desk: _, made } = work;
     match made {
@@ -237,7 +252,7 @@ fn end<'s, R: Threads, D: PageDevice, N: Room + Base>(
 /// No desk makes its lines.
 fn refuse_all<'s, N: Room + Base>(desks: Vec<Desk<'s, N>>) -> Vec<Desk<'s, N>>
     requires { AreUntouched desks.items }
-    ensures { AreMade desks.entry.items result.items }
+    ensures { AreMade (length N.origin.callers) desks.entry.items result.items }
 {
     let mut desks = desks;
     for place in 0..desks.len() {

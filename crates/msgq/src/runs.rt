@@ -1,26 +1,29 @@
 //! Scripts run on the file of a device, a thread a seat.
 
-ghost use Rattle.std.specs.Prelude.{◌≡◌, ◌≤◌, ℕ, length, true};
+ghost use Rattle.std.specs.Prelude.{◌≡◌, ◌≤◌, ◌||◌, ℕ, false, length};
+ghost use Rattle.std.specs.List.{list_any};
 ghost use Rattle.bucket_page.specs.Pseudokeys.{sha_key};
 ghost use Rattle.msgq_cli.specs.Scripts.{greatest_seat};
 ghost use Rattle.replays.specs.Beside.{RunsFrom, RunsScriptOn, counted_from};
-ghost use Rattle.replays.specs.Desks.{IsPlanOf};
-ghost use Rattle.workers.specs.Opening.{HasFrames, origin_of};
+ghost use Rattle.replays.specs.Desks.{AreMade, AreUntouched, IsPlanOf};
+ghost use Rattle.replays.specs.Lines.{is_stop};
+ghost use Rattle.workers.specs.Opening.{origin_of};
 
 use crate::crew::{ThreadASeat, make_all};
 use interleaving_core::OpenFault;
-use msgq_cli::{Output, Script};
+use msgq_cli::{Command, Line, Output, Script};
 use page_device::PageDevice;
+use queue_model::{Call, Entry};
 use replays::{
-    FileKeys, Plan, Ran, at_desks, end_service, is_of_one_seat, leave_refused, prepare, print_all,
-    seats_of, tell_end,
+    Desk, FileKeys, Plan, Ran, Shared, at_desks, end_service, is_of_one_seat, leave_refused,
+    prepare, print_all, seats_of, tell_end,
 };
 use std::io::{Eprint, Write};
 use std::marker::Brand;
-use std::sync::Wait;
+use std::sync::{Mutex, Wait};
 use std::thread::Threads;
 use std::time::Clock;
-use workers::{Base, Open, Prepared, Room};
+use workers::{Base, GaugePass, Open, Prepared, Room, Stopper};
 
 /// Runs a script on the file of a device, the lines of each seat in a thread of its own, and closes
 /// the file once all answers were handed on.
@@ -46,7 +49,7 @@ pub fn run_on<
     D: PageDevice + Drop + Send,
     W: Write + Drop,
 >(crew: &ThreadASeat<'_, R>, device: D, script: &Script, output: &mut Output<W>) -> Ran<D>
-    ensures { RunsScriptOn script.now (D.is_honest device)
+    ensures ran { RunsScriptOn script.now (D.is_honest device)
         (record {
           content = D.content device;
           left = D.content result.device;
@@ -57,6 +60,7 @@ pub fn run_on<
           new = output.new;
           untold = result.is_untold;
         }) result.ending }
+    ensures same { D.is_honest result.device ≡ D.is_honest device }
 {
     let alloc = crew.alloc();
     if is_of_one_seat(script) {
@@ -84,12 +88,12 @@ fn run_prepared<
     output: &mut Output<W>,
 ) -> Ran<D>
     requires table { prepared.table ≡ N.table }
-    requires origin { origin_of (λ _. sha_key) true prepared ≡ N.origin }
-    requires frames { HasFrames prepared }
+    requires origin { origin_of (λ _. sha_key) prepared ≡ N.origin }
+    requires frames { length prepared.content ≤ prepared.frames }
     requires many { length prepared.callers ≡ greatest_seat plan.script.now.lines }
     requires plan { IsPlanOf plan.script.now plan }
-    ensures { (was : ℕ) → was ≤ prepared.faults → RunsFrom plan.entry.script.now
-        (counted_from was (origin_of (λ _. sha_key) true prepared))
+    ensures ran { (was : ℕ) → was ≤ prepared.faults → RunsFrom plan.entry.script.now
+        (counted_from was (origin_of (λ _. sha_key) prepared))
         (record {
           content = prepared.content;
           left = D.content result.device;
@@ -100,6 +104,7 @@ fn run_prepared<
           new = output.new;
           untold = result.is_untold;
         }) result.ending }
+    ensures same { D.is_honest result.device ≡ prepared.honest }
 {
     let alloc = crew.alloc();
     let many = plan.seats.len();
@@ -127,8 +132,15 @@ fn run_prepared<
     } = plan;
     script.keeps_seats();
     let desks = at_desks(started.seats, seats, desks);
-    let desks = make_all(crew, &started.service, gauge, desks);
-    let so_far = print_all(
+    let (desks, lent) = make_lines(
+        crew,
+        &started.service,
+        started.stopper,
+        gauge,
+        desks,
+        script.lines(),
+    );
+    let (so_far, has_stopped) = print_all(
         script.lines(),
         desks.as_slice(),
         printed.as_mut_slice(),
@@ -136,7 +148,8 @@ fn run_prepared<
     );
     output.flush();
     let is_untold = output.has_refused();
-    let (ended, fault) = end_service(started.service, seats_of(desks, back), is_untold);
+    let stopper = stop_if(crew, &started.service, lent, has_stopped);
+    let (ended, fault) = end_service(started.service, seats_of(desks, back), stopper, is_untold);
     let ending = tell_end(fault, so_far, output);
     Ran {
         device: ended.device,
@@ -144,4 +157,56 @@ fn run_prepared<
         is_untold,
         ending,
     }
+}
+
+/// Has each desk make its lines, with the stopper where one of the lines is a `stop`. No other line
+/// stops the system.
+fn make_lines<
+    's,
+    N: Room + Base + Send + Sync,
+    R: Threads + Wait + Clock + Eprint + Sync,
+    D: PageDevice + Drop + Send,
+>(
+    crew: &ThreadASeat<'_, R>,
+    service: &Shared<D, N>,
+    stopper: Stopper<N>,
+    gauge: Option<GaugePass<Entry, Call, N>>,
+    desks: Vec<Desk<'s, N>>,
+    lines: &[Line],
+) -> (Vec<Desk<'s, N>>, Stopper<N>)
+    requires fresh { AreUntouched desks.items }
+    ensures made { AreMade (length N.origin.callers) desks.entry.items
+        result.0.items }
+    ensures none { list_any is_stop lines.now ≡ false → result.1.used ≡ stopper.used }
+{
+    if !lines.iter().any(is_stop) {
+        return (make_all(crew, service, None, gauge, desks), stopper);
+    }
+    let shared = Mutex::new(stopper);
+    let desks = make_all(crew, service, Some(&shared), gauge, desks);
+    (desks, shared.into_inner())
+}
+
+/// Whether a line is a `stop`.
+fn is_stop(line: &Line) -> bool
+    ensures { result ≡ is_stop line.now }
+{
+    matches!(line.command, Command::Stop)
+}
+
+/// Where a line was replied that a stop is made the stopper was used: so it is now, whether or not a
+/// seat has used it.
+fn stop_if<N: Room + Base, R: Wait, D: PageDevice + Drop>(
+    crew: &ThreadASeat<'_, R>,
+    service: &Shared<D, N>,
+    stopper: Stopper<N>,
+    has_stopped: bool,
+) -> Stopper<N>
+    ensures { result.used ≡ (has_stopped || stopper.used) }
+{
+    let mut stopper = stopper;
+    if has_stopped {
+        service.stop(crew.rt(), &mut stopper);
+    }
+    stopper
 }

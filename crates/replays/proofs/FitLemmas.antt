@@ -1,6 +1,7 @@
 -- Lines that were replied as they may be.
-use Rattle.std.proofs.Common.{◌≡◌, ◌≤◌, ℕ, ◌+◌, Bool, true, false, inl, inr, List, [], ◌∷◌, ◌++◌, if◌then◌else◌, length, refl, subst, arith}
-use Rattle.std.specs.List.{All}
+use Rattle.std.proofs.Common.{◌≡◌, ◌≤◌, ℕ, ◌+◌, Bool, true, false, inl, inr, ◌⊎◌, List, [], ◌∷◌, ◌++◌, ◌||◌, if◌then◌else◌, length, refl, sym, subst, arith}
+use Rattle.std.specs.Prelude.{◌==◌}
+use Rattle.std.specs.List.{All, list_any}
 use Rattle.std.proofs.lemmas.List.Elements.{All-head, All-tail}
 use Rattle.msgq_cli.specs.declared.command.Command.{Command}
 use Rattle.msgq_cli.specs.declared.command.Command.TheVariants as commands
@@ -21,6 +22,20 @@ call_fault calls.NoMemory = inr (inl refl)
 call_fault calls.SessionFull = inr (inr (inl refl))
 call_fault calls.Failed = inr (inr (inr refl))
 
+-- 62 is that of a failure alone
+pub failed_alone : (fault : Fault) → (number_of fault == 62) ≡ true → fault ≡ calls.Failed
+failed_alone calls.NoRoom is = absurd cc
+failed_alone calls.NoMemory is = absurd cc
+failed_alone calls.SessionFull is = absurd cc
+failed_alone calls.Failed is = refl
+
+-- and 61 that of a full session
+pub full_alone : (fault : Fault) → (number_of fault == 61) ≡ true → fault ≡ calls.SessionFull
+full_alone calls.NoRoom is = absurd cc
+full_alone calls.NoMemory is = absurd cc
+full_alone calls.SessionFull is = refl
+full_alone calls.Failed is = absurd cc
+
 -- for want of memory each line may be refused
 pub refusal_fits : (command : Command) → Fits command (Failed 60)
 refusal_fits commands.Stop = refl
@@ -34,6 +49,23 @@ fits_more [] (r ∷ rs) line reply same so_far fits = absurd (omega arith)
 fits_more (l ∷ ls) [] line reply same so_far fits = absurd (omega arith)
 fits_more (l ∷ ls) (r ∷ rs) line reply same so_far fits =
     (so_far.0, fits_more ls rs line reply (omega arith) so_far.1 fits)
+
+-- ---- one of the replies
+
+pub any_more : (P : Reply → Bool) (replies : List Reply) (reply : Reply) →
+    list_any P (replies ++ reply ∷ []) ≡ true → (list_any P replies ≡ true) ⊎ (P reply ≡ true)
+any_more P [] reply is = by (P reply) is
+  where
+    by : (b : Bool) → (b || false) ≡ true → (false ≡ true) ⊎ (b ≡ true)
+    by true is = inr refl
+    by false is = absurd cc
+any_more P (r ∷ rs) reply is = by (P r) is (any_more P rs reply)
+  where
+    by : (b : Bool) → (b || list_any P (rs ++ reply ∷ [])) ≡ true →
+        (list_any P (rs ++ reply ∷ []) ≡ true → (list_any P rs ≡ true) ⊎ (P reply ≡ true)) →
+        ((b || list_any P rs) ≡ true) ⊎ (P reply ≡ true)
+    by true is more = inl refl
+    by false is more = more is
 
 -- ---- seat by seat
 
@@ -66,3 +98,52 @@ module _ (many : ℕ) where
 
       others : FitsAt ls rs
       others seat some few = drop seat (is_line_of seat l) (each seat some few)
+
+  -- one of the replies is one to a seat
+  pub record AnySeat (P : Reply → Bool) (lines : List Line) (replies : List Reply) : Type 0 where
+    pub seat : ℕ
+    pub some : 1 ≤ seat
+    pub few : seat ≤ many
+    pub any : list_any P (replies_to seat lines replies) ≡ true
+
+  pub any_seat : (P : Reply → Bool) (lines : List Line) (replies : List Reply) → length replies ≡ length lines →
+      All IsWithin lines → list_any P replies ≡ true → AnySeat P lines replies
+  any_seat P [] [] same within is = absurd cc
+  any_seat P [] (r ∷ rs) same within is = absurd (omega arith)
+  any_seat P (l ∷ ls) [] same within is = absurd (omega arith)
+  any_seat P (l ∷ ls) (r ∷ rs) same within is =
+      by (P r) refl is (any_seat P ls rs (omega arith) (All-tail IsWithin l ls within))
+    where
+      Replies : ℕ → Bool → List Reply
+      Replies seat b = if b then r ∷ replies_to seat ls rs else replies_to seat ls rs
+
+      first : (b : Bool) → b ≡ true → (b || list_any P (replies_to l.seat ls rs)) ≡ true
+      first true is = refl
+      first false is = absurd cc
+
+      later : (b c : Bool) → c ≡ true → (b || c) ≡ true
+      later true c is = refl
+      later false c is = is
+
+      with_more : (seat : ℕ) (b : Bool) → list_any P (replies_to seat ls rs) ≡ true →
+          list_any P (Replies seat b) ≡ true
+      with_more seat true is = later (P r) (list_any P (replies_to seat ls rs)) is
+      with_more seat false is = is
+
+      by : (b : Bool) → P r ≡ b → (b || list_any P rs) ≡ true →
+          (list_any P rs ≡ true → AnySeat P ls rs) → AnySeat P (l ∷ ls) (r ∷ rs)
+      by true its is more =
+          let here = All-head IsWithin l ls within in record {
+            seat = l.seat;
+            some = here.0;
+            few = here.1;
+            any = subst (λ (b : Bool). list_any P (Replies l.seat b) ≡ true) (sym (is_its l.seat l refl))
+                (first (P r) its);
+          }
+      by false its is more =
+          let a = more is in record {
+            seat = a.seat;
+            some = a.some;
+            few = a.few;
+            any = with_more a.seat (is_line_of a.seat l) a.any;
+          }

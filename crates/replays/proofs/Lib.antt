@@ -22,6 +22,7 @@ pub mod CallLemmas
 pub mod ServeLemmas
 pub mod LineLemmas
 pub mod FitLemmas
+pub mod MarkLemmas
 pub mod MakeLemmas
 pub mod ServicePrintLemmas
 pub mod PairLemmas

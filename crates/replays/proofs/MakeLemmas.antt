@@ -1,39 +1,47 @@
 -- A desk that makes its lines.
-use Rattle.std.proofs.Common.{◌≡◌, ◌<◌, ◌≤◌, ℕ, ◌+◌, true, false, List, [], ◌∷◌, ◌++◌, Some, length, take, get_or, refl, sym, ap, ◌∙◌, subst, length-append, arith}
+use Rattle.std.proofs.Common.{◌≡◌, ◌<◌, ◌≤◌, ℕ, ◌+◌, true, false, inl, inr, List, [], ◌∷◌, ◌++◌, Some, length, take, get_or, refl, sym, ap, ◌∙◌, subst, length-append, arith}
+use Rattle.std.specs.List.{list_any}
+use Rattle.interleavings.specs.interleaving_core.declared.kernel.TheConstants.{MAX_DECIDED}
 use Rattle.msgq_cli.specs.declared.command.Command.{Command}
 use Rattle.msgq_cli.specs.declared.command.Command.TheVariants as commands
 use Rattle.msgq_cli.specs.declared.line.Line.{Line}
 use Rattle.msgq_cli.specs.declared.reply.Reply.{Reply}
 use Rattle.msgq_cli.specs.declared.reply.Reply.TheVariants.{Failed}
 use Rattle.queue_model.specs.declared.entry.Entry.{Entry}
+use Rattle.workers.specs.Told.{IsSameSeat, SeesFull}
 use Rattle.replays.specs.Journal.{entry_at}
-use Rattle.replays.proofs.FitLemmas.{fits_more}
+use Rattle.replays.proofs.FitLemmas.{any_more, fits_more}
 use Rattle.replays.proofs.LineLemmas.{entries_more, other_more, own_more, room_at}
-use Rattle.replays.specs.Desks.{DeskView, IsFresh, IsMadeOf}
-use Rattle.replays.specs.Lines.{AreFitting, Fits, HasMade, entries_to, is_line_of, lines_of}
+use Rattle.replays.specs.Desks.{DeskView, IsFresh, IsMadeOf, KnowsWhy}
+use Rattle.replays.specs.Lines.{AreFitting, Fits, HasMade, entries_to, is_failure, is_line_of, is_session_full, lines_of}
 
 -- of the lines of its script these were made
-pub record IsMaking (taken : List Line) (old d : DeskView) : Type 0 where
+pub record IsMaking (many : ℕ) (taken : List Line) (old d : DeskView) : Type 0 where
   pub seat : d.lines.seat ≡ old.lines.seat
   pub lines_are : d.lines.lines ≡ old.lines.lines
   pub at_seat : d.sitter.seat ≡ d.lines.seat
   pub all : length d.lines.replies ≡ length (lines_of old.lines.seat taken)
   pub fits : AreFitting (lines_of old.lines.seat taken) d.lines.replies
   pub told : d.sitter.list ≡ entries_to (lines_of old.lines.seat taken) d.lines.replies
+  pub knows : KnowsWhy many d.lines.replies d.sitter
 
-pub making_starts : (d : DeskView) → IsFresh d → d.sitter.seat ≡ d.lines.seat → IsMaking [] d d
-making_starts d fresh at = record {
+pub making_starts : (many : ℕ) (d : DeskView) → IsFresh d → d.sitter.seat ≡ d.lines.seat → IsMaking many [] d d
+making_starts many d fresh at = record {
   seat = refl;
   lines_are = refl;
   at_seat = at;
   all = ap length fresh.unmade;
   fits = tt;
   told = fresh.list ∙ sym (ap (entries_to []) fresh.unmade);
+  knows = record {
+    failed = λ is. let none = ap (list_any is_failure) fresh.unmade in absurd cc;
+    full = λ is. let none = ap (list_any is_session_full) fresh.unmade in absurd cc;
+  };
 }
 
-pub making_skips : (taken : List Line) (old d : DeskView) (line : Line) → IsMaking taken old d →
-    is_line_of old.lines.seat line ≡ false → IsMaking (taken ++ line ∷ []) old d
-making_skips taken old d line m other =
+pub making_skips : (many : ℕ) (taken : List Line) (old d : DeskView) (line : Line) → IsMaking many taken old d →
+    is_line_of old.lines.seat line ≡ false → IsMaking many (taken ++ line ∷ []) old d
+making_skips many taken old d line m other =
     let own = other_more old.lines.seat taken line other in record {
       seat = m.seat;
       lines_are = m.lines_are;
@@ -41,13 +49,20 @@ making_skips taken old d line m other =
       all = m.all ∙ sym (ap length own);
       fits = subst (λ (l : List Line). AreFitting l d.lines.replies) (sym own) m.fits;
       told = m.told ∙ sym (ap (λ (l : List Line). entries_to l d.lines.replies) own);
+      knows = m.knows;
     }
 
-pub making_goes : (taken : List Line) (old d e : DeskView) (line : Line) (reply : Reply) → IsMaking taken old d →
-    is_line_of old.lines.seat line ≡ true → e.sitter.list ≡ d.sitter.list ++ entry_at line (Some reply) →
-    e.sitter.seat ≡ d.sitter.seat → Fits line.command reply →
-    e.lines ≡ record d.lines { replies = d.lines.replies ++ reply ∷ [] } → IsMaking (taken ++ line ∷ []) old e
-making_goes taken old d e line reply m its told same fits lines =
+-- what a seat was shown it keeps
+more_seen : (most seen later many : ℕ) → seen ≤ later → most ≤ seen + many → most ≤ later + many
+more_seen most seen later many grows full = omega arith
+
+pub making_goes : (many : ℕ) (taken : List Line) (old d e : DeskView) (line : Line) (reply : Reply) →
+    IsMaking many taken old d → is_line_of old.lines.seat line ≡ true →
+    e.sitter.list ≡ d.sitter.list ++ entry_at line (Some reply) → IsSameSeat d.sitter e.sitter →
+    Fits line.command reply → (is_failure reply ≡ true → e.sitter.failed ≡ true) →
+    (is_session_full reply ≡ true → SeesFull many e.sitter) →
+    e.lines ≡ record d.lines { replies = d.lines.replies ++ reply ∷ [] } → IsMaking many (taken ++ line ∷ []) old e
+making_goes many taken old d e line reply m its told same fits failed full lines =
     let own = own_more old.lines.seat taken line its in
     let replies : e.lines.replies ≡ d.lines.replies ++ reply ∷ [] = ap (λ v. v.replies) lines in
     let number : e.lines.seat ≡ d.lines.seat = ap (λ v. v.seat) lines in
@@ -55,7 +70,7 @@ making_goes taken old d e line reply m its told same fits lines =
     record {
       seat = number ∙ m.seat;
       lines_are = ap (λ v. v.lines) lines ∙ m.lines_are;
-      at_seat = same ∙ m.at_seat ∙ sym number;
+      at_seat = same.seat ∙ m.at_seat ∙ sym number;
       all = ap length replies ∙ length-append d.lines.replies (reply ∷ []) ∙ ap (λ (n : ℕ). n + 1) m.all
           ∙ sym (length-append more (line ∷ [])) ∙ sym (ap length own);
       fits = subst (λ (l : List Line). AreFitting l e.lines.replies) (sym own)
@@ -65,21 +80,32 @@ making_goes taken old d e line reply m its told same fits lines =
           ∙ sym (entries_more more d.lines.replies line reply m.all)
           ∙ sym (ap (λ (l : List Line). entries_to l (d.lines.replies ++ reply ∷ [])) own)
           ∙ sym (ap (entries_to (lines_of old.lines.seat (taken ++ line ∷ []))) replies);
+      knows = record {
+        failed = λ is. elim (any_more is_failure d.lines.replies reply (sym (ap (list_any is_failure) replies) ∙ is)) [
+          | inl before ↦ same.failed (m.knows.failed before)
+          | inr now ↦ failed now
+        ];
+        full = λ is.
+            elim (any_more is_session_full d.lines.replies reply (sym (ap (list_any is_session_full) replies) ∙ is)) [
+              | inl before ↦ more_seen MAX_DECIDED d.sitter.seen e.sitter.seen many same.seen (m.knows.full before)
+              | inr now ↦ full now
+            ];
+      };
     }
 
 -- there is room for the reply to a line that is its own
-pub making_room : (lines : List Line) (i : ℕ) (old d : DeskView) (line : Line) → lines ≡ old.lines.lines →
-    IsMaking (take i lines) old d → i < length lines → get_or lines i line ≡ line → line.seat ≡ d.lines.seat →
+pub making_room : (many : ℕ) (lines : List Line) (i : ℕ) (old d : DeskView) (line : Line) → lines ≡ old.lines.lines →
+    IsMaking many (take i lines) old d → i < length lines → get_or lines i line ≡ line → line.seat ≡ d.lines.seat →
     length d.lines.replies < length (lines_of d.lines.seat d.lines.lines)
-making_room lines i old d line whole m below is at =
+making_room many lines i old d line whole m below is at =
     let fewer = room_at old.lines.seat lines i line below is (at ∙ m.seat) in
     let all = m.all in
     let same = ap (λ (n : ℕ). length (lines_of n d.lines.lines)) m.seat
     ∙ ap (λ (l : List Line). length (lines_of old.lines.seat l)) (m.lines_are ∙ sym whole) in
     omega (arith, fewer, all, same)
 
-pub making_ends : (old d : DeskView) → IsMaking old.lines.lines old d → IsMadeOf old d
-making_ends old d m =
+pub making_ends : (many : ℕ) (old d : DeskView) → IsMaking many old.lines.lines old d → IsMadeOf many old d
+making_ends many old d m =
     let same = ap (λ (n : ℕ). lines_of n d.lines.lines) m.seat
     ∙ ap (λ (l : List Line). lines_of old.lines.seat l) m.lines_are in record {
       seat = m.seat;
@@ -90,6 +116,7 @@ making_ends old d m =
         fits = subst (λ (l : List Line). AreFitting l d.lines.replies) (sym same) m.fits;
         told = m.told ∙ sym (ap (λ (l : List Line). entries_to l d.lines.replies) same);
       };
+      knows = m.knows;
     }
 
 -- ---- a fault

@@ -15,7 +15,7 @@ use Rattle.msgq_cli.specs.declared.line.Line.{Line}
 use Rattle.msgq_cli.specs.declared.reply.Reply.{Reply}
 use Rattle.replays.proofs.LineLemmas.{is_its, long_own, not_its, other_more, reply_more, reply_other, room_at, short_own}
 use Rattle.replays.specs.Desks.{DeskView, desk_at, no_desk}
-use Rattle.replays.specs.Lines.{is_line_of, lines_of, replies_to}
+use Rattle.replays.specs.Lines.{is_line_of, is_stopped, lines_of, replies_to}
 use Rattle.replays.specs.Printing.{AreOfSeats, IsPrintedOf}
 
 -- how many replies of the seat at a place were printed
@@ -24,11 +24,12 @@ count_at counts place = slice_index_or counts place 0
 
 -- the replies to these lines of a script were printed
 pub record ArePrinting (taken : List Line) (desks : List DeskView) (counts : List ℕ)
-    (old now : OutputState) (ending : Ending) : Type 0 where
+    (old now : OutputState) (ending : Ending) (has_stopped : Bool) : Type 0 where
   pub replies : List Reply
   pub as_many : length replies ≡ length taken
   pub prints : Prints old now (printed taken replies)
   pub ends : ending ≡ ending_of replies
+  pub stops : has_stopped ≡ list_any is_stopped replies
   pub many : length counts ≡ length desks
   pub counted : (place : ℕ) → place < length desks → count_at counts place ≡ length (lines_of (place + 1) taken)
   pub own : (place : ℕ) → place < length desks →
@@ -44,12 +45,13 @@ length_zeros zero = refl
 length_zeros (suc n) = ap suc (length_zeros n)
 
 pub printing_starts : (desks : List DeskView) (counts : List ℕ) (o : OutputState) →
-    counts ≡ replicate (length desks) 0 → ArePrinting [] desks counts o o Done
+    counts ≡ replicate (length desks) 0 → ArePrinting [] desks counts o o Done false
 printing_starts desks counts o none = record {
   replies = [];
   as_many = refl;
   prints = Prints-nil o;
   ends = refl;
+  stops = refl;
   many = ap length none ∙ length_zeros (length desks);
   counted = λ place below. ap (λ (l : List ℕ). count_at l place) none ∙ zero_at (length desks) place;
   own = λ place below. sym (ap (λ (n : ℕ). take n (desk_at desks place).lines.replies)
@@ -68,13 +70,13 @@ printed_push (l ∷ ls) (r ∷ rs) line reply same =
     ap (λ (text : List ℕ). reply_text l.number r ++ text) (printed_push ls rs line reply (omega arith))
     ∙ sym (append_assoc (reply_text l.number r) (printed ls rs) (reply_text line.number reply))
 
-any_push : (replies : List Reply) (reply : Reply) →
-    list_any is_fault (replies ++ reply ∷ []) ≡ (is_fault reply || list_any is_fault replies)
-any_push [] reply = refl
-any_push (r ∷ rs) reply = by (is_fault r) (is_fault reply) (any_push rs reply)
+any_push : (P : Reply → Bool) (replies : List Reply) (reply : Reply) →
+    list_any P (replies ++ reply ∷ []) ≡ (P reply || list_any P replies)
+any_push P [] reply = refl
+any_push P (r ∷ rs) reply = by (P r) (P reply) (any_push P rs reply)
   where
-    by : (a b : Bool) → list_any is_fault (rs ++ reply ∷ []) ≡ (b || list_any is_fault rs) →
-        (a || list_any is_fault (rs ++ reply ∷ [])) ≡ (b || (a || list_any is_fault rs))
+    by : (a b : Bool) → list_any P (rs ++ reply ∷ []) ≡ (b || list_any P rs) →
+        (a || list_any P (rs ++ reply ∷ [])) ≡ (b || (a || list_any P rs))
     by true true more = refl
     by true false more = refl
     by false b more = more
@@ -82,21 +84,29 @@ any_push (r ∷ rs) reply = by (is_fault r) (is_fault reply) (any_push rs reply)
 ending_push : (replies : List Reply) (reply : Reply) →
     ending_of (replies ++ reply ∷ []) ≡ (if is_fault reply then Faulty else ending_of replies)
 ending_push replies reply =
-    ap (λ (b : Bool). if b then Faulty else Done) (any_push replies reply) ∙ by (is_fault reply)
+    ap (λ (b : Bool). if b then Faulty else Done) (any_push is_fault replies reply) ∙ by (is_fault reply)
   where
     by : (b : Bool) → (if b || list_any is_fault replies then Faulty else Done)
         ≡ (if b then Faulty else if list_any is_fault replies then Faulty else Done)
     by true = refl
     by false = refl
 
+either_way : (a b : Bool) → (a || b) ≡ (b || a)
+either_way true true = refl
+either_way true false = refl
+either_way false true = refl
+either_way false false = refl
+
 module _ (taken : List Line) (desks : List DeskView) (counts counts' : List ℕ)
-    (old now next : OutputState) (ending ending' : Ending) (line : Line) (reply : Reply) (place : ℕ)
-    (p : ArePrinting taken desks counts old now ending) (at : line.seat ≡ place + 1)
+    (old now next : OutputState) (ending ending' : Ending) (stopped stopped' : Bool) (line : Line) (reply : Reply)
+    (place : ℕ)
+    (p : ArePrinting taken desks counts old now ending stopped) (at : line.seat ≡ place + 1)
     (below : place < length desks) (room : count_at counts place < length (desk_at desks place).lines.replies)
     (has : reply ≡ slice_index_or (desk_at desks place).lines.replies (count_at counts place) reply)
     (counts_more : counts' ≡ slice_set counts place (count_at counts place + 1))
     (prints : Prints now next (reply_text line.number reply))
-    (ends : ending' ≡ (if is_fault reply then Faulty else ending)) where
+    (ends : ending' ≡ (if is_fault reply then Faulty else ending))
+    (stops : stopped' ≡ (stopped || is_stopped reply)) where
   within : place < length counts
   within = let many = p.many in omega arith
 
@@ -137,7 +147,7 @@ module _ (taken : List Line) (desks : List DeskView) (counts counts' : List ℕ)
       ∙ p.own other few
       ∙ ap (λ (n : ℕ). take n (desk_at desks other).lines.replies) (sym (count_there other apart))
 
-  pub printing_goes : ArePrinting (taken ++ line ∷ []) desks counts' old next ending'
+  pub printing_goes : ArePrinting (taken ++ line ∷ []) desks counts' old next ending' stopped'
   printing_goes = record {
     replies = p.replies ++ reply ∷ [];
     as_many = length-append p.replies (reply ∷ []) ∙ ap (λ (n : ℕ). n + 1) p.as_many
@@ -146,6 +156,8 @@ module _ (taken : List Line) (desks : List DeskView) (counts counts' : List ℕ)
         (Prints-then old now next _ _ p.prints prints);
     ends = ends ∙ ap (λ (e : Ending). if is_fault reply then Faulty else e) p.ends
         ∙ sym (ending_push p.replies reply);
+    stops = stops ∙ ap (λ (b : Bool). b || is_stopped reply) p.stops
+        ∙ either_way (list_any is_stopped p.replies) (is_stopped reply) ∙ sym (any_push is_stopped p.replies reply);
     many = ap length counts_more ∙ length-set counts place (count_at counts place + 1) ∙ p.many;
     counted = λ other few. counted_at other few (cases_eq other place);
     own = λ other few. own_at other few (cases_eq other place);
@@ -160,8 +172,8 @@ line_at P (l ∷ ls) zero line all below is = subst P (sym is) (All-head P l ls 
 line_at P (l ∷ ls) (suc i) line all below is = line_at P ls i line (All-tail P l ls all) (omega arith) is
 
 module _ (lines : List Line) (desks : List DeskView) (counts : List ℕ) (old now : OutputState) (ending : Ending)
-    (i : ℕ) (line : Line) (d : DeskView) (all : AreOfSeats lines desks)
-    (p : ArePrinting (take i lines) desks counts old now ending) (below : i < length lines)
+    (stopped : Bool) (i : ℕ) (line : Line) (d : DeskView) (all : AreOfSeats lines desks)
+    (p : ArePrinting (take i lines) desks counts old now ending stopped) (below : i < length lines)
     (is : line ≡ get_or lines i line) (desk_is : d ≡ get_or desks (line.seat - 1) d) where
   abbrev pub place : ℕ
   place = line.seat - 1
@@ -197,28 +209,31 @@ module _ (lines : List Line) (desks : List DeskView) (counts : List ℕ) (old no
       let own = short_own (place + 1) lines in
       omega arith
 
-  pub printing_there : (next : OutputState) (ending' : Ending) (reply : Reply) →
+  pub printing_there : (next : OutputState) (ending' : Ending) (stopped' : Bool) (reply : Reply) →
       reply ≡ get_or d.lines.replies (count_at counts place) reply → Prints now next (reply_text line.number reply) →
-      ending' ≡ (if is_fault reply then Faulty else ending) →
+      ending' ≡ (if is_fault reply then Faulty else ending) → stopped' ≡ (stopped || is_stopped reply) →
       ArePrinting (take (i + 1) lines) desks (slice_set counts place (count_at counts place + 1)) old next ending'
-  printing_there next ending' reply has prints ends =
+      stopped'
+  printing_there next ending' stopped' reply has prints ends stops =
       let counts' : List ℕ = slice_set counts place (count_at counts place + 1) in
-      subst (λ (l : List Line). ArePrinting l desks counts' old next ending')
+      subst (λ (l : List Line). ArePrinting l desks counts' old next ending' stopped')
       (sym (take_more lines i line below ∙ ap (λ (x : Line). take i lines ++ x ∷ []) (sym is)))
-      (printing_goes (take i lines) desks counts counts' old now next ending ending' line reply place p at few room
+      (printing_goes (take i lines) desks counts counts' old now next ending ending' stopped stopped' line
+      reply place p at few room
       (subst (λ (x : DeskView). reply ≡ get_or x.lines.replies (count_at counts place) reply) (sym desk) has)
-      refl prints ends)
+      refl prints ends stops)
 
 -- ---- all lines
 
 pub printed_all : (lines : List Line) (desks : List DeskView) (counts : List ℕ) (old now : OutputState)
-    (ending : Ending) → AreOfSeats lines desks → ArePrinting lines desks counts old now ending →
-    IsPrintedOf lines desks old now ending
-printed_all lines desks counts old now ending all p = record {
+    (ending : Ending) (stopped : Bool) → AreOfSeats lines desks →
+    ArePrinting lines desks counts old now ending stopped → IsPrintedOf lines desks old now ending stopped
+printed_all lines desks counts old now ending stopped all p = record {
   replies = p.replies;
   as_many = p.as_many;
   prints = p.prints;
   ends = p.ends;
+  stops = p.stops;
   own = λ place few. p.own place few
       ∙ ap (λ (n : ℕ). take n (desk_at desks place).lines.replies) (p.counted place few ∙ sym (all.each place few).all)
       ∙ take_all (length (desk_at desks place).lines.replies) (desk_at desks place).lines.replies (omega arith);

@@ -1,8 +1,9 @@
 -- A script whose seats made their lines beside one another, on the file of a device. docs/SCRIPTS.md, "Runs".
-use Rattle.std.specs.Prelude.{ℕ, ◌≡◌, ◌≢◌, ◌⊎◌, ◌≤◌, ◌==◌, Bool, true, false, IsTrue, List, [], ◌++◌, length, Option, Some, None, Result, Ok, Err}
-use Rattle.std.specs.List.{list_all}
+use Rattle.std.specs.Prelude.{ℕ, ◌≡◌, ◌≢◌, ◌⊎◌, ◌≤◌, ◌+◌, ◌==◌, Bool, true, false, IsTrue, List, [], ◌++◌, length, Option, Some, None, Result, Ok, Err}
+use Rattle.std.specs.List.{list_all, list_any}
 use Rattle.numbers.specs.declared.faults.TheConstants.{DEVICE, FAILED, NO_MEMORY}
 use Rattle.page_device.specs.Device.{HasRisen}
+use Rattle.interleavings.specs.interleaving_core.declared.kernel.TheConstants.{MAX_DECIDED}
 use Rattle.bucket_page.specs.Pseudokeys.{sha_key}
 use Rattle.msgq_cli.specs.Outputs.{OutputState, Prints}
 use Rattle.msgq_cli.specs.Runs.{ending_of, printed}
@@ -19,10 +20,10 @@ use Rattle.replays.specs.Replays.{EndsWith, callers_of}
 use Rattle.replays.specs.Texts.{Effects, IsUnopened}
 use Rattle.replays.specs.Serves.{RunsNew, RunsOn}
 use Rattle.replays.specs.declared.serving.TheConstants.{MEMORY_PAGES}
-use Rattle.workers.specs.Closing.{Each, Remains}
-use Rattle.workers.specs.Origins.{IsJournalOf, LeavesFile, Origin}
+use Rattle.workers.specs.Closing.{Each, IsMarked, Remains}
+use Rattle.workers.specs.Origins.{HasFrames, IsJournalOf, LeavesFile, Origin}
 use Rattle.workers.specs.Told.{Sitter}
-use Rattle.replays.specs.Lines.{AreFitting, entries_to, lines_of, replies_to}
+use Rattle.replays.specs.Lines.{AreFitting, Marks, entries_to, is_failure, is_session_full, lines_of, replies_to}
 
 -- ---- what is told
 
@@ -46,37 +47,46 @@ pub record HasReason (honest : Bool) (old new : ℕ) (fault : Option ℕ) : Type
   -- of an honest device a step has failed only where a transfer did
   pub step : IsTrue honest → fault ≡ Some FAILED → HasRisen old new
 
--- it was closed, or let go where the output refused a write, and a fault is to be told or none
-pub record HasEnded (o : Origin) (given : List Sitter) (untold : Bool) (fault : Option ℕ) (left : Remains) : Type 0
-  where
-    -- the answers are those of plain lists
-    pub plain : IsTrue o.honest → IsJournalOf o left.journal
-    pub parts : Each (λ (x : Sitter). IsPart fault left.journal x.seat x.list) given
-    -- the file is that of the system after them
-    pub kept : untold ≡ false → fault ≡ None → IsTrue o.honest → LeavesFile o left.journal left.content
-    -- where a step has failed or the answers can't be told nothing was written: a device that is spared has the pages
-    -- of before
-    pub before : (untold ≡ true) ⊎ (fault ≡ Some FAILED) → IsTrue o.spares → left.content ≡ o.content
-    -- else the last transfers failed
-    pub number : (n : ℕ) → fault ≡ Some n → (n ≡ DEVICE) ⊎ (n ≡ FAILED)
-    pub reason : HasReason o.honest o.faults left.faults fault
+-- it was closed, or let go where the output refused a write, and a fault is to be told or none; its stopper was used or
+-- not
+pub record HasEnded (o : Origin) (given : List Sitter) (used untold : Bool) (fault : Option ℕ) (left : Remains)
+    : Type 0 where
+  -- the answers are those of plain lists
+  pub plain : IsTrue o.honest → IsJournalOf o left.journal
+  pub mark : IsMarked used left.journal
+  pub honest : left.honest ≡ o.honest
+  pub parts : Each (λ (x : Sitter). IsPart fault left.journal x.seat x.list) given
+  -- the file is that of the system after them
+  pub kept : untold ≡ false → fault ≡ None → IsTrue o.honest → LeavesFile o left.journal left.content
+  -- and is synced
+  pub synced : untold ≡ false → fault ≡ None → IsTrue o.honest → IsTrue left.synced
+  -- where a step has failed or the answers can't be told nothing was written: where there is a frame for each page
+  -- the device has those of before
+  pub before : (untold ≡ true) ⊎ (fault ≡ Some FAILED) → HasFrames o → left.content ≡ o.content
+  -- else the last transfers failed
+  pub number : (n : ℕ) → fault ≡ Some n → (n ≡ DEVICE) ⊎ (n ≡ FAILED)
+  -- a seat that knows of a failure makes it told
+  pub failed : Each (λ (x : Sitter). x.failed ≡ true → fault ≡ Some FAILED) given
+  -- no seat was shown more calls than the journal has entries
+  pub shown : Each (λ (x : Sitter). x.seen ≤ length left.journal) given
+  pub reason : HasReason o.honest o.faults left.faults fault
 
 -- ---- a run
 
--- from the pages of a device, which is spared until the file is closed
+-- from the pages of a device, with a frame for each
 abbrev pub origin_on : Parts → (honest : Bool) → Effects → Origin
 origin_on script honest c = record {
   content = c.content;
   honest = honest;
   faults = c.was;
-  spares = true;
+  frames = length c.content;
   hash = sha_key;
   callers = callers_of script.ids (greatest_seat script.lines);
 }
 
--- from there, where so many transfers had failed before
+-- from there, where so many transfers had failed before, with a frame for each page
 abbrev pub counted_from : ℕ → Origin → Origin
-counted_from was o = record o { faults = was }
+counted_from was o = record o { faults = was; frames = length o.content }
 
 -- the lines of all seats were made, their replies were printed in the order of the script and handed on, and only then
 -- the file was written; a fault is printed after the replies, or none
@@ -88,6 +98,7 @@ pub record RunsBeside (script : Parts) (o : Origin) (c : Effects) (ending : Endi
   pub journal : List Entry
   pub fault : Option ℕ
   pub plain : IsTrue o.honest → IsJournalOf o journal
+  pub mark : Marks script.lines replies journal
   -- each seat was told its own part
   pub parts : (seat : ℕ) → 1 ≤ seat → seat ≤ greatest_seat script.lines →
       IsPart fault journal seat (told_to seat script.lines replies)
@@ -97,9 +108,14 @@ pub record RunsBeside (script : Parts) (o : Origin) (c : Effects) (ending : Endi
   pub untold : c.untold ≡ told.refused
   pub handed : c.untold ≡ false → told.handed ≡ told.known
   pub kept : c.untold ≡ false → fault ≡ None → IsTrue o.honest → LeavesFile o journal c.left
+  pub synced : c.untold ≡ false → fault ≡ None → IsTrue o.honest → IsTrue c.synced
   -- what can't be told has not happened, nor where a step has failed: the pages are those of before
   pub before : (c.untold ≡ true) ⊎ (fault ≡ Some FAILED) → c.left ≡ c.content
   pub number : (n : ℕ) → fault ≡ Some n → (n ≡ DEVICE) ⊎ (n ≡ FAILED)
+  -- a line is replied 62 only where that is told
+  pub failed : list_any is_failure replies ≡ true → fault ≡ Some FAILED
+  -- and 61 only where the entries, and one call at each seat, are as many as a session decides
+  pub full : list_any is_session_full replies ≡ true → MAX_DECIDED ≤ length journal + greatest_seat script.lines
   pub reason : HasReason o.honest c.was c.faults fault
   pub ends : EndsWith fault told (ending_of replies) c.new ending
 

@@ -1,13 +1,15 @@
 -- Desks: the seats of a service, each with its lines of a script. docs/SCRIPTS.md, "Runs".
-use Rattle.std.specs.Prelude.{ℕ, ◌≡◌, ◌+◌, ◌<◌, Bool, List, [], length, replicate, slice_index_or}
+use Rattle.std.specs.Prelude.{ℕ, ◌≡◌, ◌+◌, ◌<◌, ◌≤◌, Bool, true, List, [], length, replicate, slice_index_or}
+use Rattle.std.specs.List.{list_any}
 use Rattle.bucket_page.specs.declared.pseudokey.ShaKey.{ShaKey}
 use Rattle.msgq_cli.specs.Scripts.{Parts, greatest_seat}
 use Rattle.msgq_cli.specs.declared.line.Line.{Line}
+use Rattle.msgq_cli.specs.declared.reply.Reply.{Reply}
 use Rattle.replays.specs.Replays.{callers_of}
 use Rattle.workers.specs.Views.{nobody}
-use Rattle.workers.specs.Opening.{HasFrames, PreparedView}
-use Rattle.workers.specs.Told.{Sitter}
-use Rattle.replays.specs.Lines.{HasMade, LinesView}
+use Rattle.workers.specs.Opening.{PreparedView}
+use Rattle.workers.specs.Told.{SeesFull, Sitter}
+use Rattle.replays.specs.Lines.{HasMade, LinesView, is_failure, is_session_full}
 use Rattle.replays.specs.declared.service_opening.Plan.{Plan}
 
 -- ---- before the file is opened
@@ -45,7 +47,7 @@ pub record IsPreparedFor (script : Parts) (content : List (List ℕ)) (honest : 
     -- there are as many seats as the script has
     pub many : length p.callers ≡ greatest_seat script.lines
     -- and there is a frame for each page
-    pub enough : HasFrames p
+    pub enough : length p.content ≤ p.frames
 
 -- ---- desks
 
@@ -69,17 +71,23 @@ pub record IsFresh (d : DeskView) : Type 0 where
 abbrev pub AreUntouched : List DeskView → Type 0
 AreUntouched desks = (place : ℕ) → place < length desks → IsFresh (desk_at desks place)
 
--- its lines were made, or refused
-pub record IsMadeOf (old new : DeskView) : Type 0 where
+-- one of so many seats knows why it was replied so: that a step has failed, or that the session is full
+pub record KnowsWhy (many : ℕ) (replies : List Reply) (x : Sitter) : Type 0 where
+  pub failed : list_any is_failure replies ≡ true → x.failed ≡ true
+  pub full : list_any is_session_full replies ≡ true → SeesFull many x
+
+-- at one of so many desks the lines were made, or refused
+pub record IsMadeOf (many : ℕ) (old new : DeskView) : Type 0 where
   pub seat : new.lines.seat ≡ old.lines.seat
   pub lines_are : new.lines.lines ≡ old.lines.lines
   pub at_seat : new.sitter.seat ≡ new.lines.seat
   pub made : HasMade new.lines new.sitter.list
+  pub knows : KnowsWhy many new.lines.replies new.sitter
 
 -- so at each of these desks
-pub record AreMade (old new : List DeskView) : Type 0 where
+pub record AreMade (many : ℕ) (old new : List DeskView) : Type 0 where
   pub as_many : length new ≡ length old
-  pub each : (place : ℕ) → place < length old → IsMadeOf (desk_at old place) (desk_at new place)
+  pub each : (place : ℕ) → place < length old → IsMadeOf many (desk_at old place) (desk_at new place)
 
 -- at each desk is a seat with its lines
 pub record ArePaired (seats : List Sitter) (lines : List LinesView) (desks : List DeskView) : Type 0 where

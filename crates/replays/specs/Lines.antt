@@ -1,5 +1,6 @@
 -- The lines of one seat, and what they were replied. docs/SCRIPTS.md, "Runs".
-use Rattle.std.specs.Prelude.{ℕ, ◌≡◌, ◌⊎◌, ◌≤◌, ◌==◌, Bool, List, [], ◌∷◌, Some, filter, if◌then◌else◌, length, map, ⊤}
+use Rattle.std.specs.Prelude.{ℕ, ◌≡◌, ◌⊎◌, ◌≤◌, ◌==◌, Bool, false, true, List, [], ◌∷◌, Some, filter, if◌then◌else◌, length, map, ⊤}
+use Rattle.std.specs.List.{list_any}
 use Rattle.numbers.specs.declared.faults.TheConstants.{FAILED, NO_MEMORY, NO_ROOM, SESSION_FULL}
 use Rattle.msgq_cli.specs.declared.command.Command.{Command}
 use Rattle.msgq_cli.specs.declared.command.Command.TheVariants as commands
@@ -7,6 +8,7 @@ use Rattle.msgq_cli.specs.declared.line.Line.{Line}
 use Rattle.msgq_cli.specs.declared.reply.Reply.{Reply}
 use Rattle.msgq_cli.specs.declared.reply.Reply.TheVariants.{Answered, Failed, Stopped}
 use Rattle.queue_model.specs.declared.entry.Entry.{Entry}
+use Rattle.workers.specs.Closing.{IsMarked}
 use Rattle.replays.specs.Journal.{entries_at}
 
 abbrev pub is_line_of : ℕ → Line → Bool
@@ -39,10 +41,42 @@ Fits (commands.Call call) Stopped = ⊥
 Fits (commands.Call call) (Answered answer) = ⊤
 Fits (commands.Call call) (Failed fault) = IsOfCall fault
 
+-- it was replied that a step has failed
+abbrev pub is_failure : Reply → Bool
+is_failure (Answered answer) = false
+is_failure Stopped = false
+is_failure (Failed fault) = fault == FAILED
+
+-- or that the session is full
+abbrev pub is_session_full : Reply → Bool
+is_session_full (Answered answer) = false
+is_session_full Stopped = false
+is_session_full (Failed fault) = fault == SESSION_FULL
+
+-- or that a stop is made
+abbrev pub is_stopped : Reply → Bool
+is_stopped (Answered answer) = false
+is_stopped Stopped = true
+is_stopped (Failed fault) = false
+
+abbrev pub is_no_call : Command → Bool
+is_no_call commands.Stop = true
+is_no_call (commands.Call call) = false
+
+abbrev pub is_stop : Line → Bool
+is_stop line = is_no_call line.command
+
 -- so each of these lines was replied
 abbrev pub AreFitting : List Line → List Reply → Type 0
 AreFitting (line ∷ lines) (reply ∷ replies) = Fits line.command reply × AreFitting lines replies
 AreFitting lines replies = ⊤
+
+-- a stop stands in the journal once where a line was replied that it is made, and never where no line is one
+pub record Marks (lines : List Line) (replies : List Reply) (journal : List Entry) : Type 0 where
+  pub stopped : Bool
+  pub mark : IsMarked stopped journal
+  pub made : list_any is_stopped replies ≡ true → stopped ≡ true
+  pub none : list_any is_stop lines ≡ false → stopped ≡ false
 
 -- a seat, the lines of a script, and what those of the seat that were made were replied
 pub record LinesView : Type 0 where

@@ -1,10 +1,11 @@
 //! A seat of a service, and the lines of a script that are made at it.
 
-ghost use Rattle.std.specs.Prelude.{◌≡◌, ◌<◌, ◌≤◌, ℕ, ◌++◌, [], Some, length, map, slice_index_or, vec_capacity};
+ghost use Rattle.std.specs.Prelude.{◌≡◌, ◌<◌, ◌≤◌, ℕ, ◌++◌, [], Some, length, map, slice_index_or, true, vec_capacity};
 ghost use Rattle.replays.specs.Journal.{entry_at};
 ghost use Rattle.workers.specs.Views.{nobody};
 ghost use Rattle.replays.specs.Desks.{ArePaired, DeskView, IsFresh, IsMadeOf, lines_at};
-ghost use Rattle.replays.specs.Lines.{Fits};
+ghost use Rattle.replays.specs.Lines.{Fits, is_failure, is_session_full};
+ghost use Rattle.workers.specs.Told.{IsSameSeat, SeesFull};
 
 use crate::seat_lines::SeatLines;
 use crate::waiter::{Shared, Waiter};
@@ -12,7 +13,8 @@ use msgq_cli::{Command, Line, Reply};
 use numbers::faults;
 use page_device::PageDevice;
 use std::marker::Model;
-use workers::{Base, Room, Seat};
+use std::sync::Mutex;
+use workers::{Base, Room, Seat, Stopper};
 
 /// A seat of a service, with its lines and their replies. Contracts see what the seat knows, and
 /// the lines.
@@ -46,14 +48,19 @@ impl<'s, N: Room + Base> Desk<'s, N> {
         self.lines.script().len()
     }
 
-    /// Makes its lines one after the other.
-    pub fn make<C: Waiter, D: PageDevice + Drop>(&mut self, waiter: &C, service: &Shared<D, N>)
+    /// Makes its lines one after the other. A script with a `stop` comes with a stopper.
+    pub fn make<C: Waiter, D: PageDevice + Drop>(
+        &mut self,
+        waiter: &C,
+        service: &Shared<D, N>,
+        stopper: Option<&Mutex<Stopper<N>>>,
+    )
         requires fresh { IsFresh self.old }
-        ensures made { IsMadeOf self.old self.new }
+        ensures made { IsMadeOf (length N.origin.callers) self.old self.new }
     {
         for line in self.lines.script() {
             if line.seat == self.lines.seat() {
-                let reply = reply(waiter, service, &mut self.seat, line);
+                let reply = reply(waiter, service, stopper, &mut self.seat, line);
                 self.lines.push(reply);
             }
         }
@@ -62,7 +69,7 @@ impl<'s, N: Room + Base> Desk<'s, N> {
     /// Makes none of its lines: each is replied 60.
     pub fn refuse(&mut self)
         requires fresh { IsFresh self.old }
-        ensures made { IsMadeOf self.old self.new }
+        ensures made { IsMadeOf (length N.origin.callers) self.old self.new }
     {
         for line in self.lines.script() {
             if line.seat == self.lines.seat() {
@@ -117,18 +124,23 @@ pub fn seats_of<N: Room + Base>(desks: Vec<Desk<'_, N>>, room: Vec<Seat<N>>) -> 
 fn reply<C: Waiter, D: PageDevice + Drop, N: Room + Base>(
     waiter: &C,
     service: &Shared<D, N>,
+    stopper: Option<&Mutex<Stopper<N>>>,
     seat: &mut Seat<N>,
     line: &Line,
 ) -> Reply
     requires { seat.old.seat ≡ line.now.seat }
     ensures told { seat.new.list ≡ seat.old.list ++ entry_at line.now (Some result) }
     ensures fits { Fits line.now.command result }
-    ensures same { seat.new.seat ≡ seat.old.seat }
+    ensures failed { is_failure result ≡ true → seat.new.failed ≡ true }
+    ensures full { is_session_full result ≡ true → SeesFull (length N.origin.callers) seat.new }
+    ensures same { IsSameSeat seat.old seat.new }
 {
     let call = match &line.command {
         Command::Call(call) => call,
         Command::Stop => {
-            waiter.stop(service);
+            if let Some(stopper) = stopper {
+                waiter.stop(service, stopper);
+            }
             return Reply::Stopped;
         }
     };

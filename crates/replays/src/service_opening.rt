@@ -84,7 +84,8 @@ pub fn prepare<D: PageDevice + Drop>(
     ensures refused { IsTrue (D.is_honest device) → IfErr result (λ refusal.
         MayRefuseUnchecked sha_key (D.content device) refusal.1) }
     ensures enough { IfErr result (λ refusal. refusal.1 ≢ OpenFault.TooFewFrames) }
-    ensures err { IfErr result (λ refusal. D.content refusal.0 ≡ D.content device) }
+    ensures err { IfErr result (λ refusal. (D.content refusal.0 ≡ D.content device)
+        × (D.is_honest refusal.0 ≡ D.is_honest device)) }
     ensures cause { IfOk result (λ p. D.fault_count device ≤ p.faults)
         × IfErr result (λ refusal. refusal.1 ≡ device_failed →
         HasRisen (D.fault_count device) (D.fault_count refusal.0)) }

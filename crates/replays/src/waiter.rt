@@ -1,12 +1,14 @@
 //! Who waits for answers. This crate starts no thread and waits for none: the program does.
 
-ghost use Rattle.std.specs.Prelude.{◌≡◌, ◌∷◌, ◌++◌, [], IfOk, OnErr};
+ghost use Rattle.std.specs.Prelude.{◌≡◌, ◌∷◌, ◌++◌, [], IfOk, IsErrOf, OnErr, length, true};
 ghost use Rattle.queue_model.specs.declared.entry.Entry.TheVariants.{Decided};
+ghost use Rattle.workers.specs.Told.{IsSameSeat, SeesFull};
 
 use crate::opening::FileKeys;
 use page_device::PageDevice;
 use queue_model::{Answer, Call};
-use workers::{Base, Fault, Open, Room, Seat, Service};
+use std::sync::Mutex;
+use workers::{Base, Fault, Open, Room, Seat, Service, Stopper};
 
 /// A service that the seats of a script share.
 pub type Shared<D, N> = Service<D, FileKeys, Open, N>;
@@ -23,8 +25,15 @@ pub trait Waiter {
         ensures ok { IfOk result (λ answer.
             seat.new.list ≡ seat.old.list ++ Decided seat.old.seat call answer ∷ []) }
         ensures err { OnErr result (seat.new.list ≡ seat.old.list) }
-        ensures same { seat.new.seat ≡ seat.old.seat };
+        ensures failed { IsErrOf result Fault.Failed → seat.new.failed ≡ true }
+        ensures full { IsErrOf result Fault.SessionFull →
+            SeesFull (length N.origin.callers) seat.new }
+        ensures same { IsSameSeat seat.old seat.new };
 
-    /// As `Service::stop`.
-    fn stop<D: PageDevice + Drop, N: Room + Base>(&self, service: &Shared<D, N>);
+    /// As `Service::stop`, by a stopper that the seats share.
+    fn stop<D: PageDevice + Drop, N: Room + Base>(
+        &self,
+        service: &Shared<D, N>,
+        stopper: &Mutex<Stopper<N>>,
+    );
 }

@@ -25,7 +25,7 @@ loop-work-init g c =
     let room : length c.args.desks.items ≤ vec_capacity c.in-Ok-with_capacity.made = search rules in (
       tt,
       tt,
-      leading_starts IsMadeOf _ _ _ _ _ (gives.0 ∙ same) (gives.1 ∙ many ∙ ap length same)
+      leading_starts (IsMadeOf (length g.N.Base.origin.callers)) _ _ _ _ _ (gives.0 ∙ same) (gives.1 ∙ many ∙ ap length same)
           c.in-Ok-with_capacity.ensures.items room,
     )
 
@@ -40,4 +40,4 @@ loop-work-preserved g c = (
 )
 
 pub returns : goal.returns
-returns g c = all_made _ _ (leading_ends _ _ _ _ _ _ c.loop-work.invariant.2 c.in-None-work.ensures.steps.0)
+returns g c = all_made _ _ _ (leading_ends _ _ _ _ _ _ c.loop-work.invariant.2 c.in-None-work.ensures.steps.0)

@@ -1,4 +1,4 @@
-use Rattle.std.proofs.Common.{ap, sym, ◌∙◌, subst, true}
+use Rattle.std.proofs.Common.{ap, sym, ◌∙◌, subst}
 use Rattle.bucket_page.specs.Pseudokeys.{sha_key}
 use Rattle.msgq_cli.specs.Refusals.{IsFaultAlone}
 use Rattle.msgq_cli.specs.Scripts.{Parts}
@@ -10,8 +10,8 @@ use Rattle.workers.specs.Opening.{origin_of}
 use Rattle.msgq.proofs.runs.run_on.Goals as goal
 
 -- there is no memory to begin
-pub returns-in_default : goal.returns-in_default
-returns-in_default g c =
+pub returns-in_default-clause-ran : goal.returns-in_default-clause-ran
+returns-in_default-clause-ran g c =
     let content = g.D.PageDevice.content c.args.device in
     let honest = g.D.PageDevice.is_honest c.args.device in
     let effects : Effects = record {
@@ -33,8 +33,8 @@ returns-in_default g c =
     c.unrun.ensures.told)
 
 -- the file was opened for the seats of the script
-pub returns-in-Ok-prepare : goal.returns-in-Ok-prepare
-returns-in-Ok-prepare g c =
+pub returns-in-Ok-prepare-clause-ran : goal.returns-in-Ok-prepare-clause-ran
+returns-in-Ok-prepare-clause-ran g c =
     let honest = g.D.PageDevice.is_honest c.args.device in
     let prepared = c.in-Ok-prepare.prepared in
     let effects : Effects = record {
@@ -50,6 +50,6 @@ returns-in-Ok-prepare g c =
     as_several c.args.script.now honest effects c.run_prepared.result.ending
     (sym c.is_of_one_seat.ensures ∙ c.if-is_of_one_seat.false)
     (from_prepared c.args.script.now honest effects prepared c.in-Ok-prepare.ensures.ok c.run_prepared.result.ending
-    (subst (λ (s : Parts). RunsFrom s (counted_from effects.was (origin_of (λ _. sha_key) true prepared))
+    (subst (λ (s : Parts). RunsFrom s (counted_from effects.was (origin_of (λ _. sha_key) prepared))
     (record effects { content = prepared.content }) c.run_prepared.result.ending) c.in-Ok.ensures.script_is
-    (c.run_prepared.ensures effects.was c.in-Ok-prepare.ensures.cause.0)))
+    (c.run_prepared.ensures.ran effects.was c.in-Ok-prepare.ensures.cause.0)))

@@ -1,5 +1,4 @@
--- The service is named by what its file was opened on, and spares its device.
-use Rattle.std.specs.Prelude.{true}
+-- The service is named by what its file was opened on.
 use Rattle.bucket_page.specs.Pseudokeys.{sha_key}
 use Rattle.workers.specs.Opening.{origin_of}
 use Rattle.msgq.proofs.runs.run_on.Given as goal
@@ -8,4 +7,4 @@ abbrev pub ghosts-run_prepared-N-Room : goal.ghosts-run_prepared-N-Room
 ghosts-run_prepared-N-Room g a = record { table = a.prepared.table }
 
 abbrev pub ghosts-run_prepared-N-Base : goal.ghosts-run_prepared-N-Base
-ghosts-run_prepared-N-Base g a = record { origin = origin_of (λ _. sha_key) true a.prepared }
+ghosts-run_prepared-N-Base g a = record { origin = origin_of (λ _. sha_key) a.prepared }

@@ -24,4 +24,4 @@ returns g c =
       untold = c.run_on-ending.result.is_untold;
     } in
     several_new c.args.text.now c.in-Ok.script c.in-Ok.ensures c.run_on-ending.result.ending effects
-    (sym c.is_of_one_seat.ensures ∙ c.if-is_of_one_seat.false) new c.run_on-ending.ensures
+    (sym c.is_of_one_seat.ensures ∙ c.if-is_of_one_seat.false) new c.run_on-ending.ensures.ran

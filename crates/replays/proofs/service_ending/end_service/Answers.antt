@@ -10,11 +10,11 @@ pub returns-then-is_untold : goal.returns-then-is_untold
 returns-then-is_untold g c =
     let fault : c.then_some-fault.result ≡ then_some (is_some c.abandon-ended.result.failure) FAILED =
     c.then_some-fault.ensures ∙ ap (λ b. then_some b FAILED) c.is_some.ensures in
-    rw c.if-is_untold.true (rw fault (let_go_ends _ _ _ _ refl c.abandon-ended.ensures))
+    rw c.if-is_untold.true (rw fault (let_go_ends _ _ _ _ _ refl c.abandon-ended.ensures))
 
 pub returns-in-Closed : goal.returns-in-Closed
-returns-in-Closed g c = rw c.if-is_untold.false (closed_ends _ _ _ c.in-Closed.ensures)
+returns-in-Closed g c = rw c.if-is_untold.false (closed_ends _ _ _ _ c.in-Closed.ensures)
 
 pub returns-in-Fault : goal.returns-in-Fault
 returns-in-Fault g c =
-    rw c.if-is_untold.false (rw c.number.ensures (faulted_ends c.in-Fault.fault _ _ _ c.in-Fault.ensures))
+    rw c.if-is_untold.false (rw c.number.ensures (faulted_ends _ _ _ _ c.in-Fault.fault c.in-Fault.ensures))

@@ -6,3 +6,4 @@ use Rattle.replays.proofs.service_printing.print_all.Given as goal
 abbrev pub invariant-loop-line : goal.invariant-loop-line
 invariant-loop-line g l =
     ArePrinting (take l.line-index l.lines) l.desks l.printed l.fn.output l.output l.ending
+    l.has_stopped
