@@ -1,13 +1,12 @@
 -- Another caller sits at the seat of a session, and a call is made for it.
-use Rattle.std.proofs.Common.{ℕ, ◌≡◌, ◌≤◌, refl, sym, ap, ◌∙◌, subst, Bool, true, false, IsSome, List, Option, Some, None, Result, Err, option_map, arith}
+use Rattle.std.proofs.Common.{◌≡◌, ◌≤◌, sym, ap, ◌∙◌, subst, Bool, true, false, List, Option, Some, Result, Err, option_map, arith}
 use Rattle.buffer_pool.specs.Pool.{PoolState}
-use Rattle.page_locks.specs.Table.{Table}
 use Rattle.interleaving_core.proofs.RenewLemmas.{outlast_at}
 use Rattle.interleaving_core.specs.Renewing.{Reseats, outlasting}
-use Rattle.interleavings.specs.LoneKernelWords.{Answer, Call, Caller, State, caller_at}
+use Rattle.interleavings.specs.LoneKernelWords.{Answer, Call, Caller, caller_at}
 use Rattle.session.specs.Session.{Becomes, CallsAs, CallsLent, Holds, IsNotSeated, IsSeated, IsSession, IsShortened, Seats, SessionState, caller_of}
 use Rattle.session.specs.declared.unanswered.Unanswered.{Unanswered}
-use Rattle.session.specs.declared.unanswered.Unanswered.TheVariants.{Waits, Failed}
+use Rattle.session.specs.declared.unanswered.Unanswered.TheVariants.{Failed}
 use Rattle.session.proofs.PageLemmas.{is_between}
 use Rattle.session.proofs.SessionLemmas.{from_first}
 

@@ -1,5 +1,5 @@
 -- What a session's call comes to, and that it keeps its seat.
-use Rattle.std.proofs.Common.{arith, ℕ, ◌≡◌, ◌≤◌, refl, sym, ap, ◌∙◌, subst, inl, inr, Bool, true, false, IsSome, List, [], Option, Some, None, Result, Ok, Err, length, nat_le, option_map, if◌then◌else◌}
+use Rattle.std.proofs.Common.{arith, ℕ, ◌≡◌, ◌≤◌, refl, sym, ap, ◌∙◌, subst, inl, inr, Bool, true, false, IsSome, List, Option, Some, None, Result, Ok, Err, length, nat_le, option_map, if◌then◌else◌}
 use Rattle.std.proofs.lemmas.Bool.{cases_eq}
 use Rattle.std.proofs.lemmas.Bool.Decides.{nat_tests}
 use Rattle.bucket_page.specs.Pseudokeys.{sha_key}
