@@ -1,5 +1,5 @@
 -- What a session's call comes to, and that it keeps its seat.
-use Rattle.std.proofs.Common.{arith, ℕ, ◌≡◌, ◌≤◌, refl, sym, ap, ◌∙◌, subst, inl, inr, Bool, true, false, IsSome, List, Option, Some, None, Err, length, nat_le, option_map, if◌then◌else◌}
+use Rattle.std.proofs.Common.{arith, ℕ, ◌≡◌, ◌≤◌, refl, sym, ap, ◌∙◌, subst, inl, inr, Bool, true, false, IsSome, List, Option, Some, None, Result, Ok, Err, length, nat_le, option_map, if◌then◌else◌}
 use Rattle.std.proofs.lemmas.Bool.{cases_eq}
 use Rattle.std.proofs.lemmas.Bool.Decides.{nat_tests}
 use Rattle.bucket_page.specs.Pseudokeys.{sha_key}
@@ -23,8 +23,9 @@ use Rattle.interleavings.proofs.LoneRoomLemmas.{begun_with_room}
 use Rattle.interleavings.specs.LoneKernelLaws.{AnswersLoneCalls, RefusesAtRest, StandsBehind, StandsDriven, StopsAKernel}
 use Rattle.interleavings.specs.Lone.{WaitsOver}
 use Rattle.interleavings.specs.LoneKernelWords.{ActiveView, Answer, BeginFault, Call, Caller, HasCall, IsDriven, IsMove, IsRefused, IsSeat, IsStopped, IsWhole, State, Step, call_at, caller_at, with_call}
-use Rattle.session.specs.Session.{Becomes, Calls, Holds, IsSession, IsShortened, SessionState, Stops, came_of, caller_of, is_waiting, saved_of, unanswered_by}
-use Rattle.session.specs.declared.unanswered.Unanswered.TheVariants.{Waits}
+use Rattle.session.specs.Session.{Becomes, Calls, CallsLent, Holds, IsSession, IsShortened, SessionState, Stops, came_of, caller_of, is_waiting, saved_of, unanswered_by}
+use Rattle.session.specs.declared.unanswered.Unanswered.{Unanswered}
+use Rattle.session.specs.declared.unanswered.Unanswered.TheVariants.{Waits, NoRoom, NoMemory, Failed}
 
 -- ---- its journal is let go
 
@@ -53,12 +54,26 @@ module _ (call : Call) (c : Caller) (s : State) (waiting : SessionState)
   since None some = absurd cc
   since (Some n) some = (n, refl)
 
-  withdrawn : (back : Option Call) (new : SessionState) → Withdraws 1 back waiting new → Holds s new
-  withdrawn None new left =
+  -- so it comes back
+  comes : (new : SessionState) → Withdraws 1 None waiting new → ⊥
+  comes new left =
       let told = since active.wait waits.told in
       let fresh = (waits.serves.asleep told.0 told.1).begins.new in
-      absurd (left.none active waits.serves.there (new_has_nothing active.machine fresh))
-  withdrawn (Some back) new went =
+      left.none active waits.serves.there (new_has_nothing active.machine fresh)
+
+  -- and is what it was
+  as_it_was : (back : Call) (new : SessionState) → Withdraws 1 (Some back) waiting new → back ≡ call
+  as_it_was back new went =
+      let told = since active.wait waits.told in
+      went.call_is
+      ∙ ap (λ (a : ActiveView). a.machine.call) (one went.active (sym went.there ∙ waits.serves.there))
+      ∙ (waits.serves.asleep told.0 told.1).begins.call_is
+    where
+      one : (a : ActiveView) → ◌≡◌ {A = Option ActiveView} (Some a) (Some active) → a ≡ active
+      one a same = cc
+
+  withdrawn : (back : Call) (new : SessionState) → Withdraws 1 (Some back) waiting new → Holds s new
+  withdrawn back new went =
       let told = since active.wait waits.told in
       let there = seat_of_call waiting.seats 1 active waits.serves.there in
       let rests : Holds s (record waiting { seats = with_call waiting.seats 1 None }) = record {
@@ -72,43 +87,38 @@ module _ (call : Call) (c : Caller) (s : State) (waiting : SessionState)
       } in
       subst (Holds s) (sym went.is) rests
 
--- callers, locks and what was saved stay
+-- callers, locks and what was saved stay, and no transfer that failed is forgotten
 pub record KeepsSeat (old new : SessionState) : Type 0 where
   pub callers : new.callers ≡ old.callers
   pub seat : IsSeat old.locks 1 → IsSeat new.locks 1
   pub stored : spared new.pool ≡ spared old.pool
+  pub later : old.pool.faults ≤ new.pool.faults
 
 stays : (k : SessionState) → KeepsSeat k k
-stays k = record { callers = refl; seat = λ is. is; stored = refl }
+stays k = record { callers = refl; seat = λ is. is; stored = refl; later = omega arith }
 
 pub keeps_seat_back : (back : Option Call) (old new : SessionState) → Withdraws 1 back old new → KeepsSeat old new
 keeps_seat_back None old new left = subst (KeepsSeat old) (sym left.same) (stays old)
 keeps_seat_back (Some back) old new went =
-    subst (KeepsSeat old) (sym went.is) (record { callers = refl; seat = λ is. is; stored = refl })
+    subst (KeepsSeat old) (sym went.is) (record { callers = refl; seat = λ is. is; stored = refl; later = omega arith })
 
 -- ---- it keeps its seat
-
-pub keeps_seat_shortened : (old first : SessionState) → IsShortened old first → KeepsSeat old first
-keeps_seat_shortened old first same = record {
-  callers = same.callers;
-  seat = subst (λ (t : Table). IsSeat t 1) (sym same.locks);
-  stored = ap spared same.pool;
-}
 
 pub keeps_seat_refused : (call : Call) (refusal : Call × BeginFault) (old new : SessionState) →
     IsRefused 1 call refusal old new → KeepsSeat old new
 keeps_seat_refused call refusal old new refused =
-    subst (KeepsSeat old) (sym refused.same) (record { callers = refl; seat = λ is. is; stored = refl })
+    subst (KeepsSeat old) (sym refused.same) (record { callers = refl; seat = λ is. is; stored = refl; later = omega arith })
 
 pub keeps_seat_begun : (call : Call) (old new : SessionState) → HasCall 1 call old new → KeepsSeat old new
 keeps_seat_begun call old new has =
-    subst (KeepsSeat old) (sym has.is) (record { callers = refl; seat = λ is. is; stored = refl })
+    subst (KeepsSeat old) (sym has.is) (record { callers = refl; seat = λ is. is; stored = refl; later = omega arith })
 
 pub keeps_seat_run : (answer : Option Answer) (old new : SessionState) → IsRun 1 answer old new → KeepsSeat old new
 keeps_seat_run answer old new run = record {
   callers = run.rest.callers;
   seat = λ is. subst (λ (t : Table). IsSeat t 1) (sym run.locks) (IsSeat-with_row old.locks 1 1 _ is);
   stored = run.rest.stored;
+  later = run.rest.later;
 }
 
 pub then_keeps : (a b c : SessionState) → KeepsSeat a b → KeepsSeat b c → KeepsSeat a c
@@ -116,6 +126,7 @@ then_keeps a b c first last = record {
   callers = last.callers ∙ first.callers;
   seat = λ is. last.seat (first.seat is);
   stored = last.stored ∙ first.stored;
+  later = let begun = first.later in let ended = last.later in omega (arith, begun, ended);
 }
 
 pub same_caller : (old new : SessionState) → KeepsSeat old new → caller_of new ≡ caller_of old
@@ -126,12 +137,6 @@ IsRoomy p = length p.stored ≤ p.frames
 
 pub same_saved : (old new : SessionState) → KeepsSeat old new → IsSession old → saved_of new ≡ saved_of old
 same_saved old new keeps is = stored_kept old.pool new.pool keeps.stored is.roomy
-
--- where its journal may have been let go before
-saved_behind : (old first last : SessionState) → IsShortened old first → IsSession first → KeepsSeat old last →
-    saved_of last ≡ saved_of old
-saved_behind old first last same is keeps =
-    stored_kept old.pool last.pool keeps.stored (subst IsRoomy same.pool is.roomy)
 
 roomy_kept : (s t : PoolState) → spared t ≡ spared s → IsRoomy s → IsRoomy t
 unfolding spared
@@ -171,83 +176,105 @@ apart : (k : SessionState) → k.failed ≡ false → k.failed ≡ true → ⊥
 apart k sound failed = absurd cc
 
 -- it does not begin
-module _ (refuses : RefusesAtRest ShaKey) (call : Call) (refusal : Call × BeginFault) (old first new : SessionState)
-    (same : IsShortened old first) (is : IsSession first) (refused : IsRefused 1 call refusal first new) where
-  not_begun : (s : State) → Holds s old → Becomes call s (Err (unanswered_by refusal.1)) old new
+module _ (refuses : RefusesAtRest ShaKey) (call left : Call) (refusal : Call × BeginFault) (old new : SessionState)
+    (is : IsSession old) (refused : IsRefused 1 call refusal old new) where
+  not_begun : (s : State) → Holds s old → Becomes (caller_of old) call s (Err (unanswered_by refusal.1)) old new
   not_begun s holds = by refusal.1 refused.cause
     where
-      before : Holds s first
-      before = same.holds s holds
+      same : Holds s new
+      same = refuses sha_key 1 call s refusal old new holds refused
 
-      left : Holds s new
-      left = refuses sha_key 1 call s refusal first new before refused
+      by : (fault : BeginFault) → Refuses 1 old fault →
+          Becomes (caller_of old) call s (Err (unanswered_by fault)) old new
+      by begins.Failed cause = absurd (apart old holds.sound cause)
+      by begins.Busy cause = same
+      by begins.SessionFull cause = same
+      by begins.NoMemory cause = same
 
-      by : (fault : BeginFault) → Refuses 1 first fault → Becomes call s (Err (unanswered_by fault)) old new
-      by begins.Failed cause = absurd (apart first before.sound cause)
-      by begins.Busy cause = left
-      by begins.SessionFull cause = left
-      by begins.NoMemory cause = left
+  never_waits : (fault : BeginFault) → ◌≡◌ {A = Result Answer Unanswered} (Err (unanswered_by fault)) (Err Waits) → ⊥
+  never_waits begins.Failed is = cc
+  never_waits begins.Busy is = cc
+  never_waits begins.SessionFull is = cc
+  never_waits begins.NoMemory is = cc
 
   refused_keeps : KeepsSeat old new
-  refused_keeps = then_keeps old first new (keeps_seat_shortened old first same)
-      (keeps_seat_refused call refusal first new refused)
+  refused_keeps = keeps_seat_refused call refusal old new refused
 
-  pub is_refused : Calls call (Err (unanswered_by refusal.1)) old new
+  pub is_refused : CallsLent call left (Err (unanswered_by refusal.1)) old new
   is_refused = record {
-    becomes = not_begun;
-    caller = same_caller old new refused_keeps;
-    saved = saved_behind old first new same is refused_keeps;
+    calls = record {
+      becomes = not_begun;
+      caller = same_caller old new refused_keeps;
+      saved = same_saved old new refused_keeps is;
+    };
+    is_left = λ s holds waits. absurd (never_waits refusal.1 waits);
+    later = refused_keeps.later;
   }
 
 -- it is driven
-module _ (answers : AnswersLoneCalls ShaKey) (call : Call) (old first begun last : SessionState)
-    (same : IsShortened old first) (whole : IsWhole first) (is : IsSession first)
-    (has : HasCall 1 call first begun)
+module _ (answers : AnswersLoneCalls ShaKey) (call : Call) (old begun last : SessionState)
+    (whole : IsWhole old) (is : IsSession old) (has : HasCall 1 call old begun)
     (did : Step) (driven : IsDriven sha_key 1 did begun last) (told : Option Answer) (run : IsRun 1 told begun last)
   where
-    its_caller : caller_of old ≡ Some has.caller
-    its_caller = ap (λ (cs : List Caller). caller_at cs 1) (sym same.callers) ∙ has.sits
-
     keeps : KeepsSeat old last
-    keeps = then_keeps old first last (keeps_seat_shortened old first same) (then_keeps first begun last
-        (keeps_seat_begun call first begun has) (keeps_seat_run told begun last run))
+    keeps = then_keeps old begun last (keeps_seat_begun call old begun has) (keeps_seat_run told begun last run)
 
     stands : (s : State) → Holds s old → StandsDriven sha_key 1 has.caller call s did begun last driven
-    stands s holds = answers sha_key 1 has.caller call s did first begun last whole (same.holds s holds) is.seat
-        has.sits has driven
+    stands s holds = answers sha_key 1 has.caller call s did old begun last whole holds is.seat has.sits has driven
 
     behind : (s : State) → Holds s old → (d : Step) → did ≡ d → StandsBehind sha_key 1 has.caller call s d last
     behind s holds d is_d =
         subst (λ (x : Step). StandsBehind sha_key 1 has.caller call s x last) is_d (stands s holds).stands
 
-    pub told_waiting : is_waiting did ≡ true → (back : Option Call) (new : SessionState) → Withdraws 1 back last new →
-        Calls call (Err Waits) old new
-    told_waiting waiting back new went = record {
-      becomes = λ s holds.
-          let waits = behind s holds steps.Waiting (is_it did waiting) in (
-            ap (λ (c : Option Caller). outcome_for c call s) its_caller ∙ waits.none,
-            withdrawn call has.caller s last waits back new went,
-          );
-      caller = same_caller old new (keeps_back back new went);
-      saved = saved_behind old first new same is (keeps_back back new went);
-    }
-      where
-        keeps_back : (back : Option Call) (new : SessionState) → Withdraws 1 back last new → KeepsSeat old new
-        keeps_back back new went = then_keeps old last new keeps (keeps_seat_back back last new went)
+    is_it : (d : Step) → is_waiting d ≡ true → d ≡ steps.Waiting
+    is_it (steps.Moved kind) is = absurd cc
+    is_it (steps.Blocked other) is = absurd cc
+    is_it steps.Waiting is = refl
+    is_it (steps.Answered answer) is = absurd cc
+    is_it steps.Idle is = absurd cc
+    is_it (steps.Fault fault) is = absurd cc
 
-        is_it : (d : Step) → is_waiting d ≡ true → d ≡ steps.Waiting
-        is_it (steps.Moved kind) is = absurd cc
-        is_it (steps.Blocked other) is = absurd cc
-        is_it steps.Waiting is = refl
-        is_it (steps.Answered answer) is = absurd cc
-        is_it steps.Idle is = absurd cc
-        is_it (steps.Fault fault) is = absurd cc
+    -- its seat was told that it waits
+    module _ (waiting : is_waiting did ≡ true) where
+      waits : (s : State) → Holds s old → WaitsOver sha_key 1 has.caller call s last
+      waits s holds = behind s holds steps.Waiting (is_it did waiting)
+
+      keeps_back : (back : Option Call) (new : SessionState) → Withdraws 1 back last new → KeepsSeat old new
+      keeps_back back new went = then_keeps old last new keeps (keeps_seat_back back last new went)
+
+      pub told_waiting : (back : Call) (new : SessionState) → Withdraws 1 (Some back) last new →
+          CallsLent call back (Err Waits) old new
+      told_waiting back new went = record {
+        calls = record {
+          becomes = λ s holds. (
+            ap (λ (c : Option Caller). outcome_for c call s) has.sits ∙ (waits s holds).none,
+            withdrawn call has.caller s last (waits s holds) back new went,
+          );
+          caller = same_caller old new (keeps_back (Some back) new went);
+          saved = same_saved old new (keeps_back (Some back) new went) is;
+        };
+        is_left = λ s holds told. as_it_was call has.caller s last (waits s holds) back new went;
+        later = (keeps_back (Some back) new went).later;
+      }
+
+      -- it does not come back: it holds no system
+      pub told_none : (left : Call) (new : SessionState) → Withdraws 1 None last new →
+          CallsLent call left (Err Failed) old new
+      told_none left new none = record {
+        calls = record {
+          becomes = λ s holds. absurd (comes call has.caller s last (waits s holds) new none);
+          caller = same_caller old new (keeps_back None new none);
+          saved = same_saved old new (keeps_back None new none) is;
+        };
+        is_left = λ s holds told. absurd (comes call has.caller s last (waits s holds) new none);
+        later = (keeps_back None new none).later;
+      }
 
     faults_same : begun.pool.faults ≡ old.pool.faults
-    faults_same = ap (λ (k : SessionState). k.pool.faults) has.is ∙ ap (λ (p : PoolState). p.faults) same.pool
+    faults_same = ap (λ (k : SessionState). k.pool.faults) has.is
 
     becomes_so : (s : State) → Holds s old → (d : Step) → did ≡ d → is_waiting d ≡ false →
-        Becomes call s (came_of d) old last
+        Becomes (caller_of old) call s (came_of d) old last
     becomes_so s holds (steps.Moved kind) is_d over =
         absurd (subst (λ (x : Step). IsMove x → ⊥) is_d (stands s holds).rests tt)
     becomes_so s holds (steps.Blocked other) is_d over = absurd (behind s holds (steps.Blocked other) is_d)
@@ -256,21 +283,21 @@ module _ (answers : AnswersLoneCalls ShaKey) (call : Call) (old first begun last
         let answered = behind s holds (steps.Answered answer) is_d in
         record {
           after = answered.after;
-          by_rules = ap (λ (c : Option Caller). outcome_for c call s) its_caller ∙ answered.by_rules;
+          by_rules = ap (λ (c : Option Caller). outcome_for c call s) has.sits ∙ answered.by_rules;
           holds = answered.rests;
         }
     becomes_so s holds steps.Idle is_d over = absurd (behind s holds steps.Idle is_d)
     becomes_so s holds (steps.Fault faults.NoRoom) is_d over =
         record {
           caller = has.caller;
-          sits = its_caller;
-          first = first;
-          shortened = same;
+          sits = has.sits;
+          first = old;
+          seated = record { holds = λ t is. is; pool = refl; locks = refl; sits = has.sits };
           begun = begun;
           begins = has;
           lacks = elim ((stands s holds).room is_d) [
             | inl lacks ↦ lacks
-            | inr had ↦ absurd (begun_with_room 1 call first begun has had)
+            | inr had ↦ absurd (begun_with_room 1 call old begun has had)
           ];
           holds = (behind s holds (steps.Fault faults.NoRoom) is_d).1;
         }
@@ -279,12 +306,78 @@ module _ (answers : AnswersLoneCalls ShaKey) (call : Call) (old first begun last
       cause = subst (λ (n : ℕ). HasRisen n last.pool.faults) faults_same ((stands s holds).cause (ap is_failure is_d));
     }
 
-    pub told_else : is_waiting did ≡ false → Calls call (came_of did) old last
-    told_else over = record {
-      becomes = λ s holds. becomes_so s holds did refl over;
-      caller = same_caller old last keeps;
-      saved = saved_behind old first last same is keeps;
+    comes_of : (d : Step) → is_waiting d ≡ false → came_of d ≡ Err Waits → ⊥
+    comes_of (steps.Moved kind) over is = cc
+    comes_of (steps.Blocked other) over is = cc
+    comes_of steps.Waiting over is = cc
+    comes_of (steps.Answered answer) over is = cc
+    comes_of steps.Idle over is = cc
+    comes_of (steps.Fault faults.NoRoom) over is = cc
+    comes_of (steps.Fault (faults.File fault)) over is = cc
+
+    pub told_else : is_waiting did ≡ false → (left : Call) → CallsLent call left (came_of did) old last
+    told_else over left = record {
+      calls = record {
+        becomes = λ s holds. becomes_so s holds did refl over;
+        caller = same_caller old last keeps;
+        saved = same_saved old last keeps is;
+      };
+      is_left = λ s holds waits. absurd (comes_of did over waits);
+      later = keeps.later;
     }
+
+-- a call that was taken out of where it was lent
+pub of_lent : (made call left : Call) (result : Result Answer Unanswered) (old new : SessionState) → made ≡ call →
+    CallsLent made left result old new → CallsLent call left result old new
+of_lent made call left result old new same lent = subst (λ (x : Call). CallsLent x left result old new) same lent
+
+-- ---- behind what was done before it was made
+
+-- the same pages and locks, which hold what they held
+pub record IsBehind (old first : SessionState) : Type 0 where
+  pub holds : (s : State) → Holds s old → Holds s first
+  pub pool : first.pool ≡ old.pool
+  pub locks : first.locks ≡ old.locks
+
+pub from_first : (by : Option Caller) (call : Call) (s : State) (old first new : SessionState) → IsBehind old first →
+    (result : Result Answer Unanswered) → Becomes by call s result first new → Becomes by call s result old new
+from_first by call s old first new same (Ok answer) becomes = becomes
+from_first by call s old first new same (Err Waits) becomes = becomes
+from_first by call s old first new same (Err NoRoom) becomes = record {
+  caller = becomes.caller;
+  sits = becomes.sits;
+  first = becomes.first;
+  seated = record {
+    holds = λ t holds. becomes.seated.holds t (same.holds t holds);
+    pool = becomes.seated.pool ∙ same.pool;
+    locks = becomes.seated.locks ∙ same.locks;
+    sits = becomes.seated.sits;
+  };
+  begun = becomes.begun;
+  begins = becomes.begins;
+  lacks = becomes.lacks;
+  holds = becomes.holds;
+}
+from_first by call s old first new same (Err NoMemory) becomes = becomes
+from_first by call s old first new same (Err Failed) becomes = record {
+  failed = becomes.failed;
+  cause = subst (λ (p : PoolState). HasRisen p.faults new.pool.faults) same.pool becomes.cause;
+}
+
+pub shortened_calls : (call left : Call) (result : Result Answer Unanswered) (old first new : SessionState) →
+    IsShortened old first → CallsLent call left result first new → Calls call result old new
+shortened_calls call left result old first new same lent = record {
+  becomes = λ s holds.
+      from_first (caller_of old) call s old first new
+      (record { holds = same.holds; pool = same.pool; locks = same.locks }) result
+      (subst (λ (c : Option Caller). Becomes c call s result first new) its
+      (lent.calls.becomes s (same.holds s holds)));
+  caller = lent.calls.caller ∙ its;
+  saved = lent.calls.saved ∙ ap (λ (p : PoolState). p.stored) same.pool;
+}
+  where
+    its : caller_of first ≡ caller_of old
+    its = ap (λ (cs : List Caller). caller_at cs 1) same.callers
 
 -- ---- it is stopped
 
@@ -292,7 +385,7 @@ keeps_seat_stopped : (old new : SessionState) → IsStopped old new → (b : Boo
 keeps_seat_stopped old new stop true was =
     subst (KeepsSeat old) (sym (stop.again was)) (stays old)
 keeps_seat_stopped old new stop false was =
-    subst (KeepsSeat old) (sym (stop.first was)) (record { callers = refl; seat = λ is. is; stored = refl })
+    subst (KeepsSeat old) (sym (stop.first was)) (record { callers = refl; seat = λ is. is; stored = refl; later = omega arith })
 
 pub keeps_seat_stop : (old new : SessionState) → IsStopped old new → KeepsSeat old new
 keeps_seat_stop old new stop = keeps_seat_stopped old new stop old.stopped refl

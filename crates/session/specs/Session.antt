@@ -117,6 +117,13 @@ pub record IsShortened (old new : SessionState) : Type 0 where
   pub callers : new.callers ≡ old.callers
   pub locks : new.locks ≡ old.locks
 
+-- its calls are this caller's from here on; it holds what it held
+pub record IsSeated (caller : Caller) (old new : SessionState) : Type 0 where
+  pub holds : (s : State) → Holds s old → Holds s new
+  pub pool : new.pool ≡ old.pool
+  pub locks : new.locks ≡ old.locks
+  pub sits : caller_of new ≡ Some caller
+
 -- why a call is not answered that does not begin
 abbrev pub unanswered_by : BeginFault → Unanswered
 unanswered_by begins.Failed = Failed
@@ -142,19 +149,20 @@ came_of steps.Idle = Err Failed
 came_of (steps.Fault faults.NoRoom) = Err NoRoom
 came_of (steps.Fault (faults.File fault)) = Err Failed
 
--- the rules have this answer, and the session holds the system after it
-pub record IsAnswered (call : Call) (s : State) (answer : Answer) (old new : SessionState) : Type 0 where
-  pub after : State
-  pub by_rules : outcome_for (caller_of old) call s ≡ Some (answer, after)
-  pub holds : Holds after new
+-- the rules have this answer for whom the call is made, and the session holds the system after it
+pub record IsAnswered (by : Option Caller) (call : Call) (s : State) (answer : Answer) (new : SessionState) : Type 0
+  where
+    pub after : State
+    pub by_rules : outcome_for by call s ≡ Some (answer, after)
+    pub holds : Holds after new
 
 -- a record that the call was to insert had no room in the pages at a step of it, and nothing has changed
-pub record LacksRoom (call : Call) (s : State) (old new : SessionState) : Type 0 where
+pub record LacksRoom (by : Option Caller) (call : Call) (s : State) (old new : SessionState) : Type 0 where
   pub caller : Caller
-  pub sits : caller_of old ≡ Some caller
-  -- it began, once the journal was let go or was left, and was driven
+  pub sits : by ≡ Some caller
+  -- it began at this caller's seat, over the same pages and locks, and was driven
   pub first : SessionState
-  pub shortened : IsShortened old first
+  pub seated : IsSeated caller old first
   pub begun : SessionState
   pub begins : HasCall 1 call first begun
   pub lacks : LacksInPages sha_key 1 caller call s begun
@@ -165,20 +173,47 @@ pub record HasFailed (old new : SessionState) : Type 0 where
   pub failed : new.failed ≡ true
   pub cause : HasRisen old.pool.faults new.pool.faults
 
--- what a call comes to that is made of this system
-abbrev pub Becomes : Call → State → Result Answer Unanswered → (old new : SessionState) → Type 0
-Becomes call s (Ok answer) old new = IsAnswered call s answer old new
+-- what a call comes to that is made for somebody, of this system
+abbrev pub Becomes : Option Caller → Call → State → Result Answer Unanswered → (old new : SessionState) → Type 0
+Becomes by call s (Ok answer) old new = IsAnswered by call s answer new
 -- the rules have no answer, and nothing has changed
-Becomes call s (Err Waits) old new = (outcome_for (caller_of old) call s ≡ None) × Holds s new
-Becomes call s (Err NoRoom) old new = LacksRoom call s old new
+Becomes by call s (Err Waits) old new = (outcome_for by call s ≡ None) × Holds s new
+Becomes by call s (Err NoRoom) old new = LacksRoom by call s old new
 -- nothing has changed
-Becomes call s (Err NoMemory) old new = Holds s new
-Becomes call s (Err Failed) old new = HasFailed old new
+Becomes by call s (Err NoMemory) old new = Holds s new
+Becomes by call s (Err Failed) old new = HasFailed old new
 
 pub record Calls (call : Call) (result : Result Answer Unanswered) (old new : SessionState) : Type 0 where
-  pub becomes : (s : State) → Holds s old → Becomes call s result old new
+  pub becomes : (s : State) → Holds s old → Becomes (caller_of old) call s result old new
   pub caller : caller_of new ≡ caller_of old
   pub saved : saved_of new ≡ saved_of old
+
+-- what is left of it where it was lent: one that has to wait is as it was
+abbrev pub IsLeft : Call → (left : Call) → Result Answer Unanswered → SessionState → Type 0
+IsLeft call left result old = (s : State) → Holds s old → result ≡ Err Waits → left ≡ call
+
+-- the same of a call that is lent
+pub record CallsLent (call left : Call) (result : Result Answer Unanswered) (old new : SessionState) : Type 0 where
+  pub calls : Calls call result old new
+  pub is_left : IsLeft call left result old
+  pub later : old.pool.faults ≤ new.pool.faults
+
+-- of one that is made for this caller
+pub record CallsAs (caller : Caller) (call left : Call) (result : Result Answer Unanswered) (old new : SessionState)
+    : Type 0 where
+  pub becomes : (s : State) → Holds s old → Becomes (Some caller) call s result old new
+  pub is_left : IsLeft call left result old
+  pub later : old.pool.faults ≤ new.pool.faults
+  pub saved : saved_of new ≡ saved_of old
+
+-- a caller has no seat at a session that holds no system
+pub record IsNotSeated (old new : SessionState) : Type 0 where
+  pub same : new ≡ old
+  pub holds_none : (s : State) → Holds s old → ⊥
+
+abbrev pub Seats : Caller → Bool → (old new : SessionState) → Type 0
+Seats caller true old new = IsSeated caller old new
+Seats caller false old new = IsNotSeated old new
 
 -- it is stopped: from here on a call that would wait is refused
 pub record Stops (old new : SessionState) : Type 0 where

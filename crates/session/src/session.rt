@@ -2,7 +2,7 @@
 
 ghost use Rattle.std.specs.Prelude.{◌≡◌, ◌/◌, ◌<◌, IfErr, IfOk, length};
 ghost use Rattle.page_device.specs.declared.page.TheConstants.{PAGE_BYTES};
-ghost use Rattle.session.specs.Session.{Calls, GivesPage, IsShortened, MayNotOpen, MayNotOpenBytes, NotesSave, Opens, OpensNew, Stops, TellsChanges, pages_in, pages_of};
+ghost use Rattle.session.specs.Session.{Calls, CallsAs, CallsLent, GivesPage, IsShortened, MayNotOpen, MayNotOpenBytes, NotesSave, Opens, OpensNew, Seats, Stops, TellsChanges, pages_in, pages_of};
 ghost use Rattle.session.specs.Words.{CanHavePages, NO_MEMORY, open_number_of};
 
 use crate::loading::loaded;
@@ -18,6 +18,7 @@ use queue_model::{Answer, Call, Caller};
 use record_file::format;
 use std::alloc::Global;
 use std::marker::Model;
+use std::mem;
 
 /// How the keys of a file are spread over its buckets.
 type FileKeys = KeptKeys<ShaKey>;
@@ -86,19 +87,20 @@ impl Session {
     pub fn call(&mut self, call: Call) -> Result<Answer, Unanswered>
         ensures { Calls call result self.old self.new }
     {
-        a_refusal_leaves_a_kernel_at_rest::<FileKeys>();
-        a_lone_call_is_answered_by_the_rules::<FileKeys>();
         self.shorten();
-        self.kernel.is_whole();
-        if let Err((_, fault)) = self.kernel.begin(SEAT, call) {
-            return Err(Unanswered::of(fault));
+        let mut call = call;
+        self.make(&mut call)
+    }
+
+    /// The same for another caller, whose the session is from here on. The call is lent: one that
+    /// would wait is left as it was, and of any other nothing is left.
+    pub fn call_as(&mut self, caller: Caller, call: &mut Call) -> Result<Answer, Unanswered>
+        ensures { CallsAs caller call.old call.new result self.old self.new }
+    {
+        if !self.seat(caller) {
+            return Err(Unanswered::Failed);
         }
-        let told = self.kernel.drive(SEAT);
-        if !is_waiting(&told) {
-            return came_of(told);
-        }
-        self.kernel.withdraw(SEAT);
-        Err(Unanswered::Waits)
+        self.make(call)
     }
 
     /// Stops the system: from here on a call that would wait is refused EINTR.
@@ -164,6 +166,42 @@ impl Session {
             Ok(kernel) => Ok(Session { kernel }),
             Err((_, fault)) => Err(fault),
         }
+    }
+
+    /// Makes a call that is lent, for whoever sits at the seat.
+    fn make(&mut self, call: &mut Call) -> Result<Answer, Unanswered>
+        ensures { CallsLent call.old call.new result self.old self.new }
+    {
+        a_refusal_leaves_a_kernel_at_rest::<FileKeys>();
+        a_lone_call_is_answered_by_the_rules::<FileKeys>();
+        self.kernel.is_whole();
+        let made = mem::replace(call, Call::Stat { id: 0 });
+        if let Err((_, fault)) = self.kernel.begin(SEAT, made) {
+            return Err(Unanswered::of(fault));
+        }
+        let told = self.kernel.drive(SEAT);
+        if !is_waiting(&told) {
+            return came_of(told);
+        }
+        // A call of which its seat was told that it waits comes back.
+        let Some(back) = self.kernel.withdraw(SEAT) else {
+            return Err(Unanswered::Failed);
+        };
+        *call = back;
+        Err(Unanswered::Waits)
+    }
+
+    /// Has this caller's calls made from here on. False where the session holds no system.
+    fn seat(&mut self, caller: Caller) -> bool
+        ensures { Seats caller result self.old self.new }
+    {
+        let sits = self.kernel.caller(SEAT);
+        let is_same = sits == caller;
+        if is_same {
+            self.shorten();
+            return true;
+        }
+        self.kernel.reseat(SEAT, caller)
     }
 
     /// Lets the journal go where it is long: nobody reads it.
