@@ -113,6 +113,7 @@ static int read_words(struct request *it, struct words *words) {
     if (count < 1)
         return misuse("the following required argument was not provided: %s", "<FILE>");
     it->file = names[0];
+    it->queue.is_id = it->recovers;
     if (it->recovers)
         return count > 1 || words->count > 0 ? misuse("%s takes a file, and nothing else", "--recover") : DONE;
     if (count < 2)
@@ -196,7 +197,7 @@ static int open_both(const struct request *it, msgq **queues, struct held *held)
         return wrong;
     }
     if (wrong != 0 && !(wrong == ENOENT && it->waits))
-        complain("%s", msgq_reason());
+        complain_of(it, wrong);
     return wrong;
 }
 
@@ -343,7 +344,7 @@ static int settle(const struct request *it, const struct job *job, bool is_done)
     msgq *queues;
     int wrong = open_again(it, &queues);
     if (wrong != 0) {
-        complain("%s", msgq_reason());
+        complain_of(it, wrong);
         return wrong;
     }
     wrong = is_done ? job_finish(queues, job) : job_return(queues, job);
