@@ -1,5 +1,6 @@
 /* A file of queues and its journal: opened, saved, made. */
 #include "pair.h"
+#include "beside.h"
 #include "journal.h"
 #include "making.h"
 #include "reason.h"
@@ -16,62 +17,6 @@
 #include <unistd.h>
 
 /* ---- both are opened */
-
-/* Sees to it that who may not read the file may not read its journal. */
-static int guard(int journal, const struct stat *like) {
-    struct stat now;
-    if (fstat(journal, &now) != 0)
-        return errno;
-    if (now.st_uid != like->st_uid || now.st_gid != like->st_gid) {
-        /* Only a superuser gives a file away; where neither works the mode below keeps the group out. */
-        if (fchown(journal, like->st_uid, like->st_gid) != 0)
-            (void)!fchown(journal, (uid_t)-1, like->st_gid);
-        if (fstat(journal, &now) != 0)
-            return errno;
-    }
-    mode_t mode = like->st_mode & (now.st_gid == like->st_gid ? 0666 : 0606);
-    if ((now.st_mode & 0777) != mode && fchmod(journal, mode) != 0)
-        return errno;
-    return 0;
-}
-
-/* Whether who made the journal may write the file. */
-static bool may_write(const struct stat *journal, const struct stat *file) {
-    return journal->st_uid == file->st_uid || journal->st_uid == 0
-        || (journal->st_gid == file->st_gid && (file->st_mode & 020) != 0) || (file->st_mode & 02) != 0;
-}
-
-/* Opens the journal that stands there; ENOENT where there is none. */
-static int find_journal(struct pair *pair, const char *name, const struct stat *file) {
-    struct stat found;
-    if (lstat(name, &found) != 0)
-        return errno;
-    if (!S_ISREG(found.st_mode) || !may_write(&found, file))
-        return EACCES;
-    int wrong = open_it(&pair->journal, name, O_RDWR | O_NOFOLLOW, 0);
-    return wrong != 0 ? wrong : guard(pair->journal.file, file);
-}
-
-/* Makes a journal; EEXIST where there is one. */
-static int make_journal(struct pair *pair, const char *name, const struct stat *file) {
-    int wrong = open_it(&pair->journal, name, O_RDWR | O_CREAT | O_EXCL, 0600);
-    if (wrong == 0)
-        wrong = guard(pair->journal.file, file);
-    return wrong != 0 ? wrong : sync_folder_of(name);
-}
-
-/* Opens the journal, whose name is that of the file, where no link leads on, and a suffix. */
-static int open_journal(struct pair *pair, const char *path, char *name) {
-    struct stat file;
-    if (realpath(path, name) == NULL || fstat(pair->file.file, &file) != 0)
-        return errno;
-    strcat(name, ".journal");
-    int wrong = find_journal(pair, name, &file);
-    if (wrong == ENOENT && (wrong = make_journal(pair, name, &file)) == EEXIST)
-        /* Another process has made it meanwhile. */
-        wrong = find_journal(pair, name, &file);
-    return wrong;
-}
 
 /* The process that holds a lock, by the system's list, whose lines are as `1: FLOCK  ADVISORY  WRITE 4711 fe:00:1095 0 EOF`; 0
  * where it is not told. */
@@ -111,7 +56,7 @@ static bool is_moved(const char *name, const struct opened *it) {
 
 /* Opens and locks both. ESTALE where one of them was put in the place of another before it was locked. */
 static int open_both(struct pair *pair, const char *path) {
-    char name[PATH_MAX + sizeof ".journal"];
+    char name[BESIDE_BYTES];
     struct stat found;
     /* A fifo would wait for a writer. */
     if (stat(path, &found) != 0)
@@ -120,7 +65,7 @@ static int open_both(struct pair *pair, const char *path) {
         return S_ISDIR(found.st_mode) ? EISDIR : why(EINVAL, "it is no file");
     int wrong = open_it(&pair->file, path, O_RDWR, 0);
     if (wrong == 0)
-        wrong = of_journal(open_journal(pair, path, name));
+        wrong = of_journal(beside_open(&pair->journal, path, ".journal", &pair->file, name));
     if (wrong == 0)
         wrong = lock(&pair->journal);
     if (wrong == 0 && (is_moved(path, &pair->file) || is_moved(name, &pair->journal)))
