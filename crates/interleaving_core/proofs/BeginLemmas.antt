@@ -7,8 +7,7 @@ use Rattle.std.proofs.lemmas.List.Sums.{sum_by-cons}
 use Rattle.std.specs.List.{All}
 use Rattle.std.proofs.lemmas.Option.{get_or_from_slice_get, slice_get-get_or, slice_get_within}
 use Rattle.page_locks.proofs.ChangeLemmas.{with_row-own}
-use Rattle.interleaving_core.specs.Counting.{CountsState, begun_count, opened_counts}
-use Rattle.interleaving_core.specs.declared.under_way.UnderWay.TheVariants.{Nothing}
+use Rattle.interleaving_core.specs.Counting.{CountsState, opened_counts, unbegun_count}
 use Rattle.interleaving_core.specs.Words.{Call, Caller, Entry, HasFittingCall, HasFittingCaller, IsReady, IsSeat, Table, caller_at, with_row}
 use Rattle.xsi_calls.proofs.RowLemmas.{new_holds_nothing}
 use Rattle.interleaving_core.specs.Active.{ActiveView, HasBegun, HasBegunAt, drafted}
@@ -194,7 +193,7 @@ opened_whole n k ready locks seats callers fitting journal stopped room blamed s
   past = λ seat. subst (KeepsJournal seat k.journal)
       (sym (ap (λ (x : Seats). call_at x seat) seats ∙ idle_at n seat)) tt;
   blamed = blamed;
-  counted = ap (λ (s : CountsState). length s.counts) searches ∙ length-replicate n (begun_count Nothing)
+  counted = ap (λ (s : CountsState). length s.counts) searches ∙ length-replicate n unbegun_count
       ∙ sym (ap length seats ∙ length-replicate n None);
 }
   where

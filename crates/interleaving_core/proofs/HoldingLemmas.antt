@@ -1,9 +1,6 @@
 -- What a seat holds of the file is what its call holds.
 use Rattle.std.proofs.Common.{ℕ, ◌≡◌, refl, ap, ◌∙◌, List, Option, Some, None}
 use Rattle.page_locks.specs.Locks.{kind_of}
-use Rattle.page_locks.specs.Table.{held}
-use Rattle.page_locks.specs.declared.lock.LockKind.{LockKind}
-use Rattle.page_locks.specs.declared.lock.LockName.{LockName}
 use Rattle.page_locks.specs.declared.lock.LockName.TheVariants.{Directory, Page}
 use Rattle.std.specs.Prelude.{IfSome}
 use Rattle.xsi_calls.specs.FileLocks.{HoldsOfFile, directory_under, page_under}

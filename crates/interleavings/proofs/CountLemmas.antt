@@ -292,13 +292,14 @@ module _ {F : Type 0} (hash : RecordKey → ℕ) (seat : ℕ) (turn : Turn) (did
             was.hops ≤ next.hops → min next.added MOST_COUNTED ≤ was.changes →
             ((was.calm && is_nothing counts'.under_way) ≡ true → next.calm ≡ true) →
             IsCounted seat facts' (count false) new
-        stays_by next little on hops changes calm = counted_of_walk seat facts' (count false) next new little on (record {
-          hops = hops;
-          most = going.most;
-          changes = still_most next.added (hops_added kind) was.changes changes;
-          calm = calm;
-          entered = had;
-        })
+        stays_by next little on hops changes calm =
+            counted_of_walk seat facts' (count false) next new little on (record {
+              hops = hops;
+              most = going.most;
+              changes = still_most next.added (hops_added kind) was.changes changes;
+              calm = calm;
+              entered = had;
+            })
 
         as_calm : (next : SearchWalk) → IsAsAdded is.walk next → (was.calm && is_nothing counts'.under_way) ≡ true →
             next.calm ≡ true

@@ -1,5 +1,5 @@
 -- A seat that holds the directory to read was granted it by the step with which its search began.
-use Rattle.std.proofs.Common.{ℕ, ◌≡◌, ◌≢◌, inl, inr, refl, sym, ap, ◌∙◌, subst, Bool, true, false, List, [], ◌∷◌, ◌++◌, Option, Some, None, IsSome}
+use Rattle.std.proofs.Common.{ℕ, ◌≡◌, ◌≢◌, inl, inr, refl, sym, ap, ◌∙◌, subst, true, false, List, [], ◌∷◌, ◌++◌, Option, Some, IsSome}
 use Rattle.std.proofs.lemmas.Bool.{true≢false}
 use Rattle.bucket_page.specs.declared.record_key.RecordKey.{RecordKey}
 use Rattle.page_locks.proofs.ChangeLemmas.{ChangesOnly-grant, IsSeat-with_row, held-convert, held-grant}
@@ -21,7 +21,7 @@ use Rattle.step_rules.specs.Known.{Known, Deep, LeadsTo, OnPage, Live, Built, To
 use Rattle.step_rules.specs.LockSteps.{Grants, MovesOn}
 use Rattle.step_rules.specs.Searching.{WalksTo, StepsTo, ByEntry, WasBefore, Stays, HopsBack, HopsOn}
 use Rattle.step_rules.specs.Sound.{IsSoundWorld}
-use Rattle.step_rules.specs.Turns.{Ask, ForLock, ForEntry, ForPage, ForAnswer, HopFrom, ToExclusive, GrantsAsked}
+use Rattle.step_rules.specs.Turns.{Ask, ForEntry, ForPage, ForAnswer, HopFrom, GrantsAsked}
 use Rattle.step_rules.specs.Walking.{IsWalkBy}
 use Rattle.step_rules.specs.Walks.{SearchWalk}
 use Rattle.step_rules.specs.Words.{next_at}

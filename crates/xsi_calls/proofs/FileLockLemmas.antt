@@ -20,12 +20,12 @@ use Rattle.record_file.specs.declared.operation.RecordOperation.TheVariants as o
 use Rattle.record_file.specs.declared.second_place.SecondPlace.{SecondPlace}
 use Rattle.record_file.specs.declared.second_place.SecondPlace.TheVariants as second
 use Rattle.record_file.specs.split_merge.Places.{locks_at as merge_locks_at}
-use Rattle.record_file.specs.split_merge.Splits.{SplitView, split_locks, locks_at as split_locks_at}
+use Rattle.record_file.specs.split_merge.Splits.{locks_at as split_locks_at}
 use Rattle.record_file.specs.split_merge.declared.merge_place.MergePlace.{MergePlace}
 use Rattle.record_file.specs.split_merge.declared.merge_place.MergePlace.TheVariants as merge
 use Rattle.record_file.specs.split_merge.declared.place.SplitPlace.{SplitPlace}
 use Rattle.record_file.specs.split_merge.declared.place.SplitPlace.TheVariants as split
-use Rattle.record_file.specs.stale_search.Approaches.{ApproachView, approach_locks, approach_locks_at}
+use Rattle.record_file.specs.stale_search.Approaches.{ApproachView, approach_locks_at}
 use Rattle.record_file.specs.stale_search.Searches.{SearchView, locks_at}
 use Rattle.record_file.specs.stale_search.declared.place.ApproachPlace.{ApproachPlace}
 use Rattle.record_file.specs.stale_search.declared.place.ApproachPlace.TheVariants as approach

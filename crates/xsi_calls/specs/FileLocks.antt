@@ -1,11 +1,10 @@
 -- Which locks of the file a call holds at each of its places: the directory's, in which kind, and those of the pages of
 -- the access under way. docs/STEPS.md, "Locks", "Insert, Replace, Delete".
-use Rattle.std.specs.Prelude.{ℕ, ◌≡◌, List, [], Option, Some, None}
+use Rattle.std.specs.Prelude.{ℕ, ◌≡◌, [], Option, Some, None}
 use Rattle.page_locks.specs.Locks.{kind_of}
 use Rattle.page_locks.specs.declared.lock.LockKind.{LockKind}
 use Rattle.page_locks.specs.declared.lock.LockKind.TheVariants.{Read, Selective, Exclusive}
 use Rattle.page_locks.specs.declared.lock.LockName.TheVariants.{Directory, Page}
-use Rattle.record_file.specs.BucketAccesses.{BucketView}
 use Rattle.record_file.specs.Deletes.{part}
 use Rattle.record_file.specs.declared.bucket_access.BucketStage.{BucketStage}
 use Rattle.record_file.specs.declared.bucket_access.BucketStage.TheVariants as stages
