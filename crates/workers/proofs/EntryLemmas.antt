@@ -55,7 +55,7 @@ calls_own seat (Stopped ∷ es) all = let no : false ≡ true = all.0 in absurd 
 pub calls_and_stops : (es : List Entry) →
     length es ≡ passes.calls_in seat_of es + length (passes.part_of seat_of 0 es)
 calls_and_stops [] = refl
-calls_and_stops (Decided seat call answer ∷ es) = ap suc (calls_and_stops es)
+calls_and_stops (Decided seat call answer ∷ es) = let rest = calls_and_stops es in omega (arith, rest)
 calls_and_stops (Stopped ∷ es) = let rest = calls_and_stops es in omega (arith, rest)
 
 pub calls_below : (es : List Entry) → passes.calls_in seat_of es ≤ length es

@@ -1,5 +1,6 @@
 -- A seat in a call, and after it.
-use Rattle.std.proofs.Common.{◌≡◌, ◌≤◌, ◌<◌, ℕ, Bool, true, false, List, [], ◌∷◌, ◌++◌, Option, Some, None, refl, sym, ap, ◌∙◌, subst, append-nil, arith}
+use Rattle.std.proofs.Common.{◌≡◌, ◌≤◌, ◌<◌, ℕ, Bool, true, false, List, [], ◌∷◌, ◌++◌, Option, Some, None, refl, sym, ap, ◌∙◌, subst, append-nil, arith, Result, Err}
+use Rattle.std.specs.Prelude.{IsErrOf}
 use Rattle.interleaving_core.specs.Owing.{is_end, is_failure}
 use Rattle.interleaving_core.specs.declared.fault.StepFault.{StepFault}
 use Rattle.interleaving_core.specs.declared.fault.StepFault.TheVariants as faults
@@ -131,8 +132,14 @@ never_full faults.NoRoom told is full =
 never_full (faults.File fault) told is full =
     let no : ◌≡◌ {A = Fault} calls.Failed calls.SessionFull = sym is ∙ full in absurd cc
 
-pub same_fault : (a b : Fault) → ◌≡◌ {A = Unanswered} (unanswered.Fault a) (unanswered.Fault b) → a ≡ b
-same_fault a b same = cc
+pub same_error : {T E : Type 0} (a b : E) → IsErrOf {T = T} {E = E} (Err a) b → a ≡ b
+same_error {T} {E} a b told = let same : ◌≡◌ {A = Result T E} (Err a) (Err b) = told in cc
+
+pub same_fault : {T : Type 0} (a b : Fault) →
+    IsErrOf {T = T} {E = Unanswered} (Err (unanswered.Fault a)) (unanswered.Fault b) → a ≡ b
+same_fault {T} a b told =
+    let same : ◌≡◌ {A = Unanswered} (unanswered.Fault a) (unanswered.Fault b) =
+    same_error {T = T} (unanswered.Fault a) (unanswered.Fault b) told in cc
 
 module _ (call : Call) (many number filled room : ℕ) (hand : List Entry)
     (old x : Sitter) (w : IsUnderWay call many number filled room hand old x) where

@@ -1,6 +1,6 @@
-use Rattle.std.proofs.Common.{◌≤◌, refl, sym, ◌∙◌, subst}
+use Rattle.std.proofs.Common.{◌≤◌, sym, subst}
 use Rattle.interleaving_core.specs.Beginning.{Refuses}
-use Rattle.workers.proofs.HeldLemmas.{as_it_was, begun_at_desk, counted_at_begin, counted_at_refusal, has_begun, is_turned_away, kept_at_begin, kept_at_refusal, known_at_refusal, never_busy, refused_at_desk}
+use Rattle.workers.proofs.HeldLemmas.{begun_at_desk, counted_at_begin, counted_at_refusal, full_by, has_begun, is_turned_away, kept_at_begin, kept_at_refusal, never_busy, refused_at_desk}
 use Rattle.workers.proofs.held.Held.begin.Goals as goal
 
 -- the seat has its call, and nothing joins the journal
@@ -22,14 +22,6 @@ returns-in-Ok-clause-ok g c =
     (subst (λ n. c.args.seat ≤ n) (sym c.self.invariant.held.seats) c.requires.within.1) c.self.inside.pass _ _
     c.self.invariant.held.known c.requires.seat c.tell.ensures.right c.tell.ensures.seat
 
--- a seat that rests is not busy
-pub unreachable-requires : goal.unreachable-requires
-unreachable-requires g c =
-    let busy = subst (λ fault. Refuses c.args.seat c.self.inside.kernel fault) c.in-Err-default-Busy.field-0-1-is
-    c.in-Err-default-Busy.ensures.err.cause in
-    never_busy _ _ _ _ _ _ _ c.self.invariant.held c.compare.ensures.right c.requires.seat
-    c.requires.rests busy.0 busy.1
-
 pub invariant_of-self : goal.invariant_of-self
 invariant_of-self g c =
     kept_at_begin _ _ _ _ c.in-Ok.ensures.ok c.requires.within.0
@@ -38,35 +30,54 @@ invariant_of-self g c =
     (c.requires.within.0, subst (λ n. c.args.seat ≤ n) (sym c.self.invariant.held.rows) c.requires.within.1)
     c.self.invariant c.tell.ensures.own
 
--- a refusal leaves the kernel as it was, and where a step has failed its seat is told
-pub tell-requires-in-Err-default-Failed-clause-change : goal.tell-requires-in-Err-default-Failed-clause-change
-tell-requires-in-Err-default-Failed-clause-change g c =
-    refused_at_desk _ _ _ _ _ c.in-Err-default-Failed.ensures.err _ _ c.self.invariant.held.known c.requires.seat
+-- a refusal leaves the kernel as it was, and its seat is shown that
+pub tell-requires-in-Err-clause-change : goal.tell-requires-in-Err-clause-change
+tell-requires-in-Err-clause-change g c =
+    refused_at_desk _ _ _ _ _ c.in-Err.ensures.err _ _ c.self.invariant.held.known c.requires.seat
 
-pub tell-requires-in-Err-default-Failed-clause-count : goal.tell-requires-in-Err-default-Failed-clause-count
-tell-requires-in-Err-default-Failed-clause-count g c =
-    counted_at_refusal _ _ _ _ _ c.in-Err-default-Failed.ensures.err _ c.self.invariant.held.counted
+pub tell-requires-in-Err-clause-count : goal.tell-requires-in-Err-clause-count
+tell-requires-in-Err-clause-count g c =
+    counted_at_refusal _ _ _ _ _ c.in-Err.ensures.err _ c.self.invariant.held.counted
 
-pub invariant_of-self-in-Err-default-Failed : goal.invariant_of-self-in-Err-default-Failed
-invariant_of-self-in-Err-default-Failed g c =
-    kept_at_refusal _ _ _ _ _ c.in-Err-default-Failed.ensures.err _ _ _ _ _ c.refusals_refine.ensures
-    c.self.invariant c.tell-in-Err-default-Failed.ensures.own
+pub invariant_of-self-in-Failed : goal.invariant_of-self-in-Failed
+invariant_of-self-in-Failed g c =
+    kept_at_refusal _ _ _ _ _ c.in-Err.ensures.err _ _ _ _ _ c.refusals_refine.ensures c.self.invariant
+    c.tell-in-Err.ensures.own
 
-pub returns-in-Err-default-Failed-clause-err : goal.returns-in-Err-default-Failed-clause-err
-returns-in-Err-default-Failed-clause-err g c =
-    let broken = subst (λ fault. Refuses c.args.seat c.self.inside.kernel fault) c.in-Err-default-Failed.field-0-1-is
-    c.in-Err-default-Failed.ensures.err.cause in
-    is_turned_away _ _ _ _ _ c.in-Err-default-Failed.ensures.err _ c.self.inside.pass _ _ broken
-    c.self.invariant.held.known c.tell-in-Err-default-Failed.ensures.right c.tell-in-Err-default-Failed.ensures.seat
+pub returns-in-Failed-clause-err : goal.returns-in-Failed-clause-err
+returns-in-Failed-clause-err g c =
+    let broken = subst (λ fault. Refuses c.args.seat c.self.inside.kernel fault) c.in-Failed.is
+    c.in-Err.ensures.err.cause in
+    is_turned_away _ _ _ _ _ c.in-Err.ensures.err _ _ c.self.inside.pass _ _ (λ _. broken) (λ full. absurd cc)
+    c.self.invariant.held.known c.tell-in-Err.ensures.right c.tell-in-Err.ensures.seat
 
-pub invariant_of-self-in-Err-default-SessionFull : goal.invariant_of-self-in-Err-default-SessionFull
-invariant_of-self-in-Err-default-SessionFull g c =
-    kept_at_refusal _ _ _ _ _ c.in-Err-default-SessionFull.ensures.err _ _ _ _ _ c.refusals_refine.ensures
-    c.self.invariant
-    (c.self.invariant.held.known ∙ sym (known_at_refusal _ _ _ _ _ c.in-Err-default-SessionFull.ensures.err))
+pub invariant_of-self-in-SessionFull : goal.invariant_of-self-in-SessionFull
+invariant_of-self-in-SessionFull g c =
+    kept_at_refusal _ _ _ _ _ c.in-Err.ensures.err _ _ _ _ _ c.refusals_refine.ensures c.self.invariant
+    c.tell-in-Err.ensures.own
 
-pub invariant_of-self-in-Err-default-NoMemory : goal.invariant_of-self-in-Err-default-NoMemory
-invariant_of-self-in-Err-default-NoMemory g c =
-    kept_at_refusal _ _ _ _ _ c.in-Err-default-NoMemory.ensures.err _ _ _ _ _ c.refusals_refine.ensures
-    c.self.invariant
-    (c.self.invariant.held.known ∙ sym (known_at_refusal _ _ _ _ _ c.in-Err-default-NoMemory.ensures.err))
+pub returns-in-SessionFull-clause-err : goal.returns-in-SessionFull-clause-err
+returns-in-SessionFull-clause-err g c =
+    let full = subst (λ fault. Refuses c.args.seat c.self.inside.kernel fault) c.in-SessionFull.is
+    c.in-Err.ensures.err.cause in
+    is_turned_away _ _ _ _ _ c.in-Err.ensures.err _ _ c.self.inside.pass _ _ (λ broken. absurd cc)
+    (λ _. full_by _ _ _ _ _ c.self.invariant.held full.2)
+    c.self.invariant.held.known c.tell-in-Err.ensures.right c.tell-in-Err.ensures.seat
+
+pub invariant_of-self-in-NoMemory : goal.invariant_of-self-in-NoMemory
+invariant_of-self-in-NoMemory g c =
+    kept_at_refusal _ _ _ _ _ c.in-Err.ensures.err _ _ _ _ _ c.refusals_refine.ensures c.self.invariant
+    c.tell-in-Err.ensures.own
+
+pub returns-in-NoMemory-clause-err : goal.returns-in-NoMemory-clause-err
+returns-in-NoMemory-clause-err g c =
+    is_turned_away _ _ _ _ _ c.in-Err.ensures.err _ _ c.self.inside.pass _ _ (λ broken. absurd cc) (λ full. absurd cc)
+    c.self.invariant.held.known c.tell-in-Err.ensures.right c.tell-in-Err.ensures.seat
+
+-- a seat that rests is not busy
+pub unreachable-requires : goal.unreachable-requires
+unreachable-requires g c =
+    let busy = subst (λ fault. Refuses c.args.seat c.self.inside.kernel fault) c.in-Busy.is
+    c.in-Err.ensures.err.cause in
+    never_busy _ _ _ _ _ _ _ c.self.invariant.held c.tell-in-Err.ensures.right c.requires.seat
+    c.requires.rests busy.0 busy.1

@@ -1,4 +1,4 @@
-use Rattle.std.proofs.Common.{◌≤◌, arith, subst}
+use Rattle.std.proofs.Common.{arith, subst}
 use Rattle.workers.specs.Closing.{IsMarked}
 use Rattle.workers.proofs.CloseLemmas.{is_left, is_let_go}
 use Rattle.workers.proofs.service.Service.abandon.Goals as goal

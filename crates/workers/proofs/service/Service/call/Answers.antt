@@ -1,7 +1,7 @@
 use Rattle.std.proofs.Common.{[], ◌∷◌, ◌++◌, refl, ap, ◌∙◌}
 use Rattle.queue_model.specs.declared.entry.Entry.TheVariants.{Decided}
 use Rattle.workers.specs.Words.{Call, Entry}
-use Rattle.workers.proofs.SeatLemmas.{fault_ends, seated_answered, seated_faulted, told_failed, way_begins}
+use Rattle.workers.proofs.SeatLemmas.{fault_ends, never_full, same_error, seated_answered, seated_faulted, told_failed, way_begins}
 use Rattle.workers.proofs.service.Service.call.Goals as goal
 
 pub loop-init : goal.loop-init
@@ -27,4 +27,7 @@ invariant_of-seat-in-Fault g c =
 pub returns-in-Fault-clause-failed : goal.returns-in-Fault-clause-failed
 returns-in-Fault-clause-failed g c =
     let told = rw c.in-Fault.is at c.advance-last.ensures.told in
-    λ broken. told_failed _ _ _ _ c.of_step.ensures told broken
+    λ broken. told_failed _ _ _ _ c.of_step.ensures told (same_error _ _ broken)
+
+pub returns-in-Fault-clause-full : goal.returns-in-Fault-clause-full
+returns-in-Fault-clause-full g c full = absurd (never_full _ _ c.of_step.ensures (same_error _ _ full))

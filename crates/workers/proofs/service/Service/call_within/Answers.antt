@@ -1,7 +1,7 @@
 use Rattle.std.proofs.Common.{[], ◌∷◌, ◌++◌, refl, ap, ◌∙◌}
 use Rattle.queue_model.specs.declared.entry.Entry.TheVariants.{Decided}
 use Rattle.workers.specs.Words.{Call, Entry}
-use Rattle.workers.proofs.SeatLemmas.{fault_ends, list_taken_back, same_fault, seated_answered, seated_faulted, seated_taken_back, told_failed, way_begins, way_goes}
+use Rattle.workers.proofs.SeatLemmas.{fault_ends, list_taken_back, never_full, same_fault, seated_answered, seated_faulted, seated_taken_back, told_failed, way_begins, way_goes}
 use Rattle.workers.proofs.service.Service.call_within.Goals as goal
 
 pub loop-init : goal.loop-init
@@ -44,3 +44,6 @@ pub returns-in-Fault-clause-failed : goal.returns-in-Fault-clause-failed
 returns-in-Fault-clause-failed g c =
     let told = rw c.in-Fault.is at c.advance-last.ensures.told in
     λ broken. told_failed _ _ _ _ c.of_step.ensures told (same_fault _ _ broken)
+
+pub returns-in-Fault-clause-full : goal.returns-in-Fault-clause-full
+returns-in-Fault-clause-full g c full = absurd (never_full _ _ c.of_step.ensures (same_fault _ _ full))
