@@ -20,6 +20,7 @@ pub mod CountLemmas
 pub mod RoomLemmas
 pub mod CallLemmas
 pub mod ServeLemmas
+pub mod PlainRunLemmas
 pub mod LineLemmas
 pub mod FitLemmas
 pub mod MarkLemmas

@@ -9,6 +9,7 @@ pub mod Telling
 pub mod Taking
 pub mod Runs
 pub mod Serves
+pub mod PlainRuns
 pub mod Lines
 pub mod Desks
 pub mod Printing

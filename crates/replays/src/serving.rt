@@ -2,6 +2,7 @@
 
 ghost use Rattle.std.specs.Prelude.{◌≡◌, ◌⊎◌, ℕ, false, true, IsTrue, None, Option};
 ghost use Rattle.interleavings.specs.LoneKernelWords.{State};
+ghost use Rattle.replays.specs.PlainRuns.{RunsPlainly};
 ghost use Rattle.replays.specs.Runs.{Stands};
 ghost use Rattle.replays.specs.Serves.{EndsWell, RunsInput, RunsOn, RunsText, RunsTextOn};
 
@@ -124,6 +125,18 @@ pub fn run_on<D: PageDevice + Drop, W: Write + Drop>(
     output: &mut Output<W>,
 ) -> Ran<D>
     ensures served { RunsOn script.now (D.is_honest device)
+        (record {
+          content = D.content device;
+          left = D.content result.device;
+          synced = D.is_synced result.device;
+          was = D.fault_count device;
+          faults = D.fault_count result.device;
+          old = output.old;
+          new = output.new;
+          untold = result.is_untold;
+        }) result.ending }
+    // the same in words of the rules, of what is printed and of pages alone
+    ensures plain { RunsPlainly script.now (D.is_honest device)
         (record {
           content = D.content device;
           left = D.content result.device;

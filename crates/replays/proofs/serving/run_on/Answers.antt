@@ -8,6 +8,7 @@ use Rattle.msgq_cli.proofs.OutputLemmas.{Prints-then}
 use Rattle.replays.proofs.OpeningLemmas.{greatest_within, length-callers_of, stored_before}
 use Rattle.replays.proofs.CallLemmas.{opened_decided}
 use Rattle.replays.proofs.ServeLemmas.{ends_since}
+use Rattle.replays.proofs.PlainRunLemmas.{plainly}
 use Rattle.replays.proofs.serving.run_on.Goals as goal
 
 -- the kernel that was opened rests over the file's system
@@ -78,3 +79,11 @@ returns-in-Err-clause-served g c =
         told = c.unrun.ensures.told;
       };
     })
+
+-- ---- in plain words
+
+pub returns-clause-plain : goal.returns-clause-plain
+returns-clause-plain g c = plainly _ _ _ _ (returns-clause-served g c)
+
+pub returns-in-Err-clause-plain : goal.returns-in-Err-clause-plain
+returns-in-Err-clause-plain g c = plainly _ _ _ _ (returns-in-Err-clause-served g c)
