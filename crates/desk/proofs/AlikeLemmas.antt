@@ -1,5 +1,5 @@
 -- Of two calls that are alike one has to wait wherever the other does.
-use Rattle.std.proofs.Common.{arith, ℕ, ◌≡◌, Bool, true, false, length}
+use Rattle.std.proofs.Common.{arith, ◌≡◌, true, false, length}
 use Rattle.std.specs.Prelude.{◌==◌, ◌&&◌, not}
 use Rattle.std.specs.Ordering.{int_eq}
 use Rattle.std.proofs.lemmas.Bool.Decides.{nat_tests}
@@ -11,7 +11,7 @@ use Rattle.queue_model.specs.Rules.{outcome}
 use Rattle.queue_model.specs.State.{State}
 use Rattle.queue_model.specs.declared.call.ReceiveArguments.{ReceiveArguments}
 use Rattle.queue_model.specs.declared.call.SendArguments.{SendArguments}
-use Rattle.std.proofs.Common.{None, ℤ}
+use Rattle.std.proofs.Common.{None}
 use Rattle.desk.specs.Desk.{HasToWait, are_alike, are_calls_alike}
 use Rattle.desk.specs.declared.asking.Asking.{Asking}
 use Rattle.desk.proofs.PutOffLemmas.{receives_alike, sends_alike}

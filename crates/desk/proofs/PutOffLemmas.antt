@@ -9,7 +9,7 @@ use Rattle.queue_model.specs.declared.message.Message.{Message}
 use Rattle.queue_model.specs.declared.queue.Queue.{Queue}
 use Rattle.queue_model.specs.State.{State}
 use Rattle.queue_model.specs.Access.{is_owner, lacks_access}
-use Rattle.queue_model.specs.Rules.{Outcome, create, get_by, get_found, has_id, has_key, lacks_room, on_found, on_queue, outcome, outcome_of_send, put_off, raises, receive_found, receive_from, refuse, remove_from, send_to, set_to, stat_of}
+use Rattle.queue_model.specs.Rules.{Outcome, create, get_by, get_found, has_id, has_key, lacks_room, on_found, on_queue, outcome, put_off, raises, receive_found, receive_from, refuse, remove_from, send_to, set_to, stat_of}
 use Rattle.queue_model.specs.Selection.{is_too_long, selected}
 use Rattle.queue_model.specs.declared.answer.Answer.TheVariants as answers
 use Rattle.queue_model.specs.declared.call.Call.TheVariants as calls

@@ -1,6 +1,6 @@
 -- Behind what was decided, no call has an answer that is not due.
-use Rattle.std.proofs.Common.{arith, ℕ, ◌≡◌, ◌<◌, refl, sym, ap, ◌∙◌, subst, Bool, true, false, List, [], ◌∷◌, ◌++◌, Option, Some, None, ℤ, length}
-use Rattle.std.specs.Prelude.{◌==◌, ◌&&◌, slice_index_or, if◌then◌else◌, Ok, Err}
+use Rattle.std.proofs.Common.{arith, ℕ, ◌≡◌, refl, sym, ap, ◌∙◌, subst, Bool, true, false, List, [], ◌∷◌, ◌++◌, Some, None, ℤ}
+use Rattle.std.specs.Prelude.{◌==◌, ◌&&◌, slice_index_or, if◌then◌else◌, Ok}
 use Rattle.std.specs.List.{All}
 use Rattle.std.proofs.lemmas.List.Elements.{All-push}
 use Rattle.std.proofs.lemmas.Bool.Decides.{nat_tests}
@@ -17,7 +17,7 @@ use Rattle.queue_model.specs.Lawful.{IsLawful}
 use Rattle.queue_model.specs.Rules.{outcome}
 use Rattle.queue_model.specs.State.{State}
 use Rattle.desk.specs.Desk.{AreQuiet, HasToWait, IsQuiet, WaitedBefore}
-use Rattle.desk.specs.Due.{behind_deed, behind_sent, behind_taken, deed_of, due_behind, is_due, is_on, is_put, joined, may_take, on_both, takes, touches, widened}
+use Rattle.desk.specs.Due.{behind_deed, behind_sent, behind_taken, deed_of, due_behind, is_due, is_on, is_put, joined, may_take, on_both, touches, widened}
 use Rattle.desk.specs.declared.asking.Asking.{Asking}
 use Rattle.desk.specs.declared.due.Due.{Due}
 use Rattle.desk.specs.declared.due.Due.TheVariants.{Nobody, Message as OfMessage, Room, Queue as OnQueue, Everybody}

@@ -1,8 +1,7 @@
 -- Which messages a receive would take, and what is left of a queue once the last that was sent is taken.
-use Rattle.std.proofs.Common.{arith, ℕ, zero, suc, ℤ, pos, negsuc, ◌≡◌, ◌+◌, ◌<◌, ◌≤◌, ◌<ℤ◌, inl, inr, refl, sym, ap, ◌∙◌, subst, Bool, true, false, List, [], ◌∷◌, ◌++◌, Option, Some, None, length, take, drop, slice_get, get_or, append-nil}
-use Rattle.std.specs.Prelude.{int_le, int_lt, nat_lt, nat_le, ◌==◌, ◌||◌, position, slice_index_or}
+use Rattle.std.proofs.Common.{arith, ℕ, zero, suc, ℤ, pos, negsuc, ◌≡◌, ◌<◌, inl, inr, refl, sym, ap, ◌∙◌, subst, Bool, true, false, List, [], ◌∷◌, ◌++◌, Option, Some, None, length, slice_get}
+use Rattle.std.specs.Prelude.{int_le, int_lt, nat_lt, ◌||◌, slice_index_or}
 use Rattle.std.specs.List.{All, find, position_or_len, remove}
-use Rattle.std.specs.Ordering.{int_eq}
 use Rattle.std.proofs.lemmas.Bool.{cases_lt}
 use Rattle.std.proofs.lemmas.Bool.Decides.{nat_tests}
 use Rattle.std.proofs.lemmas.Int.{ints}
@@ -24,7 +23,7 @@ use Rattle.queue_model.specs.declared.caller.Caller.{Caller}
 use Rattle.queue_model.specs.declared.errno.Errno.TheVariants.{EACCES}
 use Rattle.queue_model.specs.declared.permissions.Access.TheVariants.{Write}
 use Rattle.queue_model.specs.declared.queue.Queue.{Queue}
-use Rattle.numbers.specs.declared.limits.TheConstants.{MAX_BODY, MAX_MESSAGES, END_OF_SERIALS}
+use Rattle.numbers.specs.declared.limits.TheConstants.{MAX_BODY}
 use Rattle.queue_model.specs.Access.{lacks_access}
 use Rattle.queue_model.specs.Rules.{Outcome, has_id, lacks_room, on_queue, outcome, refuse, send_to, with_message, with_queue, without_message}
 use Rattle.queue_model.specs.Lawful.{IsLawful, IsLawfulQueue}
