@@ -1,8 +1,8 @@
-//! A device one of whose transfers fails while messages are sent and received.
+//! A device one of whose transfers fails while messages are sent and received; a file without room.
 
 use crate::asks::{get, receive, send, set};
 use crate::closing::{End, Left};
-use crate::files::{copy_of, is_file_of, new_file, open};
+use crate::files::{copy_of, is_file_of, new_file, open, prepared};
 use crate::playing::{Deed, Plan, play};
 use file_check::CheckFault;
 use page_device::{FaultyDevice, MemDevice, PageDevice};
@@ -67,6 +67,27 @@ fn calls_at_once_are_answered_or_told_that_a_step_has_failed(rt: HostRuntime) ->
         end: End::Closed,
     };
     fail_each(&rt, alloc, &plan, 5)
+}
+
+/// 64 messages do not fit a file of 258 pages: the first that has no room is told so, and no step has
+/// failed.
+#[test]
+fn a_send_without_room_is_told_so(rt: HostRuntime) -> Result<(), Fail> {
+    let alloc = rt.alloc();
+    let mut before = queue(alloc)?;
+    for _ in 0..64 {
+        before.push(message(alloc)?)?;
+    }
+    let plan = Plan {
+        before,
+        scripts: Vec::new(alloc),
+        rounds: 0,
+        end: End::Closed,
+    };
+    let left = play(&rt, alloc, prepared(alloc, 258, 2)?, Open, &plan)?;
+    assert!(rt; left.faults.first() == Some(&Some(Fault::NoRoom)));
+    assert!(rt; left.fault.is_none());
+    Ok(())
 }
 
 /// A queue that may have as many bytes as any.

@@ -3,7 +3,7 @@
 //! tried wherever a service ends.
 
 use crate::asks::{get, info, receive, received, send};
-use crate::closing::End;
+use crate::closing::{End, Left};
 use crate::files::{is_file_of, prepared};
 use crate::plain::is_told;
 use crate::playing::{Plan, play};
@@ -22,11 +22,16 @@ fn the_first_script_is_answered_and_counted(rt: HostRuntime) -> Result<(), Fail>
             rounds: 0,
             end,
         };
-        let left = play(&rt, alloc, prepared(alloc, 258, 2)?, Open, &plan)?;
-        assert!(rt; is_told(left.journal.as_slice(), 1, answers(alloc)?.as_slice()));
-        assert_eq!(rt; left.shown, 4);
-        let written = left.journal.get(..entries).unwrap_or(&[]);
-        assert!(rt; is_file_of(alloc, left.device, written));
+        let Left {
+            device,
+            journal,
+            shown,
+            ..
+        } = play(&rt, alloc, prepared(alloc, 258, 2)?, Open, &plan)?;
+        assert!(rt; is_told(journal.as_slice(), 1, answers(alloc)?.as_slice()));
+        assert_eq!(rt; shown, 4);
+        let written = journal.get(..entries).unwrap_or(&[]);
+        assert!(rt; is_file_of(alloc, device, written));
     }
     Ok(())
 }
