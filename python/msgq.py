@@ -19,7 +19,7 @@ parent's file an OSError of ENOTSUP.
 The end: a file that is open when Python ends, or when nobody refers to it any more, is saved, as Python's own files are, with a
 ResourceWarning. Only the process that opened it does so. A process that os._exit or a signal ends saves nothing.
 
-Signals: send and receive wait in turns of a fifth of a second, between which the handlers of signals run, so Ctrl-C is heard. Where a
+Signals: open, send and receive wait in turns of a fifth of a second, between which the handlers of signals run, so Ctrl-C is heard. Where a
 call is done in the turn in which a signal came, it returns what it has, and what the handler raises comes behind it: KeyboardInterrupt
 at once, anything else with the thread's next call on the file.
 """
@@ -80,7 +80,8 @@ def _library():
 def _declared(library):
     one, number, limit = c_void_p, c_uint32, POINTER(_Timespec)
     for name, kinds in {
-        "create": [c_char_p, number], "open": [c_char_p, POINTER(one)], "get": [one, c_int64, c_int, POINTER(number)],
+        "create": [c_char_p, number], "open": [c_char_p, POINTER(one)],
+        "open_wait": [c_char_p, limit, POINTER(one)], "get": [one, c_int64, c_int, POINTER(number)],
         "send": [one, number, c_int64, c_char_p, c_size_t, c_int, limit],
         "receive": [one, number, c_int64, c_char_p, c_size_t, c_int, limit, POINTER(_Message)],
         "stat": [one, number, POINTER(_Info)], "set": [one, number, POINTER(_Change)], "list": [one, number, POINTER(number)],
@@ -171,11 +172,12 @@ def create(path, pages=352):
     _must(_lib.msgq_create(_path(path), _number(pages, _WORD, "pages")), path=path)
 
 
-def open(path):
+def open(path, *, wait=False, timeout=None):
     """Opens a file, which is checked whole; with `with` it is saved and closed at the end, or let go as it was saved last, where an
-    exception comes.
-    Fault where something is wrong with it, OSError of EBUSY where a process has it open, or what the system says."""
-    return Queues(path)
+    exception comes. With `wait`, or a `timeout` in seconds, it waits while a process has the file open.
+    Fault where something is wrong with it, OSError of EBUSY where a process has it open and it does not wait, TimeoutError, or what the
+    system says."""
+    return Queues(path, wait=wait, timeout=timeout)
 
 
 class Queues:
@@ -184,13 +186,21 @@ class Queues:
     _at = _late = None
     _is_lost = _is_told = False
 
-    def __init__(self, path):
-        self.path, name = path, _path(path)
+    def __init__(self, path, *, wait=False, timeout=None):
+        self.path, name, timeout = path, _path(path), _seconds(timeout)
         # The threads whose calls are under way: while there are others nobody closes the file. The lock may be taken by a handler
         # of a signal that came upon a call of its own thread.
         self._callers, self._lock = set(), threading.RLock()
         self._process, self._at = os.getpid(), c_void_p()
-        _must(_lib.msgq_open(name, byref(self._at)), path=path)
+        if wait or timeout is not None:
+            # In turns, so that the handlers of signals run.
+            for turn in _turns((name,), timeout, byref(self._at)):
+                told = _lib.msgq_open_wait(*turn)
+                if told != errno.ETIMEDOUT:
+                    break
+        else:
+            told = _lib.msgq_open(name, byref(self._at))
+        _must(told, path=path)
         _opened.add(self)
 
     def __enter__(self):

@@ -26,6 +26,9 @@ msgq.create(path)
 expect(refusal(msgq.create, path), errno.EEXIST, "a file that is there")
 with msgq.open(path) as queues:
     expect(refusal(msgq.open, path), errno.EBUSY, "a file that is open")
+    expect(refusal(msgq.open, path, timeout=0.05), errno.ETIMEDOUT, "one that stays open")
+    expect(refusal(msgq.open, path, wait=True, timeout=-1), errno.EINVAL, "a timeout that is none")
+    expect(refusal(msgq.open, path, timeout="1"), TypeError, "a timeout that is no number")
     expect(refusal(queues.get, 77), errno.ENOENT, "a key that no queue has")
     expect_words(queues.get, (77,), "77: ", "no queue has this key")
     expect_words(queues.queue(9).stat, (), "queue ", "9: ")
@@ -61,6 +64,12 @@ except KeyError:
     pass
 with msgq.open(path) as queues:
     expect([message.body for message in queues.get(7)], [b"kept"], "what an exception leaves")
+queues = msgq.open(path)
+closer = threading.Timer(0.3, queues.close)
+closer.start()
+with msgq.open(path, wait=True) as other:
+    expect(other.get(7).stat().key, 7, "a file that is opened in its turn")
+closer.join()
 with open(path, "r+b") as file:
     file.truncate(4096)
 try:

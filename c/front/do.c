@@ -345,7 +345,7 @@ static int settle(const struct request *it, const struct job *job, bool is_done)
     int wrong = open_again(it, &queues);
     if (wrong != 0) {
         complain_of(it, wrong);
-        return wrong;
+        return EIO;
     }
     wrong = is_done ? job_finish(queues, job) : job_return(queues, job);
     if (wrong == 0 || (wrong == EIDRM && !is_done))

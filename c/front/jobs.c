@@ -73,10 +73,12 @@ static void recover(msgq *queues, uint32_t hand, struct hands *hands) {
         return;
     }
     wrong = send_to(queues, job.queue, &job);
-    if (wrong == 0 || wrong == EIDRM)
+    if (wrong == 0 || wrong == EIDRM) {
         hands->is_spoilt |= rest(queues, hand, true) != 0;
-    else
+        hands->idle[hands->idle_count++] = hand;
+    } else {
         hands->is_spoilt |= fill(queues, &job) != 0;
+    }
     hands->returned += wrong == 0;
     hands->dropped += wrong == EIDRM;
     hands->stuck += wrong != 0 && wrong != EIDRM;

@@ -30,6 +30,7 @@ use std::fmt;
 use std::os::unix::ffi::OsStrExt;
 use std::path::Path;
 use std::ptr;
+use std::time::Duration;
 pub use values::{Change, Create, Info, Key, Message, Wait};
 
 const CREATE: c_int = 0o1000;
@@ -91,6 +92,24 @@ impl Queues {
         // SAFETY: the path ends in a zero, and there is room for the pointer.
         must(
             unsafe { raw::msgq_open(name.as_ptr(), &mut at) },
+            path.display(),
+        )?;
+        Ok(Queues { at })
+    }
+
+    /// The same, but waits while another process has the file open, or this one: without end, or for so long at most.
+    ///
+    /// # Errors
+    /// Those of `open`, and `ETIMEDOUT` in the place of `EBUSY`.
+    pub fn open_wait(path: impl AsRef<Path>, limit: Option<Duration>) -> Result<Queues, Error> {
+        let path = path.as_ref();
+        let name = c_path(path)?;
+        let mut at = ptr::null_mut();
+        let limit = limit.map_or(Wait::Forever, Wait::For).limit();
+        let limit = limit.as_ref().map_or(ptr::null(), ptr::from_ref);
+        // SAFETY: the path ends in a zero, the limit outlives the call, and there is room for the pointer.
+        must(
+            unsafe { raw::msgq_open_wait(name.as_ptr(), limit, &mut at) },
             path.display(),
         )?;
         Ok(Queues { at })

@@ -237,3 +237,18 @@ fn a_missing_archive_is_named() {
         assert!(said.contains(part), "{said}");
     }
 }
+
+#[test]
+fn a_file_is_opened_in_its_turn() {
+    let file = NewFile::new("turn");
+    let queues = Queues::open(&file.0).unwrap();
+    let soon = Some(Duration::from_millis(30));
+    let refused = Queues::open_wait(&file.0, soon).unwrap_err();
+    assert_eq!(refused.name(), Some("ETIMEDOUT"));
+    assert!(refused.to_string().contains("it is open in this process"));
+    let path = file.0.clone();
+    let waiter = std::thread::spawn(move || Queues::open_wait(path, None).unwrap().stat(1).is_ok());
+    queues.get(Key::Of(7), Create::New, 0o600).unwrap();
+    queues.close().unwrap();
+    assert!(waiter.join().unwrap());
+}
