@@ -191,6 +191,7 @@ fn creates<'a>(alloc: Global, command: Command<'a>) -> Result<Command<'a>, Alloc
         .arg(create.short('c'))?
         .arg(new_mode(alloc).requires_arg(CREATE)?)?
         .arg(new_limit(alloc).requires_arg(CREATE)?)?
+        .arg(new_owner(alloc).requires_arg(CREATE)?)?
         .arg(new_group(alloc).requires_arg(CREATE)?)?
         .arg(sharing(alloc)?.requires_arg(CREATE)?)?
         .arg(new_pages(alloc).requires_arg(CREATE)?)
@@ -206,6 +207,16 @@ fn new_mode<'a>(alloc: Global) -> Arg<'a> {
 fn new_limit<'a>(alloc: Global) -> Arg<'a> {
     let help = "As many bytes may its messages have together; 16384 where none is given";
     value(alloc, QBYTES, "N", help)
+}
+
+/// The owner of a queue that is made.
+fn new_owner<'a>(alloc: Global) -> Arg<'a> {
+    value(
+        alloc,
+        OWNER,
+        "N",
+        "The user that owns the queue, else the caller",
+    )
 }
 
 /// The group of a queue that is made.
@@ -318,6 +329,7 @@ fn make<'a>(alloc: Global, command: Command<'a>) -> Result<Command<'a>, AllocErr
         ))?
         .arg(new_mode(alloc))?
         .arg(new_limit(alloc))?
+        .arg(new_owner(alloc))?
         .arg(new_group(alloc))?
         .arg(sharing(alloc)?)
 }

@@ -6,8 +6,8 @@ ghost use Rattle.command_runs.specs.Tasks.{CanBeMade};
 
 use crate::commands;
 use crate::commands::{
-    BODY, CREATE, FOR_EVER, GID, GROUP, KEY, MODE, PID, QBYTES, SERIAL, SHARED_WITH, TYPE, UID,
-    WAIT,
+    BODY, CREATE, FOR_EVER, GID, GROUP, KEY, MODE, OWNER, PID, QBYTES, SERIAL, SHARED_WITH, TYPE,
+    UID, WAIT,
 };
 use crate::key::queue_name;
 use crate::mistake::Mistake;
@@ -131,14 +131,15 @@ pub(crate) fn new_queue<'a>(given: &ArgMatches<'a>) -> Result<NewQueue, Mistake<
         OWNER_ALONE
     };
     let qbytes = number(given, QBYTES)?;
+    let uid = number(given, OWNER)?;
     let gid = match number(given, GROUP)? {
         Some(group) => Some(group),
         None => shared,
     };
-    let settings = if qbytes.is_some() || gid.is_some() {
+    let settings = if qbytes.is_some() || uid.is_some() || gid.is_some() {
         Some(Settings {
             qbytes,
-            uid: None,
+            uid,
             gid,
             mode: None,
         })

@@ -8,7 +8,7 @@ use msgq_cli::{
 use numbers::faults;
 use page_device::FileDevice;
 use queue_commands::{Command, ExitStatus, QueueName, Sending};
-use queue_model::{Caller, Errno, MAX_MESSAGES, MAX_QBYTES, QueueInfo};
+use queue_model::{Caller, Errno, MAX_MESSAGES, MAX_QBYTES};
 use rollback_journal::{OpenError, Refused};
 use std::io;
 use std::io::{ErrorKind, Write};
@@ -105,10 +105,7 @@ impl Trouble {
                 );
             }
             Trouble::Undone(CommandError::Refused(errno), _) => {
-                tell_refusal(errand, errno, command, &mut errors);
-                if errno == Errno::EAGAIN {
-                    tell_room(rt, errand, &mut errors);
-                }
+                tell_refusal(rt, errand, errno, command, &mut errors);
             }
             Trouble::Undone(error, refused) => {
                 let is_unclosed = matches!(error, CommandError::Unclosed(_));
@@ -120,44 +117,6 @@ impl Trouble {
         }
         status
     }
-}
-
-/// What is said of a queue that has no room: what is on it, what may be, and what raises that.
-fn tell_room<E: Write>(rt: &HostRuntime, errand: Errand<'_>, errors: &mut E) {
-    let Some(queue) = errand.queue else {
-        return;
-    };
-    let Ok(device) = FileDevice::open_read_only(rt, errand.file) else {
-        return;
-    };
-    let Some(info) = info_on(rt.alloc(), device, queue) else {
-        return;
-    };
-    let file = Plain(errand.file);
-    let QueueInfo {
-        id,
-        qnum,
-        cbytes,
-        qbytes,
-        ..
-    } = info;
-    let _ = if qnum >= MAX_MESSAGES {
-        writeln!(
-            errors,
-            "msgq: {file}: it has {qnum} messages, as many as a queue may have"
-        )
-    } else if qbytes < MAX_QBYTES {
-        writeln!(
-            errors,
-            "msgq: {file}: it has {cbytes} of {qbytes} bytes: 'msgq set FILE @{id} --qbytes \
-            {MAX_QBYTES}' allows more, for user 0"
-        )
-    } else {
-        writeln!(
-            errors,
-            "msgq: {file}: it has {cbytes} of {qbytes} bytes, as many as a queue may have"
-        )
-    };
 }
 
 /// What became of the messages of a command whose file could not be written.
@@ -214,6 +173,7 @@ fn ending_of(error: &CommandError) -> Option<Ending> {
 
 /// `msgq: FILE: queue N: NAME: why`.
 fn tell_refusal<E: Write>(
+    rt: &HostRuntime,
     errand: Errand<'_>,
     errno: Errno,
     command: Option<&Command>,
@@ -223,9 +183,44 @@ fn tell_refusal<E: Write>(
     let name = errno.name();
     let why = why(errno, errand.queue, command);
     let _ = match errand.queue {
-        Some(QueueName::Key(key)) => writeln!(errors, "msgq: {file}: queue {key}: {name}: {why}"),
-        Some(QueueName::Id(id)) => writeln!(errors, "msgq: {file}: queue @{id}: {name}: {why}"),
-        None => writeln!(errors, "msgq: {file}: {name}: {why}"),
+        Some(QueueName::Key(key)) => write!(errors, "msgq: {file}: queue {key}: {name}: {why}"),
+        Some(QueueName::Id(id)) => write!(errors, "msgq: {file}: queue @{id}: {name}: {why}"),
+        None => write!(errors, "msgq: {file}: {name}: {why}"),
+    };
+    if errno == Errno::EAGAIN {
+        tell_room(rt, errand, errors);
+    }
+    let _ = writeln!(errors, "");
+}
+
+/// Goes on to say of a queue without room what is on it, what may be, and what raises that.
+fn tell_room<E: Write>(rt: &HostRuntime, errand: Errand<'_>, errors: &mut E) {
+    let Some(queue) = errand.queue else {
+        return;
+    };
+    let Ok(device) = FileDevice::open_read_only(rt, errand.file) else {
+        return;
+    };
+    let Some(info) = info_on(rt.alloc(), device, queue) else {
+        return;
+    };
+    let file = Plain(errand.file);
+    let id = info.id;
+    if info.qnum >= MAX_MESSAGES {
+        let _ = write!(
+            errors,
+            ": it has 1024 messages, as many as a queue may have"
+        );
+        return;
+    }
+    let _ = write!(errors, ": it has {} of {} bytes", info.cbytes, info.qbytes);
+    let _ = if info.qbytes < MAX_QBYTES {
+        write!(
+            errors,
+            "; 'msgq set {file} @{id} --qbytes {MAX_QBYTES} --uid 0' allows more"
+        )
+    } else {
+        write!(errors, ", as many as a queue may have")
     };
 }
 
@@ -263,6 +258,9 @@ fn why(errno: Errno, queue: Option<QueueName>, command: Option<&Command>) -> &'s
             _ => "its mode does not let the caller read",
         },
         Errno::EPERM => match command {
+            Some(Command::Make { .. } | Command::Send(_)) => {
+                "only user 0 makes a queue of more than 16384 bytes: --uid 0 --owner N"
+            }
             Some(Command::Set(setting)) if setting.settings.qbytes.is_some() => {
                 "the caller is neither its owner, its creator nor user 0, or raises the limit and \
                 is not user 0"

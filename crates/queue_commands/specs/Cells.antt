@@ -39,5 +39,5 @@ cell_text (Number number) = decimal number
 cell_text (Signed number) = signed_decimal number
 cell_text (Key key) = key_text key
 cell_text (Mode mode) = mode_text mode
-cell_text (Messages number) = decimal number ++ codes " messages"
+cell_text (Messages number) = codes "messages: " ++ decimal number
 cell_text (Body body) = preview body.now

@@ -56,7 +56,7 @@ message_rows (m ∷ ms) = row_text (message_cells m) ++ message_rows ms
 -- how many bytes they have, and how many there are
 abbrev pub messages_total : List Message → List (List ℕ)
 messages_total ms =
-    codes "total" ∷ [] ∷ [] ∷ decimal (total_bytes ms) ∷ (decimal (length ms) ++ codes " messages") ∷ []
+    codes "total" ∷ [] ∷ [] ∷ decimal (total_bytes ms) ∷ (codes "messages: " ++ decimal (length ms)) ∷ []
 
 -- in the order in which they were sent, between the headings and the totals
 abbrev pub messages_text : List Message → List ℕ

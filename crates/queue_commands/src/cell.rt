@@ -57,8 +57,8 @@ impl Text {
             Cell::Key(None) => self.put(b"private"),
             Cell::Mode(mode) => self.put_mode(*mode),
             Cell::Messages(number) => {
-                self.put_number(*number)?;
-                self.put(b" messages")
+                self.put(b"messages: ")?;
+                self.put_number(*number)
             }
             Cell::Body(body) => self.put_preview(body),
         }
