@@ -2,7 +2,7 @@
 
 _msgq() {
     local word=${COMP_WORDS[COMP_CWORD]} before=${COMP_WORDS[COMP_CWORD - 1]} command= at
-    local commands='new run replay check stat migrate copy salvage send receive peek list make remove set help'
+    local commands='new run replay check stat migrate copy grow salvage send receive peek list make remove set help'
     local callers='--pid --uid --gid --help'
     for ((at = 1; at < COMP_CWORD; at++)); do
         [[ ${COMP_WORDS[at]} == -* ]] && continue
@@ -15,23 +15,23 @@ _msgq() {
         return
     fi
     case $before in
-        --wait) [[ $command == run || $command == replay ]] && return ;;
-        --type | --mode | --pages | --size | --qbytes | --owner | --group | --pid | --uid | --gid) return ;;
+        --wait | -w) [[ $command == run || $command == replay || $command == grow ]] && return ;;
+        --type | -t | --mode | --pages | -p | --size | --serial | --qbytes | --owner | --group | --shared | --pid | --uid | --gid) return ;;
     esac
-    local options=--help
+    local options=--help makes='--create -c --mode --qbytes --owner --group --shared --pages -p'
     case $command in
         help)
             COMPREPLY=($(compgen -W "$commands" -- "$word"))
             return
             ;;
-        run) options='--wait --help' ;;
-        replay) options='--wait --trace --help' ;;
+        run | grow) options='--wait -w --help' ;;
+        replay) options='--wait -w --trace --help' ;;
         check | stat) options='--verbose -v --help' ;;
-        send) options="--type --lines --create --mode --pages --wait --nowait --verbose -v $callers" ;;
-        receive) options="--type --size --noerror --header --all --wait $callers" ;;
-        peek) options="--type $callers" ;;
+        send) options="--type -t --lines -l $makes --wait -w --nowait --verbose -v $callers" ;;
+        receive) options="--type -t --size --noerror --header --all -a --serial $makes --wait -w $callers" ;;
+        peek) options="--type -t --header $callers" ;;
         list) options='--json --help' ;;
-        make) options="--mode $callers" ;;
+        make) options="--mode --qbytes --owner --group --shared $callers" ;;
         remove) options=$callers ;;
         set) options="--qbytes --owner --group --mode $callers" ;;
     esac

@@ -1,7 +1,8 @@
 //! Commands on plain lists.
 
 use queue_commands::{
-    AskError, Command, ExitStatus, PlainLists, QueueName, Receiving, Request, Sending, Setting, ask,
+    AskError, Command, ExitStatus, NewQueue, PlainLists, QueueName, Receiving, Request, Sending,
+    Setting, Settings, ask,
 };
 use queue_model::{Body, Caller, Errno, System};
 use std::alloc::Global;
@@ -9,6 +10,20 @@ use std::process::Abort;
 use std::test::Fail;
 
 const KEY: QueueName = QueueName::Key(7);
+
+/// How a queue is made for its owner.
+const PLAIN: NewQueue = NewQueue {
+    mode: 0o600,
+    settings: None,
+};
+
+/// What is set of a queue that may hold four bytes.
+const SMALL: Settings = Settings {
+    qbytes: Some(4),
+    uid: None,
+    gid: None,
+    mode: None,
+};
 
 /// A command prints this, or is refused.
 fn prints<R: Abort + AllocGlobal>(
@@ -42,6 +57,10 @@ enum Asked<'a> {
     Set,
     /// A queue with this key, or with none, is made.
     Make(Option<u32>),
+    /// One with this key, that may hold four bytes.
+    MakeSmall(u32),
+    /// The message of a serial, received from the queue of key 7.
+    Take(u64),
     /// A queue is removed.
     Remove(QueueName),
 }
@@ -55,18 +74,32 @@ fn command_of(alloc: Global, asked: Asked<'_>) -> Result<Command, Fail> {
             size: 1_024,
             noerror: false,
             most,
+            serial: None,
             heads,
+        }),
+        Asked::Take(serial) => Command::Receive(Receiving {
+            queue: KEY,
+            mtype: 0,
+            size: 1_024,
+            noerror: false,
+            most: 1,
+            serial: Some(serial),
+            heads: false,
         }),
         Asked::Send(mtype, texts) => sending(alloc, mtype, texts, true)?,
         Asked::SendOne(mtype, text) => sending(alloc, mtype, &[text], false)?,
         Asked::Set => Command::Set(Setting {
             queue: QueueName::Id(1),
-            qbytes: Some(4),
-            uid: None,
-            gid: None,
-            mode: None,
+            settings: SMALL,
         }),
-        Asked::Make(key) => Command::Make { key, mode: 0o600 },
+        Asked::Make(key) => Command::Make { key, new: PLAIN },
+        Asked::MakeSmall(key) => Command::Make {
+            key: Some(key),
+            new: NewQueue {
+                mode: 0o600,
+                settings: Some(SMALL),
+            },
+        },
         Asked::Remove(queue) => Command::Remove { queue },
     })
 }
@@ -79,7 +112,7 @@ fn sending(alloc: Global, mtype: i64, texts: &[&[u8]], tells: bool) -> Result<Co
     }
     Ok(Command::Send(Sending {
         queue: KEY,
-        create: Some(0o600),
+        create: Some(PLAIN),
         mtype,
         bodies,
         tells,
@@ -99,7 +132,7 @@ fn what_is_sent_is_received(rt: HostRuntime) -> Result<(), Fail> {
         caller,
     };
     let long: &[u8] = &[0; 1_025];
-    let rows: [(Asked<'_>, Result<&[u8], Errno>); 17] = [
+    let rows: [(Asked<'_>, Result<&[u8], Errno>); 24] = [
         (Asked::Receive(0, 1, false), Err(Errno::ENOENT)),
         (Asked::Send(5, &[b"a\0\xff\n", b"c"]), Ok(b"1\n2\n")),
         (Asked::SendOne(3, b""), Ok(b"")),
@@ -117,6 +150,13 @@ fn what_is_sent_is_received(rt: HostRuntime) -> Result<(), Fail> {
         (Asked::Remove(QueueName::Id(1)), Err(Errno::EIDRM)),
         (Asked::Remove(QueueName::Id(9)), Err(Errno::EINVAL)),
         (Asked::Make(Some(7)), Ok(b"3\n")),
+        (Asked::Take(1), Err(Errno::ENOMSG)),
+        (Asked::Send(5, &[b"a", b"b", b"c"]), Ok(b"1\n2\n3\n")),
+        (Asked::Take(1), Ok(b"a")),
+        (Asked::Take(3), Err(Errno::ENOMSG)),
+        (Asked::Remove(KEY), Ok(b"")),
+        (Asked::MakeSmall(7), Ok(b"4\n")),
+        (Asked::SendOne(1, b"abcde"), Err(Errno::EAGAIN)),
     ];
     for (asked, wanted) in rows {
         prints(&rt, &mut lists, command_of(alloc, asked)?, wanted)?;

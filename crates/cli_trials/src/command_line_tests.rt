@@ -57,6 +57,15 @@ fn each_command_line_is_read(rt: HostRuntime) -> Result<(), Fail> {
     )?;
     reads(&rt, "msgq replay q - t", replay(0, false))?;
     reads(&rt, "msgq replay q - t --wait=7", replay(7, false))?;
+    reads(&rt, "msgq new q", new(1_000))?;
+    let grow = Task::Grow {
+        file: Opening {
+            path: "q",
+            wait: Duration::from_millis(250),
+        },
+        pages: 300,
+    };
+    reads(&rt, "msgq grow q 300 --wait=0.25", grow)?;
     reads(&rt, "msgq replay --trace q - t", replay(0, true))?;
     reads(&rt, "msgq check q", tells(Report::Counts, false))?;
     reads(&rt, "msgq check --verbose q", tells(Report::Counts, true))?;

@@ -1,9 +1,12 @@
 //! Command lines that are read.
 
-use command_runs::{CallerIds, Deed, Patience, SendTask, ShellTask, queue_name, read_command};
-use queue_commands::{Framing, QueueName, Receiving, Setting};
+use command_runs::{
+    CallerIds, Creation, Deed, Patience, ReceiveTask, SendTask, ShellTask, queue_name, read_command,
+};
+use queue_commands::{Framing, NewQueue, QueueName, Receiving, Setting, Settings};
 use std::process::Abort;
 use std::test::Fail;
+use std::time::Duration;
 
 /// A command line asks for this on the file `q`.
 fn reads<R: Abort + AllocGlobal>(
@@ -48,8 +51,17 @@ const ANY: Receiving = Receiving {
     size: 1_024,
     noerror: false,
     most: 1,
+    serial: None,
     heads: false,
 };
+
+/// A queue of a mode, of which nothing is set.
+fn plain(mode: u16) -> NewQueue {
+    NewQueue {
+        mode,
+        settings: None,
+    }
+}
 
 #[test]
 fn keys_are_decimal_or_hexadecimal(rt: HostRuntime) {
@@ -75,8 +87,11 @@ fn keys_are_decimal_or_hexadecimal(rt: HostRuntime) {
 fn command_lines_are_read(rt: HostRuntime) -> Result<(), Fail> {
     let send = Deed::Send(SendTask {
         queue: SEVEN,
-        create: Some(0o640),
-        pages: Some(300),
+        create: Some(Creation {
+            queue: plain(0o640),
+            pages: 300,
+            group: None,
+        }),
         mtype: 5,
         framing: Framing::Lines,
         names_input: true,
@@ -92,7 +107,6 @@ fn command_lines_are_read(rt: HostRuntime) -> Result<(), Fail> {
     let send = Deed::Send(SendTask {
         queue: SEVEN,
         create: None,
-        pages: None,
         mtype: 1,
         framing: Framing::Whole,
         names_input: false,
@@ -100,18 +114,20 @@ fn command_lines_are_read(rt: HostRuntime) -> Result<(), Fail> {
         patience: Patience::None,
     });
     reads(&rt, "msgq send q 7 --nowait", NOBODY, send)?;
-    let receive = Deed::Receive {
+    let receive = Deed::Receive(ReceiveTask {
         receiving: Receiving {
             queue: QueueName::Id(3),
             mtype: -9,
             size: 10,
             noerror: true,
             most: 1_024,
+            serial: None,
             heads: true,
         },
-        patience: Patience::Seconds(5),
-    };
-    let line = "msgq receive q @3 --type -9 --size 10 --noerror --all --header --wait=5";
+        create: None,
+        patience: Patience::For(Duration::from_millis(5_500)),
+    });
+    let line = "msgq receive q @3 --type -9 --size 10 --noerror --all --header --wait=5.5";
     reads(&rt, line, NOBODY, receive)?;
     let peek = Deed::Peek(Receiving {
         mtype: i64::MIN,
@@ -125,10 +141,12 @@ fn command_lines_are_read(rt: HostRuntime) -> Result<(), Fail> {
     )?;
     let set = Deed::Set(Setting {
         queue: QueueName::Key(16),
-        qbytes: Some(100),
-        uid: Some(0),
-        gid: None,
-        mode: Some(0o600),
+        settings: Settings {
+            qbytes: Some(100),
+            uid: Some(0),
+            gid: None,
+            mode: Some(0o600),
+        },
     });
     let line = "msgq set q 0x10 --qbytes 100 --owner 0 --mode 600 --uid 5 --gid 6";
     let ids = CallerIds {
@@ -137,14 +155,35 @@ fn command_lines_are_read(rt: HostRuntime) -> Result<(), Fail> {
         gid: Some(6),
     };
     reads(&rt, line, ids, set)?;
-    let make = |key, mode| Deed::Make { key, mode };
-    reads(&rt, "msgq make q private", NOBODY, make(None, 0o600))?;
-    reads(
-        &rt,
-        "msgq make q 7 --mode 666",
-        NOBODY,
-        make(Some(7), 0o666),
-    )?;
+    let make = |key, new| Deed::Make { key, new };
+    reads(&rt, "msgq make q private", NOBODY, make(None, plain(0o600)))?;
+    let seven = make(Some(7), plain(0o666));
+    reads(&rt, "msgq make q 7 --mode 666", NOBODY, seven)?;
+    let seven = make(Some(7), plain(0o644));
+    reads(&rt, "msgq make q 7 --mode 0644", NOBODY, seven)?;
+    let shared = NewQueue {
+        mode: 0o660,
+        settings: Some(Settings {
+            qbytes: Some(70),
+            uid: None,
+            gid: Some(12),
+            mode: None,
+        }),
+    };
+    let receive = Deed::Receive(ReceiveTask {
+        receiving: Receiving {
+            serial: Some(3),
+            ..ANY
+        },
+        create: Some(Creation {
+            queue: shared,
+            pages: 1_000,
+            group: Some(12),
+        }),
+        patience: Patience::None,
+    });
+    let line = "msgq receive q 7 --serial 3 -c --shared 12 --qbytes 70";
+    reads(&rt, line, NOBODY, receive)?;
     let list = |queue, is_json| Deed::List { queue, is_json };
     reads(&rt, "msgq list q", NOBODY, list(None, false))?;
     reads(&rt, "msgq list q 7 --json", NOBODY, list(Some(SEVEN), true))?;

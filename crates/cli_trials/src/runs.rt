@@ -2,7 +2,7 @@
 
 use command_runs::{CommandError, Form, Look, Printer, Ran, look_on, run_on};
 use page_device::MemDevice;
-use queue_commands::{Command, QueueName, Receiving, Request, Sending};
+use queue_commands::{Command, NewQueue, QueueName, Receiving, Request, Sending};
 use queue_model::{Body, Caller, Errno};
 use record_file::format;
 use std::alloc::Global;
@@ -45,7 +45,10 @@ fn sending(alloc: Global) -> Result<Command, Fail> {
     }
     Ok(Command::Send(Sending {
         queue: QueueName::Key(7),
-        create: Some(0o600),
+        create: Some(NewQueue {
+            mode: 0o600,
+            settings: None,
+        }),
         mtype: 5,
         bodies,
         tells: true,
@@ -60,6 +63,7 @@ fn receiving(most: u32) -> Command {
         size: 1_024,
         noerror: false,
         most,
+        serial: None,
         heads: false,
     })
 }

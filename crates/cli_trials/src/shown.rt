@@ -47,13 +47,15 @@ fn queues_and_messages_have_tables(rt: HostRuntime) -> Result<(), Fail> {
     let wanted: &[u8] =
         b"KEY\tID\tMESSAGES\tBYTES\tLIMIT\tMODE\tOWNER\tLSPID\tLRPID\tSENT\tRECEIVED\tCHANGED\n\
         7\t1\t2\t49\t16384\t640\t100\t42\t0\t1700000060\t0\t1700000000\n\
-        private\t2\t0\t0\t16384\t640\t100\t0\t0\t0\t0\t1700000000\n";
+        private\t2\t0\t0\t16384\t640\t100\t0\t0\t0\t0\t1700000000\n\
+        total\t2\t2\t49\n";
     assert!(rt; text.as_slice() == wanted);
     let mut text = Text::new(alloc);
     put_messages(&mut text, &system.queue(0).messages)?;
     let wanted: &[u8] = b"SERIAL\tTYPE\tSENDER\tLENGTH\tBODY\n\
         1\t5\t42\t9\tGood day.\n\
-        2\t5\t42\t40\txxxxxxxxxxxxxxxxxxxxxxxxxxxxxxxx\n";
+        2\t5\t42\t40\txxxxxxxxxxxxxxxxxxxxxxxxxxxxxxxx\n\
+        total\t\t\t49\tmessages: 2\n";
     assert!(rt; text.as_slice() == wanted);
     Ok(())
 }
@@ -66,10 +68,10 @@ fn queues_and_messages_are_objects(rt: HostRuntime) -> Result<(), Fail> {
     put_queues_json(&mut text, alloc, &system)?;
     let wanted: &[u8] = b"{\"queues\":[\
         {\"id\":1,\"key\":7,\"msg_cbytes\":4,\"msg_ctime\":1700000000,\"msg_lrpid\":0,\"msg_lspid\":42,\
-        \"msg_perm\":{\"cgid\":7,\"cuid\":100,\"gid\":7,\"mode\":416,\"uid\":100},\
+        \"msg_perm\":{\"cgid\":7,\"cuid\":100,\"gid\":7,\"mode\":416,\"mode_octal\":\"640\",\"uid\":100},\
         \"msg_qbytes\":16384,\"msg_qnum\":2,\"msg_rtime\":0,\"msg_stime\":1700000060},\
         {\"id\":2,\"key\":null,\"msg_cbytes\":0,\"msg_ctime\":1700000000,\"msg_lrpid\":0,\"msg_lspid\":0,\
-        \"msg_perm\":{\"cgid\":7,\"cuid\":100,\"gid\":7,\"mode\":416,\"uid\":100},\
+        \"msg_perm\":{\"cgid\":7,\"cuid\":100,\"gid\":7,\"mode\":416,\"mode_octal\":\"640\",\"uid\":100},\
         \"msg_qbytes\":16384,\"msg_qnum\":0,\"msg_rtime\":0,\"msg_stime\":0}]}\n";
     assert!(rt; text.as_slice() == wanted);
     let Some(info) = system.info(1) else {
@@ -81,7 +83,7 @@ fn queues_and_messages_are_objects(rt: HostRuntime) -> Result<(), Fail> {
         {\"length\":3,\"mtext\":\"a\\\"\\n\",\"mtext_hex\":\"61220a\",\"mtype\":5,\"sender\":42,\"serial\":1},\
         {\"length\":1,\"mtext\":\"\xef\xbf\xbd\",\"mtext_hex\":\"ff\",\"mtype\":5,\"sender\":42,\"serial\":2}],\
         \"queue\":{\"id\":2,\"key\":null,\"msg_cbytes\":0,\"msg_ctime\":1700000000,\"msg_lrpid\":0,\"msg_lspid\":0,\
-        \"msg_perm\":{\"cgid\":7,\"cuid\":100,\"gid\":7,\"mode\":416,\"uid\":100},\
+        \"msg_perm\":{\"cgid\":7,\"cuid\":100,\"gid\":7,\"mode\":416,\"mode_octal\":\"640\",\"uid\":100},\
         \"msg_qbytes\":16384,\"msg_qnum\":0,\"msg_rtime\":0,\"msg_stime\":0}}\n";
     assert!(rt; text.as_slice() == wanted);
     Ok(())

@@ -1,16 +1,21 @@
 -- What is looked at of a file. docs/SHELL.md, "What a command asks" and "Tables".
-use Rattle.std.specs.Prelude.{◌≡◌, ◌⊎◌, ℕ, List, [], Option, None, Some, ⊤, Result, Ok, Err, position, slice_index_or}
+use Rattle.std.specs.Prelude.{◌≡◌, ◌⊎◌, ℕ, List, [], Option, None, Some, ⊤, Result, Ok, Err, position, slice_get, slice_index_or, ◌==◌, ◌||◌, nat_le, if◌then◌else◌}
 use Rattle.std.specs.Io.KnownBytes.{Appends}
 use Rattle.bucket_page.specs.Pseudokeys.{sha_key}
 use Rattle.interleavings.specs.LoneKernelWords.{Caller, IsFileOf, State}
 use Rattle.interleavings.specs.interleaving_core.file_check.declared.fault.CheckFault.{CheckFault}
 use Rattle.interleavings.specs.interleaving_core.declared.fault.OpenFault.TheVariants.{Wrong}
-use Rattle.queue_model.specs.declared.errno.Errno.TheVariants.{ENOENT}
+use Rattle.std.specs.Option.{option_map}
+use Rattle.queue_model.specs.declared.answer.QueueInfo.{QueueInfo}
+use Rattle.queue_model.specs.declared.errno.Errno.{Errno}
+use Rattle.queue_model.specs.declared.errno.Errno.TheVariants.{EIDRM, EINVAL, ENOENT}
 use Rattle.queue_model.specs.declared.queue.Queue.{Queue}
 use Rattle.queue_model.specs.Rules.{info_of}
 use Rattle.queue_commands.specs.Asking.{Refuses}
 use Rattle.queue_commands.specs.Json.{PutsJson, messages_data, queues_data}
 use Rattle.queue_commands.specs.Naming.{is_named}
+use Rattle.queue_commands.specs.declared.queue_name.QueueName.{QueueName}
+use Rattle.queue_commands.specs.declared.queue_name.QueueName.TheVariants.{Key, Id}
 use Rattle.queue_commands.specs.Tables.{messages_text, queues_text}
 use Rattle.queue_commands.specs.Commands.{AsksAs}
 use Rattle.command_runs.specs.Sessions.{Pages}
@@ -21,6 +26,14 @@ use Rattle.command_runs.specs.declared.looking.Look.{Look}
 use Rattle.command_runs.specs.declared.looking.Look.TheVariants.{Queues, Messages, Command}
 use Rattle.command_runs.specs.declared.looking.Form.{Form}
 use Rattle.command_runs.specs.declared.looking.Form.TheVariants.{Table, Json}
+
+-- what Stat tells of the queue of a name in the file of these pages
+pub record IsTold (name : QueueName) (content : Pages) (info : QueueInfo) : Type 0 where
+  pub system : State
+  pub file : IsFileOf sha_key content system
+  pub place : ℕ
+  pub named : position (is_named name) system.queues ≡ Some place
+  pub told : option_map info_of (slice_get system.queues place) ≡ Some info
 
 -- the queues of a system
 abbrev pub AreQueues : Form → State → List ℕ → Type 0
@@ -43,10 +56,16 @@ TextIs c (Queues form) s text = AreQueues form s text
 TextIs c (Messages name form) s text = AreMessagesAt form s (position (is_named name) s.queues) text
 TextIs c (Command request) s text = (t : State) × AsksAs c request s (Ok text) t
 
+-- a key has no queue; an id was never given, or its queue was removed
+abbrev pub why_missing : QueueName → State → Errno
+why_missing (Key key) s = ENOENT
+why_missing (Id id) s = if id == 0 || nat_le s.next_id id then EINVAL else EIDRM
+
 -- why nothing is
 abbrev pub MayNotShow : Caller → Look → State → CommandError → Type 0
 MayNotShow c look s NoMemory = ⊤
-MayNotShow c (Messages name form) s (Refused e) = (e ≡ ENOENT) × (position (is_named name) s.queues ≡ None)
+MayNotShow c (Messages name form) s (Refused e) =
+    (e ≡ why_missing name s) × (position (is_named name) s.queues ≡ None)
 MayNotShow c (Command request) s (Refused e) = (t : State) × AsksAs c request s (Err (Refuses e)) t
 MayNotShow c look s error = ⊥
 

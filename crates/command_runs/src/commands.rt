@@ -38,6 +38,10 @@ pub(crate) const PID: &str = "pid";
 
 pub(crate) const QBYTES: &str = "qbytes";
 
+pub(crate) const SERIAL: &str = "serial";
+
+pub(crate) const SHARED_WITH: &str = "shared";
+
 pub(crate) const SIZE: &str = "size";
 
 pub(crate) const TYPE: &str = "type";
@@ -122,7 +126,7 @@ impl Verb {
         match self {
             Verb::Send => ids(alloc, send(alloc, command)?),
             Verb::Receive => ids(alloc, receive(alloc, command)?),
-            Verb::Peek => ids(alloc, places(alloc, command)?.arg(selection(alloc))?),
+            Verb::Peek => ids(alloc, peek(alloc, command)?),
             Verb::List => list(alloc, command),
             Verb::Make => ids(alloc, make(alloc, command)?),
             Verb::Remove => ids(alloc, places(alloc, command)?),
@@ -149,7 +153,8 @@ fn send<'a>(alloc: Global, command: Command<'a>) -> Result<Command<'a>, AllocErr
             alloc,
             LINES,
             "Send each line as a message, its line end included: all, or none",
-        ))?
+        )
+        .short('l'))?
         .arg(flag(
             alloc,
             VERBOSE,
@@ -170,27 +175,66 @@ fn body<'a>(alloc: Global) -> Arg<'a> {
 /// The type with which it is sent.
 fn sent_type<'a>(alloc: Global) -> Arg<'a> {
     let help = "The type of the message, from 1 on; 1 where none is given";
-    value(alloc, TYPE, "N", help).allow_negative_numbers(true)
+    value(alloc, TYPE, "N", help)
+        .short('t')
+        .allow_negative_numbers(true)
 }
 
-/// What a send makes where it is not there.
+/// What a command makes where it is not there.
 fn creates<'a>(alloc: Global, command: Command<'a>) -> Result<Command<'a>, AllocError> {
+    let create = flag(
+        alloc,
+        CREATE,
+        "Make the queue where KEY has none, and FILE where there is none",
+    );
     command
-        .arg(flag(alloc, CREATE, "Make the queue where KEY has none"))?
+        .arg(create.short('c'))?
         .arg(new_mode(alloc).requires_arg(CREATE)?)?
+        .arg(new_limit(alloc).requires_arg(CREATE)?)?
+        .arg(new_owner(alloc).requires_arg(CREATE)?)?
+        .arg(new_group(alloc).requires_arg(CREATE)?)?
+        .arg(sharing(alloc)?.requires_arg(CREATE)?)?
         .arg(new_pages(alloc).requires_arg(CREATE)?)
 }
 
 /// The mode of a queue that is made.
 fn new_mode<'a>(alloc: Global) -> Arg<'a> {
-    let help = "Its mode, three octal digits; 600 where none is given";
+    let help = "Its mode, three octal digits; 600 where none is given, 660 with --shared";
     value(alloc, MODE, "OOO", help)
+}
+
+/// The limit of a queue that is made.
+fn new_limit<'a>(alloc: Global) -> Arg<'a> {
+    let help = "As many bytes may its messages have together; 16384 where none is given";
+    value(alloc, QBYTES, "N", help)
+}
+
+/// The owner of a queue that is made.
+fn new_owner<'a>(alloc: Global) -> Arg<'a> {
+    value(
+        alloc,
+        OWNER,
+        "N",
+        "The user that owns the queue, else the caller",
+    )
+}
+
+/// The group of a queue that is made.
+fn new_group<'a>(alloc: Global) -> Arg<'a> {
+    value(alloc, GROUP, "N", "The group that owns the queue")
+}
+
+/// The group with which a queue that is made is shared, and the file where that is made too.
+fn sharing<'a>(alloc: Global) -> Result<Arg<'a>, AllocError> {
+    let help =
+        "The group that may use the queue that is made; and FILE, with mode 660, where it is made";
+    value(alloc, SHARED_WITH, "GROUP", help).conflicts_with(GROUP)
 }
 
 /// The pages of a file that is made.
 fn new_pages<'a>(alloc: Global) -> Arg<'a> {
-    let help = "Make FILE where there is none, of so many pages";
-    value(alloc, PAGES, "N", help)
+    let help = "As many pages gets FILE where it is made; 1000 where none is given";
+    value(alloc, PAGES, "N", help).short('p')
 }
 
 /// Whether a send looks again.
@@ -222,21 +266,41 @@ fn receive<'a>(alloc: Global, command: Command<'a>) -> Result<Command<'a>, Alloc
 
 /// How many messages a receive takes, when, and what it prints before each.
 fn receives_more<'a>(alloc: Global, command: Command<'a>) -> Result<Command<'a>, AllocError> {
-    command
-        .arg(flag(
-            alloc,
-            HEADER,
-            "Print serial, sender, type and length as a line before each body",
-        ))?
-        .arg(flag(
-            alloc,
-            ALL,
-            "Receive each that its type selects, until there is none",
-        ))?
+    let all = flag(
+        alloc,
+        ALL,
+        "Receive each that its type selects, until there is none",
+    );
+    let command = command
+        .arg(header(alloc))?
+        .arg(all.short('a'))?
+        .arg(the_one(alloc)?)?
         .arg(patience(
             alloc,
             "Look again while there is no message, for so long or for ever",
-        ))
+        ))?;
+    creates(alloc, command)
+}
+
+/// The line before a body.
+fn header<'a>(alloc: Global) -> Arg<'a> {
+    let help = "Print serial, sender, type and length as a line before each body";
+    flag(alloc, HEADER, help)
+}
+
+/// The one message that is received.
+fn the_one<'a>(alloc: Global) -> Result<Arg<'a>, AllocError> {
+    let help = "Receive the message of this serial, if it is the one that the type selects";
+    value(alloc, SERIAL, "N", help)
+        .conflicts_with(ALL)?
+        .conflicts_with(WAIT)
+}
+
+/// `peek FILE KEY`.
+fn peek<'a>(alloc: Global, command: Command<'a>) -> Result<Command<'a>, AllocError> {
+    places(alloc, command)?
+        .arg(selection(alloc))?
+        .arg(header(alloc))
 }
 
 /// `list FILE [KEY]`.
@@ -263,7 +327,11 @@ fn make<'a>(alloc: Global, command: Command<'a>) -> Result<Command<'a>, AllocErr
             KEY,
             "The key, which no queue may have yet; or private",
         ))?
-        .arg(new_mode(alloc))
+        .arg(new_mode(alloc))?
+        .arg(new_limit(alloc))?
+        .arg(new_owner(alloc))?
+        .arg(new_group(alloc))?
+        .arg(sharing(alloc)?)
 }
 
 /// `set FILE KEY`.
@@ -303,20 +371,33 @@ fn ids<'a>(alloc: Global, command: Command<'a>) -> Result<Command<'a>, AllocErro
     let pid = "The process that calls; that of the command where none is given";
     command
         .arg(value(alloc, PID, "N", pid))?
-        .arg(value(alloc, UID, "N", "Its user; 0 where none is given"))?
-        .arg(value(alloc, GID, "N", "Its group; 0 where none is given"))
+        .arg(value(
+            alloc,
+            UID,
+            "N",
+            "Its user; that of the command where none is given",
+        ))?
+        .arg(value(
+            alloc,
+            GID,
+            "N",
+            "Its group; that of the command where none is given",
+        ))
 }
 
 /// Which message a receive takes.
 fn selection<'a>(alloc: Global) -> Arg<'a> {
     let help = "Which message: the first (0, where none is given), the first of type N, or of the \
         lowest type up to N (-N)";
-    value(alloc, TYPE, "N", help).allow_negative_numbers(true)
+    value(alloc, TYPE, "N", help)
+        .short('t')
+        .allow_negative_numbers(true)
 }
 
 /// How long a command looks again.
 fn patience<'a>(alloc: Global, help: &'a str) -> Arg<'a> {
     value(alloc, WAIT, "SECONDS", help)
+        .short('w')
         .num_args(0..=1)
         .require_equals(true)
         .default_missing_value(FOR_EVER)

@@ -17,9 +17,9 @@ mod values;
 
 pub use error::{CallFault, CommandError};
 pub use key::queue_name;
-pub use looking::{Form, Look, look_on};
+pub use looking::{Form, Look, info_on, look_on};
 pub use printing::Printer;
 pub use queue_commands;
 pub use reading::read_command;
 pub use running::{Ran, run_on};
-pub use task::{CallerIds, Deed, Patience, SendTask, ShellTask};
+pub use task::{CallerIds, Creation, Deed, Patience, ReceiveTask, SendTask, ShellTask};

@@ -1,8 +1,8 @@
 //! What is looked at of a file, which is not written.
 
-ghost use Rattle.std.specs.Prelude.{◌≡◌, ℕ, IsTrue, true};
+ghost use Rattle.std.specs.Prelude.{◌≡◌, ℕ, IfSome, IsTrue, true};
 ghost use Rattle.interleavings.specs.LoneKernelWords.{Caller};
-ghost use Rattle.command_runs.specs.Looking.{LooksAt, LooksOn, Shows};
+ghost use Rattle.command_runs.specs.Looking.{IsTold, LooksAt, LooksOn, Shows, why_missing};
 ghost use Rattle.command_runs.specs.Running.{IfUnprinted, seen};
 ghost use Rattle.command_runs.specs.declared.looking.Look.TheVariants.{Queues, Messages};
 
@@ -17,7 +17,7 @@ use queue_commands::{
     AskError, PlainLists, QueueName, Request, Text, ask, put_messages, put_messages_json,
     put_queues, put_queues_json,
 };
-use queue_model::{Caller, Errno, System};
+use queue_model::{Caller, Errno, QueueInfo, System};
 use std::alloc::Global;
 use std::io::Write;
 
@@ -59,6 +59,19 @@ pub fn look_on<D: PageDevice, W: Write + Drop>(
     let Checked { device, found } = check(alloc, device, ShaKey);
     let came = look_at(alloc, found, caller, look, output);
     Ran { device, came }
+}
+
+/// What Stat tells of the queue of a name in the file of a device; none where the file is not right,
+/// or no queue has the name. The device is only read.
+pub fn info_on<D: PageDevice + Drop>(alloc: Global, device: D, name: QueueName) -> Option<QueueInfo>
+    ensures { IsTrue (D.is_honest device) → IfSome result (IsTold name (D.content device)) }
+{
+    let Checked { device: _, found } = check(alloc, device, ShaKey);
+    let Ok(system) = found else {
+        return None;
+    };
+    let place = name.place_in(&system)?;
+    system.info(place)
 }
 
 /// Looks at what the checker found.
@@ -120,6 +133,17 @@ fn show_queues(alloc: Global, system: &System, form: Form) -> Result<Text, Comma
     }
 }
 
+/// Why no queue of a system has a name, as its calls are refused.
+fn why_missing(name: QueueName, system: &System) -> Errno
+    ensures { result ≡ why_missing name system.now }
+{
+    match name {
+        QueueName::Key(_) => Errno::ENOENT,
+        QueueName::Id(id) if id == 0 || system.next_id() <= id => Errno::EINVAL,
+        QueueName::Id(_) => Errno::EIDRM,
+    }
+}
+
 /// The messages of the queue of a system that has the name.
 fn show_messages(
     alloc: Global,
@@ -130,7 +154,7 @@ fn show_messages(
     ensures { (c : Caller) → Shows c (Messages name form) system.now result }
 {
     let Some(place) = name.place_in(system) else {
-        return Err(CommandError::Refused(Errno::ENOENT));
+        return Err(CommandError::Refused(why_missing(name, system)));
     };
     let Some(info) = system.info(place) else {
         return Err(CommandError::Refused(Errno::ENOENT));

@@ -1,20 +1,19 @@
 //! A command line is read.
 
 ghost use Rattle.std.specs.Prelude.{IfOk, IfSome};
-ghost use Rattle.msgq_cli.specs.Tasks.{IsFileSize};
-ghost use Rattle.command_runs.specs.Tasks.{DeedHasPages, HasPages};
+ghost use Rattle.command_runs.specs.Tasks.{CanBeMade, DeedHasPages, HasPages};
 
 use crate::commands::{
-    ALL, CREATE, FILE, GROUP, HEADER, JSON, LINES, NOERROR, OWNER, QBYTES, SIZE, VERBOSE, Verb,
-    program,
+    ALL, FILE, GROUP, HEADER, JSON, LINES, NOERROR, OWNER, QBYTES, SIZE, VERBOSE, Verb, program,
 };
 use crate::mistake::Mistake;
-use crate::task::{Deed, SendTask, ShellTask};
+use crate::task::{Deed, ReceiveTask, SendTask, ShellTask};
 use crate::values::{
-    OWNER_ALONE, any_queue, ids, mode, mtype, names_input, new_key, number, pages, patience, queue,
+    any_queue, creation, ids, mode, mtype, names_input, new_key, new_queue, number, patience,
+    queue, serial,
 };
 use clap::{ArgMatches, Error};
-use queue_commands::{Framing, Receiving, Setting};
+use queue_commands::{Framing, Receiving, Setting, Settings};
 use queue_model::{MAX_BODY, MAX_MESSAGES};
 use std::alloc::Global;
 
@@ -61,10 +60,11 @@ fn read_deed<'a>(verb: Verb, given: &ArgMatches<'a>) -> Result<Deed, Mistake<'a>
 {
     match verb {
         Verb::Send => Ok(Deed::Send(read_send(given)?)),
-        Verb::Receive => Ok(Deed::Receive {
+        Verb::Receive => Ok(Deed::Receive(ReceiveTask {
             receiving: read_receiving(given)?,
+            create: creation(given)?,
             patience: patience(given)?,
-        }),
+        })),
         Verb::Peek => Ok(Deed::Peek(read_receiving(given)?)),
         Verb::List => Ok(Deed::List {
             queue: any_queue(given)?,
@@ -72,7 +72,7 @@ fn read_deed<'a>(verb: Verb, given: &ArgMatches<'a>) -> Result<Deed, Mistake<'a>
         }),
         Verb::Make => Ok(Deed::Make {
             key: new_key(given)?,
-            mode: mode(given)?.unwrap_or(OWNER_ALONE),
+            new: new_queue(given)?,
         }),
         Verb::Remove => Ok(Deed::Remove(queue(given)?)),
         Verb::Set => Ok(Deed::Set(read_setting(given)?)),
@@ -81,17 +81,11 @@ fn read_deed<'a>(verb: Verb, given: &ArgMatches<'a>) -> Result<Deed, Mistake<'a>
 
 /// How standard input is sent.
 fn read_send<'a>(given: &ArgMatches<'a>) -> Result<SendTask, Mistake<'a>>
-    ensures pages { IfOk result (λ sending. IfSome sending.pages IsFileSize) }
+    ensures pages { IfOk result (λ sending. IfSome sending.create CanBeMade) }
 {
-    let create = if given.get_flag(CREATE) {
-        Some(mode(given)?.unwrap_or(OWNER_ALONE))
-    } else {
-        None
-    };
     Ok(SendTask {
         queue: queue(given)?,
-        create,
-        pages: pages(given)?,
+        create: creation(given)?,
         mtype: mtype(given)?.unwrap_or(1),
         framing: if given.get_flag(LINES) {
             Framing::Lines
@@ -113,6 +107,7 @@ fn read_receiving<'a>(given: &ArgMatches<'a>) -> Result<Receiving, Mistake<'a>> 
         size: number(given, SIZE)?.unwrap_or(MAX_BODY as u32),
         noerror: given.get_flag(NOERROR),
         most: if given.get_flag(ALL) { MAX_MESSAGES } else { 1 },
+        serial: serial(given)?,
         heads: given.get_flag(HEADER),
     })
 }
@@ -121,9 +116,11 @@ fn read_receiving<'a>(given: &ArgMatches<'a>) -> Result<Receiving, Mistake<'a>> 
 fn read_setting<'a>(given: &ArgMatches<'a>) -> Result<Setting, Mistake<'a>> {
     Ok(Setting {
         queue: queue(given)?,
-        qbytes: number(given, QBYTES)?,
-        uid: number(given, OWNER)?,
-        gid: number(given, GROUP)?,
-        mode: mode(given)?,
+        settings: Settings {
+            qbytes: number(given, QBYTES)?,
+            uid: number(given, OWNER)?,
+            gid: number(given, GROUP)?,
+            mode: mode(given)?,
+        },
     })
 }

@@ -1,6 +1,7 @@
 //! What a command line asks for.
 
-use queue_commands::{Framing, QueueName, Receiving, Setting};
+use queue_commands::{Framing, NewQueue, QueueName, Receiving, Setting};
+use std::time::Duration;
 
 /// What a command line asks for.
 #[derive(Debug, Drop, PartialEq)]
@@ -30,12 +31,7 @@ pub enum Deed {
     /// Standard input is sent.
     Send(SendTask),
     /// Messages are received.
-    Receive {
-        /// Which.
-        receiving: Receiving,
-        /// How long it looks again where there is none.
-        patience: Patience,
-    },
+    Receive(ReceiveTask),
     /// The body that a receive would get is printed.
     Peek(Receiving),
     /// The queues are listed, or the messages of one.
@@ -49,8 +45,8 @@ pub enum Deed {
     Make {
         /// Its key, or none for a private queue.
         key: Option<u32>,
-        /// Its mode.
-        mode: u16,
+        /// How.
+        new: NewQueue,
     },
     /// A queue is removed.
     Remove(QueueName),
@@ -63,10 +59,8 @@ pub enum Deed {
 pub struct SendTask {
     /// The queue.
     pub queue: QueueName,
-    /// The mode of the queue that is made where the key has none; none makes no queue.
-    pub create: Option<u16>,
-    /// How many pages the file has that is made where there is none; none makes no file.
-    pub pages: Option<u32>,
+    /// What is made where it is not there; none makes nothing.
+    pub create: Option<Creation>,
     /// The type of each message.
     pub mtype: i64,
     /// Whether it is one message, or each of its lines is one.
@@ -79,13 +73,35 @@ pub struct SendTask {
     pub patience: Patience,
 }
 
+/// Which messages are received.
+#[derive(Clone, Copy, Debug, PartialEq, Eq)]
+pub struct ReceiveTask {
+    /// Those.
+    pub receiving: Receiving,
+    /// What is made where it is not there; none makes nothing.
+    pub create: Option<Creation>,
+    /// How long it looks again where there is none.
+    pub patience: Patience,
+}
+
+/// What a command makes where it is not there.
+#[derive(Clone, Copy, Debug, PartialEq, Eq)]
+pub struct Creation {
+    /// The queue.
+    pub queue: NewQueue,
+    /// How many pages the file gets.
+    pub pages: u32,
+    /// The group with which the file is shared; none leaves it to its maker.
+    pub group: Option<u32>,
+}
+
 /// How long a command looks again where what it asks for can't be done yet.
 #[derive(Clone, Copy, Debug, PartialEq, Eq)]
 pub enum Patience {
     /// It does not.
     None,
-    /// For so many seconds.
-    Seconds(u32),
+    /// For so long.
+    For(Duration),
     /// For ever.
     Endless,
 }
@@ -95,13 +111,10 @@ impl Deed {
     pub fn queue(&self) -> Option<QueueName> {
         match self {
             Deed::Send(sending) => Some(sending.queue),
-            Deed::Receive {
-                receiving,
-                patience: _,
-            }
-            | Deed::Peek(receiving) => Some(receiving.queue),
+            Deed::Receive(task) => Some(task.receiving.queue),
+            Deed::Peek(receiving) => Some(receiving.queue),
             Deed::List { queue, is_json: _ } => *queue,
-            Deed::Make { key, mode: _ } => key.map(QueueName::Key),
+            Deed::Make { key, new: _ } => key.map(QueueName::Key),
             Deed::Remove(queue) => Some(*queue),
             Deed::Set(setting) => Some(setting.queue),
         }

@@ -2,18 +2,24 @@
 
 ghost use Rattle.std.specs.Prelude.{IfOk, IfSome};
 ghost use Rattle.msgq_cli.specs.Tasks.{IsFileSize};
+ghost use Rattle.command_runs.specs.Tasks.{CanBeMade};
 
 use crate::commands;
-use crate::commands::{BODY, FOR_EVER, GID, KEY, MODE, PID, TYPE, UID, WAIT};
+use crate::commands::{
+    BODY, CREATE, FOR_EVER, GID, GROUP, KEY, MODE, OWNER, PID, QBYTES, SERIAL, SHARED_WITH, TYPE,
+    UID, WAIT,
+};
 use crate::key::queue_name;
 use crate::mistake::Mistake;
-use crate::task::{CallerIds, Patience};
+use crate::task::{CallerIds, Creation, Patience};
 use clap::ArgMatches;
-use msgq_cli::STANDARD_INPUT;
-use queue_commands::QueueName;
+use msgq_cli::{STANDARD_INPUT, USUAL_PAGES, WRONG_SECONDS, wait_of};
+use queue_commands::{NewQueue, QueueName, Settings};
 
-/// The mode of a queue that is made where none is given.
-pub(crate) const OWNER_ALONE: u16 = 0o600;
+/// The mode of a queue that is made where none is given, and of one that is shared with a group.
+const OWNER_ALONE: u16 = 0o600;
+
+const SHARED: u16 = 0o660;
 
 const WRONG_KEY: &str =
     "KEY, a number of 32 bits, decimal or behind 0x hexadecimal, or @ and an id";
@@ -25,7 +31,9 @@ const WRONG_NUMBER: &str = "number of 32 bits, in decimal digits alone";
 
 const WRONG_TYPE: &str = "type, a decimal number of 64 bits";
 
-const WRONG_MODE: &str = "mode, three octal digits";
+const WRONG_MODE: &str = "mode, three octal digits, as 640 or 0640";
+
+const WRONG_SERIAL: &str = "serial, a decimal number of 64 bits";
 
 const WRONG_PAGES: &str = "number of pages, a decimal number from 258 to 65536, without a sign";
 
@@ -93,14 +101,73 @@ pub(crate) fn mode<'a>(given: &ArgMatches<'a>) -> Result<Option<u16>, Mistake<'a
     let Some(word) = given.get_str(MODE) else {
         return Ok(None);
     };
-    match schedules::mode(word.as_bytes()) {
+    let digits = match word.as_bytes() {
+        [b'0', digits @ ..] if digits.len() == 3 => digits,
+        digits => digits,
+    };
+    match schedules::mode(digits) {
         Some(mode) => Ok(Some(mode)),
         None => Err(Mistake::new(word, WRONG_MODE)),
     }
 }
 
+/// The serial that is given.
+pub(crate) fn serial<'a>(given: &ArgMatches<'a>) -> Result<Option<u64>, Mistake<'a>> {
+    let Some(word) = given.get_str(SERIAL) else {
+        return Ok(None);
+    };
+    match word.parse() {
+        Ok(serial) => Ok(Some(serial)),
+        Err(_) => Err(Mistake::new(word, WRONG_SERIAL)),
+    }
+}
+
+/// How a queue is made. One that is shared with a group is that group's, and it may send and receive.
+pub(crate) fn new_queue<'a>(given: &ArgMatches<'a>) -> Result<NewQueue, Mistake<'a>> {
+    let shared = number(given, SHARED_WITH)?;
+    let usual = if shared.is_some() {
+        SHARED
+    } else {
+        OWNER_ALONE
+    };
+    let qbytes = number(given, QBYTES)?;
+    let uid = number(given, OWNER)?;
+    let gid = match number(given, GROUP)? {
+        Some(group) => Some(group),
+        None => shared,
+    };
+    let settings = if qbytes.is_some() || uid.is_some() || gid.is_some() {
+        Some(Settings {
+            qbytes,
+            uid,
+            gid,
+            mode: None,
+        })
+    } else {
+        None
+    };
+    Ok(NewQueue {
+        mode: mode(given)?.unwrap_or(usual),
+        settings,
+    })
+}
+
+/// What is made where it is not there, if anything is.
+pub(crate) fn creation<'a>(given: &ArgMatches<'a>) -> Result<Option<Creation>, Mistake<'a>>
+    ensures { IfOk result (λ made. IfSome made CanBeMade) }
+{
+    if !given.get_flag(CREATE) {
+        return Ok(None);
+    }
+    Ok(Some(Creation {
+        queue: new_queue(given)?,
+        pages: pages(given)?.unwrap_or(USUAL_PAGES),
+        group: number(given, SHARED_WITH)?,
+    }))
+}
+
 /// How many pages a file has that is made.
-pub(crate) fn pages<'a>(given: &ArgMatches<'a>) -> Result<Option<u32>, Mistake<'a>>
+fn pages<'a>(given: &ArgMatches<'a>) -> Result<Option<u32>, Mistake<'a>>
     ensures { IfOk result (λ pages. IfSome pages IsFileSize) }
 {
     let Some(word) = given.get_str(commands::PAGES) else {
@@ -123,11 +190,14 @@ pub(crate) fn names_input<'a>(given: &ArgMatches<'a>) -> Result<bool, Mistake<'a
 
 /// How long a command looks again.
 pub(crate) fn patience<'a>(given: &ArgMatches<'a>) -> Result<Patience, Mistake<'a>> {
-    if given.get_str(WAIT) == Some(FOR_EVER) {
+    let Some(word) = given.get_str(WAIT) else {
+        return Ok(Patience::None);
+    };
+    if word == FOR_EVER {
         return Ok(Patience::Endless);
     }
-    match number(given, WAIT)? {
-        Some(seconds) => Ok(Patience::Seconds(seconds)),
-        None => Ok(Patience::None),
+    match wait_of(word.as_bytes()) {
+        Some(time) => Ok(Patience::For(time)),
+        None => Err(Mistake::new(word, WRONG_SECONDS)),
     }
 }

@@ -17,11 +17,13 @@ use Rattle.migration.specs.declared.copies.Size.TheVariants as sizes
 abbrev pub HasSize : Size → Type 0
 HasSize sizes.Migrated = ⊤
 HasSize (sizes.Pages pages) = IsFileSize pages
+HasSize (sizes.Grown pages) = IsFileSize pages
 
 -- what is done
 abbrev pub deed_of : Size → Deed
 deed_of sizes.Migrated = deeds.Migrated
 deed_of (sizes.Pages pages) = deeds.Copied
+deed_of (sizes.Grown pages) = deeds.Grown
 
 -- what was done, the number of queues of some system and of messages on them are printed, and nothing else
 pub record IsDone (deed : Deed) (old new : OutputState) (ending : Ending) : Type 0 where

@@ -32,6 +32,8 @@ pub enum Size {
     Migrated,
     /// The old file is of today's version, and the new one has so many.
     Pages(u32),
+    /// So it is, and the new one takes its place.
+    Grown(u32),
 }
 
 impl Size {
@@ -42,6 +44,7 @@ impl Size {
         match self {
             Size::Migrated => Deed::Migrated,
             Size::Pages(_) => Deed::Copied,
+            Size::Grown(_) => Deed::Grown,
         }
     }
 
@@ -52,7 +55,7 @@ impl Size {
         layouts_are_right();
         match self {
             Size::Migrated => OLDER_LAYOUT,
-            Size::Pages(_) => LAYOUT,
+            Size::Pages(_) | Size::Grown(_) => LAYOUT,
         }
     }
 
@@ -64,7 +67,7 @@ impl Size {
     {
         match self {
             Size::Migrated => migrated_pages(old),
-            Size::Pages(pages) => pages,
+            Size::Pages(pages) | Size::Grown(pages) => pages,
         }
     }
 }
@@ -187,7 +190,7 @@ where
 }
 
 /// Says why a file did not become a new one, and tells what was being done.
-fn explain<R, E>(
+pub(crate) fn explain<R, E>(
     rt: &R,
     request: CopyRequest,
     fault: CopyFault,
@@ -213,6 +216,7 @@ where
         }
         Size::Migrated => complain_of_fault(old, "it can't be migrated", number, fault, errors),
         Size::Pages(_) => complain_of_fault(old, "it can't be copied", number, fault, errors),
+        Size::Grown(_) => complain_of_fault(old, "it can't be grown", number, fault, errors),
     }
     let failure = Failure {
         stage,

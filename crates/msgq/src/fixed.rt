@@ -4,7 +4,9 @@ ghost use Rattle.msgq_cli.specs.Tasks.{HasPages};
 
 use crate::crew::ThreadASeat;
 use crate::scripts::{run_file, serve};
-use migration::{CopyRequest, SalvageRequest, Size, copy_file, salvage_file};
+use migration::{
+    CopyRequest, GrowRequest, SalvageRequest, Size, copy_file, grow_file, salvage_file,
+};
 use msgq_cli::{Ending, Output, Task, advise, complain, complain_of_lines, new_file, report_file};
 use replays::{Sources, replay_file};
 use std::fs::File;
@@ -56,6 +58,9 @@ where
         Task::Copy { old, new, pages } => {
             let size = Size::Pages(pages);
             return copy_file(rt, CopyRequest { old, new, size }, output, errors);
+        }
+        Task::Grow { file, pages } => {
+            return grow_file(rt, GrowRequest { file, pages }, output, errors);
         }
         Task::Salvage { old, new, pages } => {
             let request = SalvageRequest { old, new, pages };

@@ -1,7 +1,8 @@
 //! What a shell hands to `send`: the messages of standard input, and a file to make.
 
-ghost use Rattle.msgq_cli.specs.Tasks.{IsFileSize};
+ghost use Rattle.command_runs.specs.Tasks.{CanBeMade};
 
+use command_runs::Creation;
 use msgq_cli::{CANT_BE_MADE, Unmade, Unnamed, complain, complain_of_fault, fill_file};
 use queue_commands::{ExitStatus, Framing, Unsent, messages_of};
 use queue_model::Body;
@@ -52,10 +53,12 @@ fn status_of(unsent: &Unsent) -> ExitStatus {
 /// Makes FILE of so many pages where there is none, and prints nothing of that. It gets its name
 /// once it is whole, so no other command meets a part of it. Where another process makes it, that
 /// is waited for. Where it can't be made this is said.
-pub fn make_file<E>(rt: &HostRuntime, file: &str, pages: u32, errors: &mut E) -> bool
+///
+/// Where it is shared with a group, that is its group, which may read and write it.
+pub fn make_file<E>(rt: &HostRuntime, file: &str, made: Creation, errors: &mut E) -> bool
 where
     E: Write + IsTerminal,
-    requires pages { IsFileSize pages }
+    requires pages { CanBeMade made }
 {
     for _ in 0..MOST_NAPS {
         match fs::metadata(rt, file) {
@@ -64,7 +67,7 @@ where
             _ => return true,
         }
         match Unnamed::begin(rt, file, None) {
-            Ok(unnamed) => return fill_file(rt, unnamed, pages, errors).is_ok(),
+            Ok(unnamed) => return share_and_fill(rt, unnamed, made, errors),
             Err(Unmade::Refused(error)) if error.kind() == ErrorKind::AlreadyExists => {
                 return true;
             }
@@ -78,4 +81,19 @@ where
     let why = Unmade::InMaking;
     complain_of_fault(file, CANT_BE_MADE, why.number(), why, errors);
     false
+}
+
+/// Makes the pages of a file that was begun, for whom it is shared with, and gives it its name.
+fn share_and_fill<E>(rt: &HostRuntime, unnamed: Unnamed<'_>, made: Creation, errors: &mut E) -> bool
+where
+    E: Write + IsTerminal,
+    requires pages { CanBeMade made }
+{
+    if let Some(group) = made.group {
+        if let Err(error) = unnamed.share_with(rt, group) {
+            unnamed.give_up(rt, Unmade::Refused(error), errors);
+            return false;
+        }
+    }
+    fill_file(rt, unnamed, made.pages, errors).is_ok()
 }

@@ -16,7 +16,7 @@ use clap::Error;
 use clap::error::ErrorKind;
 use command_runs::read_command;
 use fixed::fixed;
-use msgq_cli::{Output, print_fault, read_command_line};
+use msgq_cli::{Output, print_fault, read_command_line, with_waits};
 use numbers::faults;
 use shell::shell;
 use stack::has_stack;
@@ -87,9 +87,10 @@ fn hold(rt: &HostRuntime, stream: RawFd) -> Option<File> {
     }
 }
 
-/// The words of the command line.
+/// The words of the command line, in which the seconds of a wait are one word with its option.
 fn words(rt: &HostRuntime) -> io::Result<Vec<String>> {
-    Ok(std::env::args(rt)?.collect(rt.alloc())?)
+    let words = std::env::args(rt)?.collect(rt.alloc())?;
+    Ok(with_waits(rt.alloc(), words)?)
 }
 
 /// Shows help or the version, or says what is wrong with the command line, or that there was no

@@ -1,17 +1,16 @@
 //! The commands of a shell.
 
 ghost use Rattle.std.specs.Prelude.{IfSome};
-ghost use Rattle.command_runs.specs.Tasks.{HasPages};
-ghost use Rattle.msgq_cli.specs.Tasks.{IsFileSize};
+ghost use Rattle.command_runs.specs.Tasks.{CanBeMade, HasPages};
 
 use crate::input::{make_file, read_messages};
-use crate::trouble::{Errand, Trouble};
+use crate::trouble::{Awaited, Errand, Trouble};
 use command_runs::{
-    CallerIds, CommandError, Deed, Form, Look, Patience, Printer, Ran, SendTask, ShellTask,
-    look_on, run_on,
+    CallerIds, CommandError, Deed, Form, Look, Patience, Printer, Ran, ReceiveTask, SendTask,
+    ShellTask, look_on, run_on,
 };
-use msgq_cli::{complain, open_to_read};
-use queue_commands::{Command, ExitStatus, Receiving, Request, Sending};
+use msgq_cli::{Plain, complain, open_to_read};
+use queue_commands::{Command, ExitStatus, NewQueue, QueueName, Receiving, Request, Sending};
 use queue_model::Caller;
 use rollback_journal::{Opening, open_in_turn};
 use std::io::Write;
@@ -42,10 +41,7 @@ pub fn shell(rt: &HostRuntime, task: &ShellTask<'_>) -> ExitStatus
     };
     match &task.deed {
         Deed::Send(sending) => send(rt, errand, sending),
-        Deed::Receive {
-            receiving,
-            patience,
-        } => run(rt, errand, Command::Receive(*receiving), *patience),
+        Deed::Receive(task) => receive(rt, errand, task),
         Deed::Peek(receiving) => peek(rt, errand, *receiving),
         Deed::List { queue, is_json } => {
             let form = if *is_json { Form::Json } else { Form::Table };
@@ -55,10 +51,10 @@ pub fn shell(rt: &HostRuntime, task: &ShellTask<'_>) -> ExitStatus
             };
             look(rt, errand, &what)
         }
-        Deed::Make { key, mode } => {
+        Deed::Make { key, new } => {
             let command = Command::Make {
                 key: *key,
-                mode: *mode,
+                new: *new,
             };
             run(rt, errand, command, Patience::None)
         }
@@ -74,18 +70,18 @@ pub fn shell(rt: &HostRuntime, task: &ShellTask<'_>) -> ExitStatus
     }
 }
 
-/// Who calls: the process itself, user 0 and group 0, where it is not said.
+/// Who calls: the process itself, for its real user and group, where it is not said.
 fn caller_of(rt: &HostRuntime, ids: CallerIds) -> Caller {
     Caller {
         pid: ids.pid.unwrap_or(process::id(rt.process())),
-        uid: ids.uid.unwrap_or(0),
-        gid: ids.gid.unwrap_or(0),
+        uid: ids.uid.unwrap_or(libc::getuid()),
+        gid: ids.gid.unwrap_or(libc::getgid()),
     }
 }
 
 /// Sends standard input. Where it can't be one message, or one a line, nothing is opened.
 fn send(rt: &HostRuntime, errand: Errand<'_>, task: &SendTask) -> ExitStatus
-    requires pages { IfSome task.now.pages IsFileSize }
+    requires pages { IfSome task.now.create CanBeMade }
 {
     let mut errors = rt.stderr();
     let read = read_messages(rt, errand.file, task.names_input, task.framing, &mut errors);
@@ -93,19 +89,54 @@ fn send(rt: &HostRuntime, errand: Errand<'_>, task: &SendTask) -> ExitStatus
         Ok(bodies) => bodies,
         Err(status) => return status,
     };
-    if let Some(pages) = task.pages {
-        if !make_file(rt, errand.file, pages, &mut errors) {
+    if let Some(made) = task.create {
+        if !make_file(rt, errand.file, made, &mut errors) {
             return ExitStatus::Fault;
         }
     }
     let command = Command::Send(Sending {
         queue: task.queue,
-        create: task.create,
+        create: task.create.map(|made| made.queue),
         mtype: task.mtype,
         bodies,
         tells: task.tells,
     });
     run(rt, errand, command, task.patience)
+}
+
+/// Receives messages. Where FILE is not there, or the queue, it is made if that is asked for.
+fn receive(rt: &HostRuntime, errand: Errand<'_>, task: &ReceiveTask) -> ExitStatus
+    requires pages { IfSome task.now.create CanBeMade }
+{
+    if let Some(made) = task.create {
+        if !make_file(rt, errand.file, made, &mut rt.stderr()) {
+            return ExitStatus::Fault;
+        }
+        if let Err(status) = make_queue(rt, errand, made.queue) {
+            return status;
+        }
+    }
+    run(rt, errand, Command::Receive(task.receiving), task.patience)
+}
+
+/// Makes the queue that is named where its key has none, and prints nothing of that. Where it can't
+/// be made this is said.
+fn make_queue(rt: &HostRuntime, errand: Errand<'_>, new: NewQueue) -> Result<(), ExitStatus> {
+    let Some(QueueName::Key(key)) = errand.queue else {
+        return Ok(());
+    };
+    let command = Command::Make {
+        key: Some(key),
+        new,
+    };
+    let mut request = Request { moment: 0, command };
+    let mut unseen = Printer::new(Vec::new(rt.alloc()));
+    match run_once(rt, errand, Duration::ZERO, &mut request, &mut unseen) {
+        Err(trouble) if !trouble.has_queue() => {
+            Err(trouble.tell(rt, errand, Some(&request.command)))
+        }
+        _ => Ok(()),
+    }
 }
 
 /// Prints the body that a receive would get.
@@ -128,27 +159,54 @@ fn run(rt: &HostRuntime, errand: Errand<'_>, command: Command, patience: Patienc
         Err(error) => return Trouble::Clock(error).tell(rt, errand, None),
     };
     let mut left = patience_of(patience);
+    let mut has_said = false;
     for _ in 0..MOST_LOOKS {
         let before = Stamp::of(rt, errand.file);
-        let Err(trouble) = run_once(rt, errand, left, &mut request) else {
+        let mut output = Printer::new(io::writer(rt));
+        let Err(trouble) = run_once(rt, errand, left, &mut request, &mut output) else {
             return ExitStatus::Done;
         };
         let spent = start.elapsed(rt).unwrap_or(Duration::MAX);
         left = patience_of(patience).saturating_sub(spent);
-        if left.is_zero() || !trouble.is_not_now() {
+        let awaits = trouble.awaits();
+        if left.is_zero() || (!trouble.is_not_now() && awaits.is_none()) {
             return trouble.tell(rt, errand, Some(&request.command));
+        }
+        if let Some(what) = awaits {
+            if !has_said {
+                say_awaited(errand, what, &mut rt.stderr());
+                has_said = true;
+            }
         }
         await_write(rt, errand.file, before, left);
     }
     ExitStatus::Fault
 }
 
+/// Says for what is waited that is not there yet.
+fn say_awaited<E: Write>(errand: Errand<'_>, what: Awaited, errors: &mut E) {
+    let file = Plain(errand.file);
+    let _ = match (what, errand.queue) {
+        (Awaited::Queue, Some(QueueName::Key(key))) => {
+            writeln!(
+                errors,
+                "msgq: {file}: queue {key}: it is not there yet, and is waited for"
+            )
+        }
+        _ => writeln!(
+            errors,
+            "msgq: {file}: it is not there yet, and is waited for"
+        ),
+    };
+}
+
 /// Runs a command once it has its turn, for which it waits as long as is left, or a little.
-fn run_once(
+fn run_once<W: Write + Drop>(
     rt: &HostRuntime,
     errand: Errand<'_>,
     left: Duration,
     request: &mut Request,
+    output: &mut Printer<W>,
 ) -> Result<(), Trouble> {
     let opening = Opening {
         path: errand.file,
@@ -156,8 +214,7 @@ fn run_once(
     };
     let device = open_in_turn(rt, opening).map_err(Trouble::Unopened)?;
     request.moment = moment(rt).map_err(Trouble::Clock)?;
-    let mut output = Printer::new(io::writer(rt));
-    let Ran { device, came } = run_on(rt.alloc(), device, errand.caller, request, &mut output);
+    let Ran { device, came } = run_on(rt.alloc(), device, errand.caller, request, output);
     match came {
         Ok(()) => Ok(()),
         Err(error) => Err(Trouble::Undone(error, device.into_pair().into_refused())),
@@ -168,7 +225,7 @@ fn run_once(
 fn patience_of(patience: Patience) -> Duration {
     match patience {
         Patience::None => Duration::ZERO,
-        Patience::Seconds(seconds) => Duration::from_secs(u64::from(seconds)),
+        Patience::For(time) => time,
         Patience::Endless => Duration::MAX,
     }
 }

@@ -1,16 +1,17 @@
 //! Why a command of a shell is not done, and what is said of that.
 
-use command_runs::CommandError;
+use command_runs::{CommandError, info_on};
 use interleaving_core::OpenFault;
 use msgq_cli::{
     Ending, Failure, Plain, Stage, advise, complain, complain_of_fault, complain_of_refused,
 };
 use numbers::faults;
+use page_device::FileDevice;
 use queue_commands::{Command, ExitStatus, QueueName, Sending};
-use queue_model::{Caller, Errno, MAX_QBYTES};
+use queue_model::{Caller, Errno, MAX_MESSAGES, MAX_QBYTES};
 use rollback_journal::{OpenError, Refused};
 use std::io;
-use std::io::Write;
+use std::io::{ErrorKind, Write};
 
 /// On which file and queue a command makes its calls, and for whom.
 #[derive(Clone, Copy)]
@@ -21,6 +22,15 @@ pub struct Errand<'a> {
     pub queue: Option<QueueName>,
     /// Who calls.
     pub caller: Caller,
+}
+
+/// What is not there, and may come.
+#[derive(Clone, Copy, Debug, PartialEq, Eq)]
+pub enum Awaited {
+    /// The file.
+    File,
+    /// The queue of the key.
+    Queue,
 }
 
 /// Why a command is not done.
@@ -40,6 +50,24 @@ impl Trouble {
     /// Whether there is no message, or no room.
     pub fn is_not_now(&self) -> bool {
         self.status() == ExitStatus::NotNow
+    }
+
+    /// What is not there, and may come.
+    pub fn awaits(&self) -> Option<Awaited> {
+        match self {
+            Trouble::Unopened(OpenError::Refused(Refused::File(error)))
+                if error.kind() == ErrorKind::NotFound => { Some(Awaited::File) }
+            Trouble::Undone(CommandError::Refused(Errno::ENOENT), _) => Some(Awaited::Queue),
+            _ => None,
+        }
+    }
+
+    /// Whether the queue is there already that was to be made.
+    pub fn has_queue(&self) -> bool {
+        matches!(
+            self,
+            Trouble::Undone(CommandError::Refused(Errno::EEXIST), _)
+        )
     }
 
     /// The exit status of a command that ends by it.
@@ -77,14 +105,31 @@ impl Trouble {
                 );
             }
             Trouble::Undone(CommandError::Refused(errno), _) => {
-                tell_refusal(errand, errno, command, &mut errors);
+                tell_refusal(rt, errand, errno, command, &mut errors);
             }
             Trouble::Undone(error, refused) => {
+                let is_unclosed = matches!(error, CommandError::Unclosed(_));
                 tell_undone(rt, errand.file, error, refused, &mut errors);
+                if is_unclosed {
+                    tell_unwritten(errand.file, command, &mut errors);
+                }
             }
         }
         status
     }
+}
+
+/// What became of the messages of a command whose file could not be written.
+fn tell_unwritten<E: Write>(file: &str, command: Option<&Command>, errors: &mut E) {
+    let file = Plain(file);
+    let _ = match command {
+        Some(Command::Receive(_)) => writeln!(
+            errors,
+            "msgq: {file}: what was printed was not taken out: it is received again"
+        ),
+        Some(Command::Send(_)) => writeln!(errors, "msgq: {file}: nothing was sent"),
+        _ => writeln!(errors, "msgq: {file}: nothing was changed"),
+    };
 }
 
 /// What is said where no refusal of a call is why a command is not done.
@@ -128,6 +173,7 @@ fn ending_of(error: &CommandError) -> Option<Ending> {
 
 /// `msgq: FILE: queue N: NAME: why`.
 fn tell_refusal<E: Write>(
+    rt: &HostRuntime,
     errand: Errand<'_>,
     errno: Errno,
     command: Option<&Command>,
@@ -137,9 +183,44 @@ fn tell_refusal<E: Write>(
     let name = errno.name();
     let why = why(errno, errand.queue, command);
     let _ = match errand.queue {
-        Some(QueueName::Key(key)) => writeln!(errors, "msgq: {file}: queue {key}: {name}: {why}"),
-        Some(QueueName::Id(id)) => writeln!(errors, "msgq: {file}: queue @{id}: {name}: {why}"),
-        None => writeln!(errors, "msgq: {file}: {name}: {why}"),
+        Some(QueueName::Key(key)) => write!(errors, "msgq: {file}: queue {key}: {name}: {why}"),
+        Some(QueueName::Id(id)) => write!(errors, "msgq: {file}: queue @{id}: {name}: {why}"),
+        None => write!(errors, "msgq: {file}: {name}: {why}"),
+    };
+    if errno == Errno::EAGAIN {
+        tell_room(rt, errand, errors);
+    }
+    let _ = writeln!(errors, "");
+}
+
+/// Goes on to say of a queue without room what is on it, what may be, and what raises that.
+fn tell_room<E: Write>(rt: &HostRuntime, errand: Errand<'_>, errors: &mut E) {
+    let Some(queue) = errand.queue else {
+        return;
+    };
+    let Ok(device) = FileDevice::open_read_only(rt, errand.file) else {
+        return;
+    };
+    let Some(info) = info_on(rt.alloc(), device, queue) else {
+        return;
+    };
+    let file = Plain(errand.file);
+    let id = info.id;
+    if info.qnum >= MAX_MESSAGES {
+        let _ = write!(
+            errors,
+            ": it has 1024 messages, as many as a queue may have"
+        );
+        return;
+    }
+    let _ = write!(errors, ": it has {} of {} bytes", info.cbytes, info.qbytes);
+    let _ = if info.qbytes < MAX_QBYTES {
+        write!(
+            errors,
+            "; 'msgq set {file} @{id} --qbytes {MAX_QBYTES} --uid 0' allows more"
+        )
+    } else {
+        write!(errors, ", as many as a queue may have")
     };
 }
 
@@ -155,7 +236,7 @@ fn why(errno: Errno, queue: Option<QueueName>, command: Option<&Command>) -> &'s
             Some(Command::Send(Sending { mtype, .. })) if *mtype < 1 => {
                 "the type of a message is at least 1"
             }
-            Some(Command::Set(setting)) if setting.qbytes.unwrap_or(0) > MAX_QBYTES => {
+            Some(Command::Set(setting)) if setting.settings.qbytes.unwrap_or(0) > MAX_QBYTES => {
                 "a limit is at most 65536 bytes"
             }
             _ => "no queue ever had this id",
@@ -165,14 +246,22 @@ fn why(errno: Errno, queue: Option<QueueName>, command: Option<&Command>) -> &'s
             (_, Some(Command::Send(_))) => "no queue has this key, and --create is not given",
             _ => "no queue has this key",
         },
-        Errno::ENOMSG => "there is no message that the type selects",
+        Errno::ENOMSG => match command {
+            Some(Command::Receive(receiving)) if receiving.serial.is_some() => {
+                "the message that the type selects has another serial, or there is none"
+            }
+            _ => "there is no message that the type selects",
+        },
         Errno::ENOSPC => "256 queues are alive, or no id is left",
         Errno::EACCES => match command {
             Some(Command::Send(_)) => "its mode does not let the caller write",
             _ => "its mode does not let the caller read",
         },
         Errno::EPERM => match command {
-            Some(Command::Set(setting)) if setting.qbytes.is_some() => {
+            Some(Command::Make { .. } | Command::Send(_)) => {
+                "only user 0 makes a queue of more than 16384 bytes: --uid 0 --owner N"
+            }
+            Some(Command::Set(setting)) if setting.settings.qbytes.is_some() => {
                 "the caller is neither its owner, its creator nor user 0, or raises the limit and \
                 is not user 0"
             }

@@ -15,3 +15,4 @@ pub mod Texts
 pub mod Unread
 pub use Rattle.file_check.specs as file_check
 pub use Rattle.record_file.specs as record_file
+pub mod Waiting

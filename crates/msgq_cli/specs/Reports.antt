@@ -7,7 +7,7 @@ use Rattle.queue_model.specs.State.{State}
 use Rattle.queue_model.specs.declared.queue.Queue.{Queue}
 use Rattle.msgq_cli.specs.Answers.{info_text, line_of}
 use Rattle.msgq_cli.specs.declared.reports.Deed.{Deed}
-use Rattle.msgq_cli.specs.declared.reports.Deed.TheVariants.{Migrated, Copied, Salvaged}
+use Rattle.msgq_cli.specs.declared.reports.Deed.TheVariants.{Migrated, Copied, Grown, Salvaged}
 use Rattle.msgq_cli.specs.declared.reports.Report.{Report}
 use Rattle.msgq_cli.specs.declared.reports.Report.TheVariants.{Counts, Queues}
 
@@ -19,6 +19,7 @@ ok_text s = line_of (codes "ok" ∷ decimal (length s.queues) ∷ decimal (sum_b
 abbrev pub word_of : Deed → List ℕ
 word_of Migrated = codes "migrated"
 word_of Copied = codes "copied"
+word_of Grown = codes "grown"
 word_of Salvaged = codes "salvaged"
 
 -- and how many queues have come to it, and messages on them

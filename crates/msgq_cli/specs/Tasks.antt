@@ -6,7 +6,7 @@ use Rattle.directory.specs.declared.layout.TheConstants.{LEAST_PAGES}
 use Rattle.schedules.specs.Numbers.{number_of}
 use Rattle.schedules.specs.Reading.{◌>>=◌}
 use Rattle.msgq_cli.specs.declared.command_line.Task.{Task}
-use Rattle.msgq_cli.specs.declared.command_line.Task.TheVariants.{Serve, New, Run, Replay, Migrate, Copy, Salvage, Report}
+use Rattle.msgq_cli.specs.declared.command_line.Task.TheVariants.{Serve, New, Run, Replay, Migrate, Copy, Grow, Salvage, Report}
 
 -- a file can have so many pages
 pub record IsFileSize (pages : ℕ) : Type 0 where
@@ -28,6 +28,7 @@ HasPages (Run file script) = ⊤
 HasPages (Replay file script schedule is_traced) = ⊤
 HasPages (Migrate old new) = ⊤
 HasPages (Copy old new pages) = IsFileSize pages
+HasPages (Grow file pages) = IsFileSize pages
 HasPages (Salvage old new pages) = IsFileSize pages
 HasPages (Report request) = ⊤
 
@@ -43,5 +44,6 @@ ReadsInputOnce (Run file script) = ⊤
 ReadsInputOnce (Replay file script schedule is_traced) = (is_input script.now && is_input schedule.now) ≡ false
 ReadsInputOnce (Migrate old new) = ⊤
 ReadsInputOnce (Copy old new pages) = ⊤
+ReadsInputOnce (Grow file pages) = ⊤
 ReadsInputOnce (Salvage old new pages) = ⊤
 ReadsInputOnce (Report request) = ⊤

@@ -5,12 +5,12 @@ ghost use Rattle.msgq_cli.specs.Tasks.{HasPages, IsFileSize, ReadsInputOnce, pag
 
 use crate::files::STANDARD_INPUT;
 use crate::help::{
-    CHECK_PRINTS, COPY_PRINTS, ENDING, MIGRATE_PRINTS, NEW_PRINTS, REPLAY_PRINTS, RUN_PRINTS,
-    SALVAGE_PRINTS, STAT_PRINTS,
+    CHECK_PRINTS, COPY_PRINTS, ENDING, GROW_PRINTS, MIGRATE_PRINTS, NEW_PRINTS, REPLAY_PRINTS,
+    RUN_PRINTS, SALVAGE_PRINTS, STAT_PRINTS,
 };
 use crate::plain::Plain;
 use crate::reports::{Report, ReportRequest};
-use clap::builder::ValueParser;
+use crate::waiting::{WRONG_SECONDS, wait_of};
 use clap::error::ErrorKind;
 use clap::{Arg, ArgAction, ArgMatches, Command, Error};
 use directory::LEAST_PAGES;
@@ -66,6 +66,13 @@ pub enum Task<'a> {
         /// How many pages the new one has.
         pages: u32,
     },
+    /// A file gets another size, in its place.
+    Grow {
+        /// The file.
+        file: Opening<'a>,
+        /// How many pages it gets.
+        pages: u32,
+    },
     /// A new file of what can be read of one that is wrong.
     Salvage {
         /// The file, which is only read.
@@ -78,6 +85,9 @@ pub enum Task<'a> {
     /// A report of the system that a file holds.
     Report(ReportRequest<'a>),
 }
+
+/// So many pages has a file where it is not said.
+pub const USUAL_PAGES: u32 = 1000;
 
 /// The version of the program, which its manual page and the changelog have too.
 const VERSION: &str = "0.2.0";
@@ -114,6 +124,8 @@ enum Wrong<'a> {
     OneInput,
     /// This word is no number of pages.
     Pages(&'a str),
+    /// This word is no number of seconds.
+    Wait(&'a str),
 }
 
 /// Reads the words of a command line, of which the first names the program.
@@ -131,6 +143,7 @@ pub fn read_command_line<'a>(alloc: Global, words: &'a [String]) -> Result<Task<
         Ok(task) => Ok(task),
         Err(Wrong::OneInput) => Err(one_input(alloc)?),
         Err(Wrong::Pages(word)) => Err(no_pages(alloc, name, word)?),
+        Err(Wrong::Wait(word)) => Err(no_wait(alloc, name, word)?),
     }
 }
 
@@ -142,7 +155,7 @@ fn read_task<'a>(name: &str, arguments: &ArgMatches<'a>) -> Result<Task<'a>, Wro
     let file = arguments.get_str(FILE).unwrap_or("");
     if name == "run" {
         return Ok(Task::Run {
-            file: opening(arguments),
+            file: opening(arguments)?,
             script: arguments.get_str(SCRIPT).unwrap_or(""),
         });
     }
@@ -153,7 +166,7 @@ fn read_task<'a>(name: &str, arguments: &ArgMatches<'a>) -> Result<Task<'a>, Wro
             return Err(Wrong::OneInput);
         }
         return Ok(Task::Replay {
-            file: opening(arguments),
+            file: opening(arguments)?,
             script,
             schedule,
             is_traced: arguments.get_flag(TRACE),
@@ -179,14 +192,15 @@ fn read_task<'a>(name: &str, arguments: &ArgMatches<'a>) -> Result<Task<'a>, Wro
             is_verbose: arguments.get_flag(VERBOSE),
         }));
     }
-    let word = arguments.get_str(PAGES).unwrap_or("");
-    let Some(pages) = pages(word.as_bytes()) else {
-        return Err(Wrong::Pages(word));
-    };
+    let pages = size(arguments)?;
     let old = arguments.get_str(OLD).unwrap_or("");
     let new = arguments.get_str(NEW).unwrap_or("");
     Ok(match name {
         "copy" => Task::Copy { old, new, pages },
+        "grow" => Task::Grow {
+            file: opening(arguments)?,
+            pages,
+        },
         "salvage" => Task::Salvage { old, new, pages },
         _ => Task::New { file, pages },
     })
@@ -199,11 +213,41 @@ fn one_input(alloc: Global) -> Result<Error, AllocError> {
 }
 
 /// The file that is changed, and how long its opening waits.
-fn opening<'a>(arguments: &ArgMatches<'a>) -> Opening<'a> {
-    Opening {
-        path: arguments.get_str(FILE).unwrap_or(""),
-        wait: Duration::from_secs(arguments.get_one(WAIT).unwrap_or(0)),
+fn opening<'a>(arguments: &ArgMatches<'a>) -> Result<Opening<'a>, Wrong<'a>> {
+    let path = arguments.get_str(FILE).unwrap_or("");
+    let Some(word) = arguments.get_str(WAIT) else {
+        let wait = Duration::ZERO;
+        return Ok(Opening { path, wait });
+    };
+    match wait_of(word.as_bytes()) {
+        Some(wait) => Ok(Opening { path, wait }),
+        None => Err(Wrong::Wait(word)),
     }
+}
+
+/// How many pages a file gets: as many as are asked for, or as usual.
+fn size<'a>(arguments: &ArgMatches<'a>) -> Result<u32, Wrong<'a>>
+    ensures { IfOk result IsFileSize }
+{
+    let Some(word) = arguments.get_str(PAGES) else {
+        return Ok(USUAL_PAGES);
+    };
+    match pages(word.as_bytes()) {
+        Some(pages) => Ok(pages),
+        None => Err(Wrong::Pages(word)),
+    }
+}
+
+/// What is said of a word that is no number of seconds.
+fn no_wait(alloc: Global, name: &str, word: &str) -> Result<Error, AllocError> {
+    let word = Plain(word);
+    let why = format!(in alloc; "'{word}' is no {WRONG_SECONDS}")?;
+    let mut command = match name {
+        "grow" => grow_command(alloc)?.bin_name("msgq grow")?,
+        "replay" => replay_command(alloc)?.bin_name("msgq replay")?,
+        _ => run_command(alloc)?.bin_name("msgq run")?,
+    };
+    command.error(ErrorKind::ValueValidation, why.as_str())
 }
 
 /// What is said of a word that is no number of pages.
@@ -214,6 +258,7 @@ fn no_pages(alloc: Global, name: &str, word: &str) -> Result<Error, AllocError> 
     )?;
     let mut command = match name {
         "copy" => copy_command(alloc)?.bin_name("msgq copy")?,
+        "grow" => grow_command(alloc)?.bin_name("msgq grow")?,
         "salvage" => salvage_command(alloc)?.bin_name("msgq salvage")?,
         _ => new_command(alloc)?.bin_name("msgq new")?,
     };
@@ -249,12 +294,15 @@ pub fn program<'a>(alloc: Global) -> Result<Command<'a>, AllocError> {
     let program = program.subcommand(report_command(alloc, "stat", stat, STAT_PRINTS)?)?;
     let program = program.subcommand(migrate_command(alloc)?)?;
     let program = program.subcommand(copy_command(alloc)?)?;
+    let program = program.subcommand(grow_command(alloc)?)?;
     program.subcommand(salvage_command(alloc)?)
 }
 
 /// `new FILE PAGES`.
 fn new_command<'a>(alloc: Global) -> Result<Command<'a>, AllocError> {
-    let pages = argument(alloc, PAGES).help(SIZE);
+    let pages = Arg::new(alloc, PAGES).action(ArgAction::Set).help(
+        "How many pages of 4,096 bytes it has: 258 to 65,536; 1,000 where none is given",
+    );
     Command::new(alloc, "new")
         .about("Makes a file of message queues")
         .after_help(NEW_PRINTS)
@@ -295,9 +343,9 @@ fn replay_command<'a>(alloc: Global) -> Result<Command<'a>, AllocError> {
 fn wait_argument<'a>(alloc: Global) -> Arg<'a> {
     Arg::new(alloc, WAIT)
         .long(WAIT)
+        .short('w')
         .value_name("SECONDS")
         .action(ArgAction::Set)
-        .value_parser(ValueParser::unsigned(0, u64::from(u32::MAX)))
         .help("Waits so long where another process uses the file; else that is fault 20 at once")
 }
 
@@ -320,6 +368,16 @@ fn copy_command<'a>(alloc: Global) -> Result<Command<'a>, AllocError> {
         .arg(argument(alloc, OLD).help("The file, which is not written"))?
         .arg(new)?
         .arg(argument(alloc, PAGES).help(SIZE))
+}
+
+/// `grow FILE PAGES`.
+fn grow_command<'a>(alloc: Global) -> Result<Command<'a>, AllocError> {
+    Command::new(alloc, "grow")
+        .about("Gives a file another size, in its place")
+        .after_help(GROW_PRINTS)
+        .arg(argument(alloc, FILE).help("The file"))?
+        .arg(argument(alloc, PAGES).help(SIZE))?
+        .arg(wait_argument(alloc))
 }
 
 /// `salvage OLD NEW PAGES`.

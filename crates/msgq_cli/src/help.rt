@@ -82,10 +82,23 @@ command line is wrong.";
 /// After the help of `copy`.
 pub(crate) const COPY_PRINTS: &str = "\
 Reads OLD and makes NEW, a file of PAGES pages, more or fewer, with the same queues and messages:
-serials, moments, owners and the next id are those of OLD, which is not written.
+serials, moments, owners and the next id are those of OLD, which is not written. OLD is not locked: for
+a file that is in use, 'msgq grow FILE PAGES' does it in its place, and loses nothing.
 Prints 'copied QUEUES MESSAGES'; 'fault 20' where NEW exists or the system refuses to make it; else
 'fault N' for the first thing that is wrong with OLD, or 50 where PAGES are too few for what it
 holds: then the NEW that was made is removed.
+Exit status 0, 1 where a fault was printed or standard output refused a write, 2 where the
+command line is wrong.";
+
+/// After the help of `grow`.
+pub(crate) const GROW_PRINTS: &str = "\
+Gives FILE PAGES pages, more or fewer, with the same queues and messages, while nobody else changes
+it: whoever waits for its turn goes on with the file of the new size. It is made as FILE.unmade, and
+takes the name once it is whole; so FILE is at each moment the file of before or the new one. Only
+its owner can do that.
+Prints 'grown QUEUES MESSAGES'; 'fault 20' where FILE is in use, or the system refuses to make the
+new file; else 'fault N' for the first thing that is wrong with FILE, or 50 where PAGES are too few
+for what it holds: then it is as it was.
 Exit status 0, 1 where a fault was printed or standard output refused a write, 2 where the
 command line is wrong.";
 

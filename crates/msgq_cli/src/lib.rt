@@ -27,11 +27,12 @@ mod reply;
 mod reports;
 mod script;
 mod spelling;
+mod waiting;
 
 pub use advice::advise;
 pub use checks::{check_on, print_found, report_file, warn_of_journal};
 pub use command::{Command, DEFAULT_MODE};
-pub use command_line::{Task, pages, program, read_command_line};
+pub use command_line::{Task, USUAL_PAGES, pages, program, read_command_line};
 pub use complaint::{
     complain, complain_of, complain_of_fault, complain_of_lines, complain_of_refused, print_word,
 };
@@ -53,3 +54,4 @@ pub use refusals::{fail, read_text, refuse, unread};
 pub use reply::{Reply, print_fault, print_info, print_made};
 pub use reports::{Deed, Report, ReportRequest, print_deed, print_ok, print_system, print_unread};
 pub use script::{Script, ScriptError, read_script};
+pub use waiting::{WRONG_SECONDS, wait_of, with_waits};

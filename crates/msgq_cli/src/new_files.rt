@@ -7,9 +7,9 @@ use numbers::faults;
 use page_device::SystemFile;
 use rollback_journal::is_left_behind;
 use std::alloc::{AllocError, Global};
-use std::fs::{File, OpenOptions, TryLockError};
+use std::fs::{File, OpenOptions, Permissions, TryLockError};
 use std::io::{ErrorKind, Write};
-use std::os::unix::fs::MetadataExt;
+use std::os::unix::fs::{MetadataExt, OpenOptionsExt, PermissionsExt, chown};
 use std::rt::Files;
 use std::{fs, io};
 use thiserror::Error;
@@ -19,6 +19,11 @@ const SUFFIX: &str = ".unmade";
 
 /// What is said of a file that can't be made.
 pub const CANT_BE_MADE: &str = "it can't be made";
+
+/// The modes of a file that its maker alone may read, and of one that a group may read and write.
+const OWNER_ALONE: u32 = 0o600;
+
+const SHARED: u32 = 0o660;
 
 /// So often a file is begun anew, where others begin one of its name at once.
 const TRIES: u32 = 16;
@@ -107,6 +112,41 @@ impl<'a> Unnamed<'a> {
         R: Files<File = File> + AllocGlobal,
     {
         expect_none(rt, name)?;
+        let mut how = OpenOptions::new();
+        how.read(true).write(true).create_new(true);
+        let unnamed = Unnamed::begin_beside(rt, name, of, &how)?;
+        // Another process may have made the file meanwhile, and use it.
+        if let Err(why) = expect_neither(rt, name) {
+            let _ = fs::remove_file(rt, unnamed.beside.as_str());
+            return Err(why);
+        }
+        Ok(unnamed)
+    }
+
+    /// A file without a page that is to take the name of one which the caller has locked. Until then
+    /// nobody but its maker may read it.
+    pub fn begin_in_place<R>(rt: &R, name: &'a str) -> Result<Unnamed<'a>, Unmade>
+    where
+        R: Files<File = File> + AllocGlobal,
+    {
+        let mut how = OpenOptions::new();
+        how.read(true)
+            .write(true)
+            .create_new(true)
+            .mode(OWNER_ALONE);
+        Unnamed::begin_beside(rt, name, Some(name), &how)
+    }
+
+    /// A file without a page, under the name that it has until it is whole.
+    fn begin_beside<R>(
+        rt: &R,
+        name: &'a str,
+        of: Option<&str>,
+        how: &OpenOptions,
+    ) -> Result<Unnamed<'a>, Unmade>
+    where
+        R: Files<File = File> + AllocGlobal,
+    {
         let mut beside = String::new(rt.alloc());
         beside.push_str(name)?;
         beside.push_str(SUFFIX)?;
@@ -115,17 +155,10 @@ impl<'a> Unnamed<'a> {
                 return Err(Unmade::OfItself);
             }
         }
-        let mut how = OpenOptions::new();
-        how.read(true).write(true).create_new(true);
         for _ in 0..TRIES {
             match how.open(rt, beside.as_str()) {
                 Ok(file) => {
                     if lock(rt, beside.as_str(), &file)? {
-                        // Another process may have made the file meanwhile, and use it.
-                        if let Err(why) = expect_neither(rt, name) {
-                            let _ = fs::remove_file(rt, beside.as_str());
-                            return Err(why);
-                        }
                         return Ok(Unnamed { name, beside, file });
                     }
                 }
@@ -172,6 +205,55 @@ impl<'a> Unnamed<'a> {
             self.remove(rt, errors);
             return false;
         }
+        self.keep_name(rt, errors)
+    }
+
+    /// Gives the file the owner, the group and the mode of the one that has its name, and takes the
+    /// name, which is on the disk then. It has to be whole before. Where that can't be done this is
+    /// said, and the name is still that of the other. Where only the name can't be brought to the
+    /// disk, which is said too, it is taken.
+    pub fn take_name<R, E>(self, rt: &R, errors: &mut E) -> bool
+    where
+        R: Files<File = File>,
+        E: Write,
+    {
+        let beside = self.beside.as_str();
+        let taken = match self.resemble(rt) {
+            Ok(()) => fs::rename(rt, beside, self.name),
+            Err(error) => Err(error),
+        };
+        if let Err(error) = taken {
+            complain_of_fault(self.name, CANT_BE_MADE, faults::DEVICE, &error, errors);
+            self.remove(rt, errors);
+            return false;
+        }
+        self.keep_name(rt, errors)
+    }
+
+    /// Gives the file the owner, the group and the mode of the one that has its name.
+    fn resemble<R: Files<File = File>>(&self, rt: &R) -> io::Result<()> {
+        let like = fs::metadata(rt, self.name)?;
+        let now = self.file.metadata()?;
+        if now.uid() != like.uid() || now.gid() != like.gid() {
+            chown(rt, self.beside.as_str(), Some(like.uid()), Some(like.gid()))?;
+        }
+        let mode = like.permissions().mode() & 0o7777;
+        self.file.set_permissions(Permissions::from_mode(mode))?;
+        self.file.sync_all()
+    }
+
+    /// Gives the file to its owner and to a group, who alone may read and write it.
+    pub fn share_with<R: Files<File = File>>(&self, rt: &R, group: u32) -> io::Result<()> {
+        chown(rt, self.beside.as_str(), None, Some(group))?;
+        self.file.set_permissions(Permissions::from_mode(SHARED))
+    }
+
+    /// Brings the name of the file to the disk. Where that can't be done it is said.
+    fn keep_name<R, E>(&self, rt: &R, errors: &mut E) -> bool
+    where
+        R: Files<File = File>,
+        E: Write,
+    {
         if let Err(error) = sync_folder_of(rt, self.name) {
             let what = "its name can't be kept";
             complain_of_fault(self.name, what, faults::DEVICE, &error, errors);

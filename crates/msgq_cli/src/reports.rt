@@ -26,6 +26,8 @@ pub enum Deed {
     Migrated,
     /// It was copied, to another size maybe.
     Copied,
+    /// It got another size.
+    Grown,
     /// What can be read of it was taken over.
     Salvaged,
 }
@@ -38,6 +40,7 @@ impl Deed {
         match self {
             Deed::Migrated => b"migrated",
             Deed::Copied => b"copied",
+            Deed::Grown => b"grown",
             Deed::Salvaged => b"salvaged",
         }
     }

@@ -1,20 +1,22 @@
 -- What the answer of a call comes to, and what comes of two things asked one after the other.
-use Rattle.std.proofs.Common.{◌≡◌, ℕ, ℤ, Bool, true, false, inl, inr, Option, Some, None, Result, Ok, Err, refl, ◌∙◌, subst, List, []}
+use Rattle.std.proofs.Common.{◌≡◌, ◌≢◌, ℕ, ℤ, Bool, true, false, inl, inr, Option, Some, None, Result, Ok, Err, refl, ◌∙◌, ap, subst, List, []}
 use Rattle.queue_model.specs.Rules.{outcome}
 use Rattle.queue_model.specs.State.{State}
 use Rattle.queue_model.specs.declared.answer.Answer.{Answer}
 use Rattle.queue_model.specs.declared.answer.Answer.TheVariants as answers
 use Rattle.queue_model.specs.declared.call.Call.{Call}
 use Rattle.queue_model.specs.declared.caller.Caller.{Caller}
-use Rattle.queue_commands.specs.Asking.{Asking, IsAnswered, IsAsked, Then}
-use Rattle.queue_commands.specs.Changing.{IsDone, set_call}
+use Rattle.queue_model.specs.declared.errno.Errno.{Errno}
+use Rattle.queue_model.specs.declared.message.Message.{Message}
+use Rattle.queue_commands.specs.Asking.{Asking, IsAnswered, IsAsked, Refuses, Then, Unless}
+use Rattle.queue_commands.specs.Finding.{IsDone, set_call}
 use Rattle.queue_commands.specs.Coming.{Comes, done_in, message_in, serial_in}
-use Rattle.queue_commands.specs.Receiving.{TakesAs, receive_call}
+use Rattle.queue_commands.specs.Receiving.{IsTheOne, ShowsTheOne, TakesAs, receive_call}
 use Rattle.queue_commands.specs.Sending.{SendsOneAs, send_call}
 use Rattle.queue_commands.specs.declared.error.AskError.{AskError}
 use Rattle.queue_commands.specs.declared.error.AskError.TheVariants as errors
 use Rattle.queue_commands.specs.declared.request.Receiving.{Receiving}
-use Rattle.queue_commands.specs.declared.request.Setting.{Setting}
+use Rattle.queue_commands.specs.declared.request.Settings.{Settings}
 use Rattle.queue_commands.proofs.AnswerLemmas.{Gives, a_receive_gives, a_send_gives, a_set_gives, is_done, is_message, is_of_kind, is_serial, never_waits}
 
 -- ---- one call
@@ -103,7 +105,7 @@ module _ (c : Caller) (moment : ℕ) (s : State) (Stands : State → Type 0) (La
       subst (λ (t : ℤ). Comes Stands Lacks (TakesAs c moment (record a { mtype = t }) id s) (message_in came)) same
       (taken (record a { mtype = given }) id asks)
 
-  pub sets : (a : Setting) (id qbytes : ℕ) → Asks c (set_call moment a id qbytes) s Stands Lacks came →
+  pub sets : (a : Settings) (id qbytes : ℕ) → Asks c (set_call moment a id qbytes) s Stands Lacks came →
       Comes Stands Lacks (IsDone c (set_call moment a id qbytes) s) (done_in came)
   sets a id qbytes asks =
       let gives = a_set_gives c (record {
@@ -160,3 +162,61 @@ module _ {A B : Type 0} (first : Caller → State → Asking A) (next : Caller �
   asks_both x came finds asks a s stands =
       goes_on (first a s) (next a) (Lacks a) x (Middle a) (Stands a) (Lacked a) came (finds a s stands)
       (asks a)
+
+-- ---- one thing, or another in its place
+
+module _ {A : Type 0} (e : Errno) (first : Asking A) (next : State → Asking A) (Stands : State → Type 0)
+    (Lacks : Call → State → Type 0) where
+  -- the first is refused so, and the other is asked
+  pub goes_to : (Middle : State → Type 0) (Lacked : Call → State → Type 0) (came : Result A AskError) →
+      Comes Middle Lacked first (Err (errors.Refused e)) →
+      ((u : State) → Middle u → Comes Stands Lacks (next u) came) →
+      Comes Stands Lacks (Unless e first next) came
+  goes_to Middle Lacked (Ok x) before asks =
+      let last = asks before.system before.stands in
+      record { system = last.system; is = inr (before.system, before.is, last.is); stands = last.stands }
+  goes_to Middle Lacked (Err (errors.Refused d)) before asks =
+      let last = asks before.system before.stands in
+      record { system = last.system; is = inr (before.system, before.is, last.is); stands = last.stands }
+  goes_to Middle Lacked (Err errors.Unanswered) before asks =
+      let last = asks before.system before.stands in
+      record {
+        call = last.call;
+        system = last.system;
+        at = inr (before.system, before.is, last.at);
+        cause = last.cause;
+      }
+  goes_to Middle Lacked (Err errors.NoMemory) before asks = tt
+
+  -- or is not
+  pub stays : (came : Result A AskError) → came ≢ Err (errors.Refused e) → Comes Stands Lacks first came →
+      Comes Stands Lacks (Unless e first next) came
+  stays (Ok x) apart before =
+      record { system = before.system; is = inl ((λ is. absurd cc), before.is); stands = before.stands }
+  stays (Err (errors.Refused d)) apart before =
+      record {
+        system = before.system;
+        is = inl ((λ is. apart (let same : d ≡ e = cc in ap (λ (f : Errno). Err (errors.Refused f)) same)), before.is);
+        stands = before.stands;
+      }
+  stays (Err errors.Unanswered) apart before =
+      record {
+        call = before.call;
+        system = before.system;
+        at = inl ((λ is. absurd cc), before.at);
+        cause = before.cause;
+      }
+  stays (Err errors.NoMemory) apart before = tt
+
+-- ---- one message, and whether it is the one
+
+-- its text, or why there is none, comes of it
+pub is_the_one : (serial : ℕ) (heads : Bool) (m : Message) (s : State) (Stands : State → Type 0)
+    (Lacks : Call → State → Type 0) (came : Result (List ℕ) AskError) → ShowsTheOne serial heads m came → Stands s →
+    Comes Stands Lacks (IsTheOne serial heads m s) came
+is_the_one serial heads m s Stands Lacks (Ok text) (is, shown) stands =
+    record { system = s; is = (is, shown, refl); stands = stands }
+is_the_one serial heads m s Stands Lacks (Err (errors.Refused e)) (apart, is) stands =
+    record { system = s; is = (apart, ap Refuses is, refl); stands = stands }
+is_the_one serial heads m s Stands Lacks (Err errors.Unanswered) shows stands = absurd shows
+is_the_one serial heads m s Stands Lacks (Err errors.NoMemory) shows stands = tt

@@ -1,14 +1,20 @@
 -- Rows and tables put together piece by piece.
-use Rattle.std.proofs.Common.{◌≡◌, ◌∙◌, ◌<◌, ◌≤◌, ◌+◌, ℕ, zero, suc, List, [], ◌∷◌, ◌++◌, Option, Some, None, arith, length, take, get_or, map, slice_index_or, refl, sym, ap, append_assoc, append-nil}
+use Rattle.std.proofs.Common.{◌≡◌, ◌∙◌, ◌<◌, ◌≤◌, ◌+◌, ◌^◌, ℕ, zero, suc, List, [], ◌∷◌, ◌++◌, Option, Some, None, arith, length, take, get_or, map, slice_index_or, refl, sym, subst, ap, append_assoc, append-nil}
 use Rattle.std.specs.Prelude.{slice_get}
 use Rattle.std.specs.Option.{option_map}
 use Rattle.std.proofs.lemmas.List.{take_more, map-append}
+use Rattle.std.specs.List.{sum_by}
+use Rattle.std.proofs.lemmas.List.Elements.{All-weaker}
+use Rattle.std.proofs.lemmas.List.Sums.{sum_by-le, sum_by_more_le}
+use Rattle.queue_model.specs.Lawful.{IsLawful, IsLawfulQueue}
 use Rattle.queue_model.specs.Rules.{info_of}
+use Rattle.queue_model.specs.Selection.{total_bytes}
+use Rattle.queue_model.specs.State.{State}
 use Rattle.queue_model.specs.declared.answer.QueueInfo.{QueueInfo}
 use Rattle.queue_model.specs.declared.message.Message.{Message}
 use Rattle.queue_model.specs.declared.queue.Queue.{Queue}
 use Rattle.queue_commands.specs.Cells.{row_text, tabbed}
-use Rattle.queue_commands.specs.Tables.{message_cells, message_rows, queue_cells, queue_rows}
+use Rattle.queue_commands.specs.Tables.{bytes_of, message_cells, message_rows, queue_cells, queue_rows}
 
 -- two pieces put last, one after the other, are one
 pub put-then : (a b c xs ys : List ℕ) → b ≡ a ++ xs → c ≡ b ++ ys → c ≡ a ++ (xs ++ ys)
@@ -98,3 +104,27 @@ put-message a b c ms place m below is before row =
     ∙ ap (λ l. message_rows (take place ms) ++ l) (append-nil (row_text (message_cells (get_or ms place m))))
     ∙ ap (λ n. message_rows (take place ms) ++ row_text (message_cells n)) same in
     put-then a b c _ _ before row ∙ ap (λ l. a ++ l) (sym more)
+
+-- ---- the bytes of queues
+
+module _ (s : State) (lawful : IsLawful s) where
+  few_bytes : (q : Queue) → IsLawfulQueue q → bytes_of q ≤ 65536
+  few_bytes q is = is.few_bytes
+
+  -- those of all queues fit a number
+  pub bytes-most : sum_by bytes_of s.queues ≤ 16777216
+  bytes-most =
+      let most = sum_by-le bytes_of 65536 s.queues
+      (All-weaker IsLawfulQueue (λ (q : Queue). bytes_of q ≤ 65536) few_bytes s.queues lawful.queues_lawful) in
+      let few = lawful.few_queues in
+      omega (arith, most, few)
+
+  -- those so far, and those of one queue more
+  pub bytes-more : (place : ℕ) (q : Queue) → place < length s.queues → q ≡ slice_index_or s.queues place q →
+      sum_by bytes_of (take place s.queues) + total_bytes q.messages < 2 ^ 64
+  bytes-more place q below is =
+      let same : get_or s.queues place q ≡ q = sym is in
+      let more = subst (λ (r : Queue). sum_by bytes_of (take place s.queues) + bytes_of r ≤ sum_by bytes_of s.queues)
+      same (sum_by_more_le bytes_of s.queues place q below) in
+      let most = bytes-most in
+      omega (arith, more, most)

@@ -1,16 +1,13 @@
 -- What is asked of a system by calls, one after the other: what it comes to, and the system that it leaves.
 -- docs/QUEUES.md, "Calls"; docs/SHELL.md, "What a command asks".
-use Rattle.std.specs.Prelude.{◌≡◌, ◌⊎◌, ℕ, false, Option, None, Some, is_some, unwrap_or, Result, Ok, Err}
+use Rattle.std.specs.Prelude.{◌≡◌, ◌≢◌, ◌⊎◌, Option, None, Some, Result, Ok, Err}
 use Rattle.queue_model.specs.Rules.{outcome}
 use Rattle.queue_model.specs.State.{State}
 use Rattle.queue_model.specs.declared.answer.Answer.{Answer}
 use Rattle.queue_model.specs.declared.answer.Answer.TheVariants as answers
 use Rattle.queue_model.specs.declared.call.Call.{Call}
-use Rattle.queue_model.specs.declared.call.Call.TheVariants as calls
 use Rattle.queue_model.specs.declared.caller.Caller.{Caller}
 use Rattle.queue_model.specs.declared.errno.Errno.{Errno}
-use Rattle.queue_commands.specs.declared.queue_name.QueueName.{QueueName}
-use Rattle.queue_commands.specs.declared.queue_name.QueueName.TheVariants.{Key, Id}
 
 -- where asking ends without a value: at a call that is refused, or at one that is not answered
 pub data Halt : Type 0 where
@@ -49,17 +46,7 @@ Then {A} first next (Ok y) t = (x : A) × (u : State) × first (Ok x) u × next 
 Then {A} first next (Err halt) t =
     first (Err halt) t ⊎ ((x : A) × (u : State) × first (Ok x) u × next x u (Err halt) t)
 
--- the Get of a key, which makes the queue where the key has none and a mode is given
-abbrev pub find_call : ℕ → Option ℕ → ℕ → Call
-find_call moment create key = calls.Get (record {
-  key = Some key;
-  create = is_some create;
-  excl = false;
-  mode = unwrap_or create 0;
-  moment = moment;
-})
-
--- the id of the queue that is named: a key's is asked for
-abbrev pub FindsAs : Caller → ℕ → QueueName → Option ℕ → State → Asking ℕ
-FindsAs c moment (Id id) create s = IsKnown id s
-FindsAs c moment (Key key) create s = IsAnswered answers.Id c (find_call moment create key) s
+-- the first; and where that is refused so, the second in its place, in the system that it leaves
+abbrev pub Unless : {A : Type 0} → Errno → Asking A → (State → Asking A) → Asking A
+Unless e first next came t =
+    ((came ≢ Err (Refuses e)) × first came t) ⊎ ((u : State) × first (Err (Refuses e)) u × next u came t)

@@ -2,7 +2,7 @@
 use Rattle.std.specs.Prelude.{ℕ, ◌/◌, ◌%◌, ◌&&◌, nat_le, List, [], ◌∷◌, ◌++◌, map, take, codes, Option, Some, None, if◌then◌else◌}
 use Rattle.std.specs.Fmt.{decimal, signed_decimal}
 use Rattle.queue_commands.specs.declared.cell.Cell.{Cell}
-use Rattle.queue_commands.specs.declared.cell.Cell.TheVariants.{Text, Number, Signed, Key, Mode, Body}
+use Rattle.queue_commands.specs.declared.cell.Cell.TheVariants.{Text, Number, Signed, Key, Mode, Messages, Body}
 use Rattle.queue_commands.specs.declared.cell.TheConstants.{PREVIEW_BYTES}
 
 -- a tab (9) before each
@@ -39,4 +39,5 @@ cell_text (Number number) = decimal number
 cell_text (Signed number) = signed_decimal number
 cell_text (Key key) = key_text key
 cell_text (Mode mode) = mode_text mode
+cell_text (Messages number) = codes "messages: " ++ decimal number
 cell_text (Body body) = preview body.now

@@ -14,7 +14,7 @@ use Rattle.queue_commands.specs.declared.request.Request.{Request}
 abbrev pub CommandsAs : Caller → ℕ → Command → State → Asking (List ℕ)
 CommandsAs c moment (Send sending) s = SendsAs c moment sending s
 CommandsAs c moment (Receive receiving) s = ReceivesAs c moment receiving s
-CommandsAs c moment (Make key mode) s = MakesAs c moment key mode s
+CommandsAs c moment (Make key new) s = MakesAs c moment key new s
 CommandsAs c moment (Remove queue) s = RemovesAs c moment queue s
 CommandsAs c moment (Set setting) s = SetsAs c moment setting s
 

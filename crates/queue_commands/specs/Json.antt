@@ -8,6 +8,7 @@ use Rattle.queue_model.specs.declared.answer.QueueInfo.{QueueInfo}
 use Rattle.queue_model.specs.declared.message.Message.{Message}
 use Rattle.queue_model.specs.declared.permissions.Permissions.{Permissions}
 use Rattle.queue_model.specs.declared.queue.Queue.{Queue}
+use Rattle.queue_commands.specs.Cells.{mode_text}
 use Rattle.serde_json.specs.Data.{Data, Members, depth, null, number, string, array, object, unsigned, no_members, member}
 use Rattle.serde_json.specs.Find.{of_integer}
 use Rattle.serde_json.specs.Read.{max_depth, read}
@@ -37,9 +38,11 @@ abbrev pub key_data : Option ℕ → Data
 key_data None = null
 key_data (Some key) = count key
 
+-- the mode as a number, and as three octal digits
 abbrev pub permissions_data : Permissions → Data
 permissions_data p = object (named ((codes "cgid", count p.cgid) ∷ (codes "cuid", count p.cuid)
-    ∷ (codes "gid", count p.gid) ∷ (codes "mode", count p.mode) ∷ (codes "uid", count p.uid) ∷ []))
+    ∷ (codes "gid", count p.gid) ∷ (codes "mode", count p.mode) ∷ (codes "mode_octal", string (mode_text p.mode))
+    ∷ (codes "uid", count p.uid) ∷ []))
 
 -- what Stat tells of a queue
 abbrev pub info_data : QueueInfo → Data

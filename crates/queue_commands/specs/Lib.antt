@@ -5,6 +5,7 @@ pub mod Lines
 pub mod Messages
 pub mod Json
 pub mod Asking
+pub mod Finding
 pub mod Sending
 pub mod Receiving
 pub mod Changing

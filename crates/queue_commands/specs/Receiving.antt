@@ -1,5 +1,5 @@
 -- What `receive` asks. docs/SHELL.md, "What a command asks".
-use Rattle.std.specs.Prelude.{◌≡◌, ◌⊎◌, ℕ, ◌<◌, ◌≤◌, Bool, true, false, List, [], ◌∷◌, ◌++◌, length, None, Some, Result, Ok, Err}
+use Rattle.std.specs.Prelude.{◌≡◌, ◌≢◌, ◌⊎◌, ℕ, ◌<◌, ◌≤◌, Bool, true, false, List, [], ◌∷◌, ◌++◌, length, Option, None, Some, Result, Ok, Err, ⊤}
 use Rattle.std.specs.Fmt.{decimal, signed_decimal}
 use Rattle.queue_model.specs.Rules.{outcome}
 use Rattle.queue_model.specs.State.{State}
@@ -9,7 +9,10 @@ use Rattle.queue_model.specs.declared.call.Call.TheVariants as calls
 use Rattle.queue_model.specs.declared.caller.Caller.{Caller}
 use Rattle.queue_model.specs.declared.errno.Errno.TheVariants.{ENOMSG}
 use Rattle.queue_model.specs.declared.message.Message.{Message}
-use Rattle.queue_commands.specs.Asking.{Asking, FindsAs, Halt, HaltsAt, IsAnswered, Refuses, Then}
+use Rattle.queue_commands.specs.Finding.{FindsAs}
+use Rattle.queue_commands.specs.Asking.{Asking, Halt, HaltsAt, IsAnswered, Refuses, Then}
+use Rattle.queue_commands.specs.declared.error.AskError.{AskError}
+use Rattle.queue_commands.specs.declared.error.AskError.TheVariants as errors
 use Rattle.queue_commands.specs.declared.request.Receiving.{Receiving}
 
 -- the Receive of one message, which does not wait
@@ -76,7 +79,23 @@ abbrev pub TakesAllAs : Caller → Call → Receiving → State → Asking (List
 TakesAllAs c call a s (Ok text) t = IsTaken c call a s text t
 TakesAllAs c call a s (Err halt) t = HaltsAfter c call a s halt t
 
+-- a message is the one of this serial, and its text is printed; or another, which is refused
+abbrev pub IsTheOne : ℕ → Bool → Message → State → Asking (List ℕ)
+IsTheOne serial heads m s (Ok text) t = (m.serial ≡ serial) × (text ≡ shown_text heads m) × (t ≡ s)
+IsTheOne serial heads m s (Err halt) t = (m.serial ≢ serial) × (halt ≡ Refuses ENOMSG) × (t ≡ s)
+
+-- so, or there is no memory for the text
+abbrev pub ShowsTheOne : ℕ → Bool → Message → Result (List ℕ) AskError → Type 0
+ShowsTheOne serial heads m (Ok text) = (m.serial ≡ serial) × (text ≡ shown_text heads m)
+ShowsTheOne serial heads m (Err (errors.Refused e)) = (m.serial ≢ serial) × (e ≡ ENOMSG)
+ShowsTheOne serial heads m (Err errors.Unanswered) = ⊥
+ShowsTheOne serial heads m (Err errors.NoMemory) = ⊤
+
+-- the one message of a serial, or as many as may be
+abbrev pub TakesFrom : Caller → ℕ → Receiving → Option ℕ → ℕ → State → Asking (List ℕ)
+TakesFrom c moment a (Some serial) id s = Then (TakesAs c moment a id s) (IsTheOne serial a.heads)
+TakesFrom c moment a None id s = TakesAllAs c (receive_call moment a id) a s
+
 -- the queue is found, and messages are received from it
 abbrev pub ReceivesAs : Caller → ℕ → Receiving → State → Asking (List ℕ)
-ReceivesAs c moment a s =
-    Then (FindsAs c moment a.queue None s) (λ id u. TakesAllAs c (receive_call moment a id) a u)
+ReceivesAs c moment a s = Then (FindsAs c moment a.queue None s) (TakesFrom c moment a a.serial)

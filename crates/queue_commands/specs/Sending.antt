@@ -7,7 +7,8 @@ use Rattle.queue_model.specs.declared.answer.Answer.TheVariants as answers
 use Rattle.queue_model.specs.declared.call.Call.{Call}
 use Rattle.queue_model.specs.declared.call.Call.TheVariants as calls
 use Rattle.queue_model.specs.declared.caller.Caller.{Caller}
-use Rattle.queue_commands.specs.Asking.{Asking, FindsAs, Halt, HaltsAt, IsAnswered, Then}
+use Rattle.queue_commands.specs.Finding.{FindsAs}
+use Rattle.queue_commands.specs.Asking.{Asking, Halt, HaltsAt, IsAnswered, Then}
 use Rattle.queue_commands.specs.declared.request.Sending.{Sending}
 
 -- the Send of one body, which does not wait

@@ -1,44 +1,12 @@
-//! The queue that a command names, and the answers of each kind.
+//! The answers of each kind.
 
-ghost use Rattle.std.specs.Prelude.{◌≡◌, ℕ};
-ghost use Rattle.queue_model.specs.State.{State};
-ghost use Rattle.queue_model.specs.declared.caller.Caller.{Caller};
-ghost use Rattle.queue_commands.specs.Asking.{FindsAs};
-ghost use Rattle.queue_commands.specs.Coming.{Comes, done_in, id_in, info_in, message_in, serial_in};
+ghost use Rattle.std.specs.Prelude.{◌≡◌};
+ghost use Rattle.queue_commands.specs.Coming.{done_in, id_in, info_in, message_in, serial_in};
 
-use crate::answering::Answering;
 use crate::error::AskError;
-use crate::queue_name::QueueName;
 use crate::text::Text;
-use queue_model::{Answer, Call, GetArguments, Message, QueueInfo};
+use queue_model::{Answer, Message, QueueInfo};
 use std::alloc::Global;
-
-/// The id of the queue that a command names. That of a key is asked for, and where a mode is given
-/// for one, the queue is made where the key has none.
-pub(crate) fn find<A: Answering>(
-    answers: &mut A,
-    moment: u64,
-    queue: QueueName,
-    create: Option<u16>,
-) -> Result<u32, AskError>
-    ensures { (o : A.Origin) (c : Caller) (s : State) → A.stands answers.old o c s →
-        Comes (A.stands answers.new o c) (A.lacks answers.new o c)
-        (FindsAs c moment queue create s) result }
-{
-    match queue {
-        QueueName::Id(id) => Ok(id),
-        QueueName::Key(key) => {
-            let call = GetArguments {
-                key: Some(key),
-                create: create.is_some(),
-                excl: false,
-                mode: create.unwrap_or(0),
-                moment,
-            };
-            id_in(answers.answer(Call::Get(call)))
-        }
-    }
-}
 
 /// The id that a Get was answered.
 pub(crate) fn id_in(answer: Option<Answer>) -> Result<u32, AskError>

@@ -23,6 +23,8 @@ pub(crate) enum Cell<'a> {
     Key(Option<u32>),
     /// Nine bits as three octal digits.
     Mode(u16),
+    /// So many messages.
+    Messages(u64),
     /// The first bytes of a body, a dot for each that is not printable.
     Body(&'a [u8]),
 }
@@ -54,6 +56,10 @@ impl Text {
             Cell::Key(Some(key)) => self.put_number(u64::from(*key)),
             Cell::Key(None) => self.put(b"private"),
             Cell::Mode(mode) => self.put_mode(*mode),
+            Cell::Messages(number) => {
+                self.put(b"messages: ")?;
+                self.put_number(*number)
+            }
             Cell::Body(body) => self.put_preview(body),
         }
     }

@@ -35,7 +35,7 @@ pub fn ask<A: Answering>(
     match &request.command {
         Command::Send(sending) => send(alloc, answers, moment, sending),
         Command::Receive(receiving) => receive(alloc, answers, moment, receiving),
-        Command::Make { key, mode } => make(alloc, answers, moment, *key, *mode),
+        Command::Make { key, new } => make(alloc, answers, moment, *key, *new),
         Command::Remove { queue } => remove(alloc, answers, moment, *queue),
         Command::Set(setting) => set(alloc, answers, moment, setting),
     }

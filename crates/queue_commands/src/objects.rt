@@ -1,11 +1,13 @@
 //! JSON objects of queues and messages, whose members have POSIX's names.
 
-ghost use Rattle.std.specs.Prelude.{◌≡◌, IfOk, OnOk, map};
+ghost use Rattle.std.specs.Prelude.{◌≡◌, IfOk, OnOk, map, string_bytes};
+ghost use Rattle.queue_commands.specs.Cells.{mode_text};
 ghost use Rattle.queue_commands.specs.Json.{IsPlain, PutsJson, count, info_data, key_data, message_data, messages_data, messages_of, permissions_data, queue_data, queues_data, queues_of};
 ghost use Rattle.serde_json.specs.Data.{Data, put as with_member};
 ghost use Rattle.serde_json.specs.View.{members_view, view};
 
 use crate::text::Text;
+use itoa::Buffer;
 use numbers::faults::NoMemory;
 use queue_model::{Message, Messages, Permissions, QueueInfo, System};
 use serde_json::{Map, Value, json, put};
@@ -124,14 +126,27 @@ fn key_value(key: Option<u32>) -> Value
 fn permissions_object(alloc: Global, permissions: Permissions) -> Result<Value, NoMemory>
     ensures { IfOk result (λ value. view value ≡ permissions_data permissions) }
 {
+    let digits = octal(alloc, permissions.mode)?;
     let value = json!(in alloc; {
         "cgid": permissions.cgid,
         "cuid": permissions.cuid,
         "gid": permissions.gid,
         "mode": permissions.mode,
+        "mode_octal": digits,
         "uid": permissions.uid
     })?;
     Ok(value)
+}
+
+/// Nine bits as three octal digits.
+fn octal(alloc: Global, mode: u16) -> Result<String, NoMemory>
+    ensures { IfOk result (λ digits. string_bytes digits ≡ mode_text mode) }
+{
+    let mut digits = String::new(alloc);
+    digits.push_str(Buffer::new().format(mode / 64 % 8))?;
+    digits.push_str(Buffer::new().format(mode / 8 % 8))?;
+    digits.push_str(Buffer::new().format(mode % 8))?;
+    Ok(digits)
 }
 
 /// A message: its bytes as a text, in which what is no UTF-8 is replaced, and in hexadecimal

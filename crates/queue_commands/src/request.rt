@@ -23,8 +23,8 @@ pub enum Command {
     Make {
         /// Its key, or none for a private queue.
         key: Option<u32>,
-        /// Its mode, of which the low nine bits count.
-        mode: u16,
+        /// How it is made.
+        new: NewQueue,
     },
     /// A queue is removed with all its messages.
     Remove {
@@ -40,8 +40,8 @@ pub enum Command {
 pub struct Sending {
     /// The queue.
     pub queue: QueueName,
-    /// The mode of the queue that is made where the key has none; none makes no queue.
-    pub create: Option<u16>,
+    /// How the queue is made where the key has none; none makes no queue.
+    pub create: Option<NewQueue>,
     /// The type of each message.
     pub mtype: i64,
     /// The bytes of each, in the order in which they are sent.
@@ -61,17 +61,35 @@ pub struct Receiving {
     pub size: u32,
     /// Cut a message that is longer than `size` in place of refusing (`MSG_NOERROR`).
     pub noerror: bool,
-    /// As many messages are received at most.
+    /// As many messages are received at most, where no serial is given.
     pub most: u32,
+    /// The one message that is received, if it is the one that the type selects.
+    pub serial: Option<u64>,
     /// Whether a line with serial, sender, type and length is printed before each.
     pub heads: bool,
 }
 
-/// What is set of a queue; none keeps what it has.
+/// How a queue is made.
+#[derive(Clone, Copy, Debug, PartialEq, Eq)]
+pub struct NewQueue {
+    /// Its mode, of which the low nine bits count.
+    pub mode: u16,
+    /// What is set of it once it is made, if anything is.
+    pub settings: Option<Settings>,
+}
+
+/// A queue is set.
 #[derive(Clone, Copy, Debug, PartialEq, Eq)]
 pub struct Setting {
     /// The queue.
     pub queue: QueueName,
+    /// What is set of it.
+    pub settings: Settings,
+}
+
+/// What is set of a queue; none keeps what it has.
+#[derive(Clone, Copy, Debug, PartialEq, Eq)]
+pub struct Settings {
     /// As many bytes may its messages have together.
     pub qbytes: Option<u32>,
     /// The owner's user id.

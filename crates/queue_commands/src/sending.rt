@@ -7,8 +7,9 @@ ghost use Rattle.queue_commands.specs.Coming.{Comes};
 ghost use Rattle.queue_commands.specs.Sending.{SendsAllAs, SendsAs, SendsOneAs, send_call, told_text};
 
 use crate::answering::Answering;
-use crate::asking::{find, serial_in};
+use crate::asking::serial_in;
 use crate::error::AskError;
+use crate::finding::find;
 use crate::request::Sending;
 use crate::text::Text;
 use numbers::faults::NoMemory;
@@ -26,7 +27,7 @@ pub(crate) fn send<A: Answering>(
         Comes (A.stands answers.new o c) (A.lacks answers.new o c)
         (SendsAs c moment sending.now s) result }
 {
-    let id = find(answers, moment, sending.queue, sending.create)?;
+    let id = find(alloc, answers, moment, sending.queue, sending.create)?;
     send_all(alloc, answers, moment, sending, id)
 }
 

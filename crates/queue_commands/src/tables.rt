@@ -1,15 +1,17 @@
 //! The tables.
 
-ghost use Rattle.std.specs.Prelude.{◌≡◌, ◌++◌, OnOk, map};
+ghost use Rattle.std.specs.Prelude.{◌≡◌, ◌<◌, ◌^◌, ◌++◌, OnOk, map};
+ghost use Rattle.std.specs.List.{sum_by};
+ghost use Rattle.queue_model.specs.Selection.{total_bytes};
 ghost use Rattle.queue_commands.specs.Cells.{cell_text};
-ghost use Rattle.queue_commands.specs.Tables.{message_cells, message_heads, messages_text, queue_cells, queue_heads, queues_text};
+ghost use Rattle.queue_commands.specs.Tables.{bytes_of, message_cells, message_heads, messages_text, messages_total, queue_cells, queue_heads, queues_text, queues_total};
 
 use crate::cell::Cell;
 use crate::text::Text;
 use numbers::faults::NoMemory;
 use queue_model::{Message, Messages, QueueInfo, System};
 
-/// Puts a table of the queues of a system last, in order of id, with headings.
+/// Puts a table of the queues of a system last, in order of id, with headings and totals.
 ///
 /// # Errors
 ///
@@ -23,23 +25,24 @@ pub fn put_queues(text: &mut Text, system: &System) -> Result<(), NoMemory>
             text.put_row(&cells_of_queue(&info))?;
         }
     }
-    Ok(())
+    text.put_row(&totals_of_queues(system))
 }
 
 /// Puts a table of the messages of a queue last, in the order in which they were sent, with
-/// headings.
+/// headings and totals.
 ///
 /// # Errors
 ///
 /// `NoMemory` where there is none for the text.
 pub fn put_messages(text: &mut Text, messages: &Messages) -> Result<(), NoMemory>
+    requires { total_bytes messages.now < 2 ^ 64 }
     ensures { OnOk result (text.new ≡ text.old ++ messages_text messages.now) }
 {
     text.put_row(&headings_of_messages())?;
     for place in 0..messages.len() {
         text.put_row(&cells_of_message(messages.get(place)))?;
     }
-    Ok(())
+    text.put_row(&totals_of_messages(messages))
 }
 
 /// The headings of queues.
@@ -82,6 +85,30 @@ fn cells_of_queue<'a>(info: &QueueInfo) -> [Cell<'a>; 12]
     ]
 }
 
+/// How many queues a system has, and how many messages and bytes are on them.
+fn totals_of_queues<'a>(system: &System) -> [Cell<'a>; 4]
+    ensures { map cell_text result ≡ queues_total system.now }
+{
+    [
+        Cell::Text(b"total"),
+        Cell::Number(system.queues() as u64),
+        Cell::Number(system.messages() as u64),
+        Cell::Number(bytes_on(system)),
+    ]
+}
+
+/// How many bytes are on the queues of a system.
+fn bytes_on(system: &System) -> u64
+    ensures { result ≡ sum_by bytes_of system.now.queues }
+{
+    system.keeps_limits();
+    let mut bytes = 0;
+    for place in 0..system.queues() {
+        bytes += system.queue(place).messages.total_bytes() as u64;
+    }
+    bytes
+}
+
 /// The headings of messages.
 fn headings_of_messages<'a>() -> [Cell<'a>; 5]
     ensures { map cell_text result ≡ message_heads }
@@ -105,5 +132,19 @@ fn cells_of_message(message: &Message) -> [Cell<'_>; 5]
         Cell::Number(u64::from(message.sender)),
         Cell::Number(message.bytes.len() as u64),
         Cell::Body(message.bytes.as_slice()),
+    ]
+}
+
+/// How many bytes messages have, and how many there are.
+fn totals_of_messages<'a>(messages: &Messages) -> [Cell<'a>; 5]
+    requires { total_bytes messages.now < 2 ^ 64 }
+    ensures { map cell_text result ≡ messages_total messages.now }
+{
+    [
+        Cell::Text(b"total"),
+        Cell::Text(b""),
+        Cell::Text(b""),
+        Cell::Number(messages.total_bytes() as u64),
+        Cell::Messages(messages.len() as u64),
     ]
 }

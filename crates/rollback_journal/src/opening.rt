@@ -20,6 +20,9 @@ const SUFFIX: &str = ".journal";
 /// A journal is made with this mode, before it has its file's.
 const OWNER_ALONE: u32 = 0o600;
 
+/// So often a file is opened anew whose name another one has taken.
+const TRIES: u32 = 16;
+
 /// How many milliseconds an opening sleeps before it tries again.
 const NAP: u64 = 10;
 
@@ -122,8 +125,22 @@ where
 ///
 /// Its journal stands beside it; who may not read the file may not read it. Where there is none it is
 /// made, but not beside a file that does not begin with a sealed page: that is refused. It is locked
-/// until the device is let go: no other process opens the file so meanwhile.
+/// until the device is let go: no other process opens the file so meanwhile. Where another file has
+/// taken its name by then, that one is opened.
 pub fn open<R>(rt: &R, path: &str) -> Result<SafeDevice<SystemPair<File>>, OpenError>
+where
+    R: Files<File = File> + AllocGlobal,
+{
+    for _ in 0..TRIES {
+        if let Some(device) = open_named(rt, path)? {
+            return Ok(device);
+        }
+    }
+    Err(OpenError::InUse(Holder::Unknown))
+}
+
+/// Opens the file that has a name now. None where another one has it once the journal is locked.
+fn open_named<R>(rt: &R, path: &str) -> Result<Option<SafeDevice<SystemPair<File>>>, OpenError>
 where
     R: Files<File = File> + AllocGlobal,
 {
@@ -141,6 +158,10 @@ where
         Err(TryLockError::WouldBlock) => return Err(OpenError::InUse(holder_of(rt, &journal))),
         Err(TryLockError::Error(error)) => return Err(Refused::Journal(error).into()),
     }
+    // Whoever had the lock may have put another file in the place of this one.
+    if !has_name(rt, path, &file).map_err(Refused::File)? {
+        return Ok(None);
+    }
     let mut pair = SystemPair::new(file, journal).map_err(Refused::File)?;
     if let Err(fault) = recover(&mut pair) {
         return Err(OpenError::of_recovery(fault, pair.into_refused()));
@@ -148,7 +169,17 @@ where
     if !pair.is_whole().map_err(Refused::File)? {
         return Err(OpenError::NotWhole);
     }
-    Ok(SafeDevice::new(rt.alloc(), pair)?)
+    Ok(Some(SafeDevice::new(rt.alloc(), pair)?))
+}
+
+/// Whether a name is that of an open file.
+fn has_name<R>(rt: &R, path: &str, file: &File) -> io::Result<bool>
+where
+    R: Files<File = File>,
+{
+    let named = fs::metadata(rt, path)?;
+    let opened = file.metadata()?;
+    Ok(named.dev() == opened.dev() && named.ino() == opened.ino())
 }
 
 /// What a session that was cut off has left beside a file, which the next opening undoes.
