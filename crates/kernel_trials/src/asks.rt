@@ -1,4 +1,4 @@
-//! The calls of rows.
+//! The calls of these trials.
 
 use queue_model::{Body, Call, GetArguments, ReceiveArguments, SendArguments, SetArguments};
 use std::alloc::Global;
@@ -9,67 +9,15 @@ use std::test::Fail;
 pub enum Asks {
     /// The queue of this key, made where there is none; all may read and write it.
     Get(u32),
-    /// So, with this mode.
-    GetMode(u32, u16),
-    /// A new queue of this key.
-    GetNew(u32),
-    /// The queue of this key.
-    Find(u32),
-    /// So, with `excl`, which counts for nothing.
-    FindExcl(u32),
-    /// A private queue.
-    Private,
     /// A message of this type to a queue.
     Send(u32, i64, &'static str),
-    /// So, refused in place of waiting.
-    SendNow(u32, i64, &'static str),
     /// A message of this type and so many bytes to queue 1.
     SendLong(i64, usize),
     /// A message from a queue, as a type selects it.
     Receive(u32, i64),
-    /// So, refused in place of waiting.
-    ReceiveNow(u32, i64),
-    /// So, of so many bytes at most.
-    ReceiveShort(u32, i64, u32),
-    /// So, cut to so many bytes.
-    ReceiveCut(u32, i64, u32),
-    /// What is told of a queue.
-    Stat(u32),
     /// A queue may have so many bytes.
     Set(u32, u32),
-    /// So, and gets this mode.
-    SetMode(u32, u32, u16),
-    /// So, and gets this owner.
-    SetOwner(u32, u32, u32),
-    /// The end of a queue.
-    Remove(u32),
 }
-
-const GET: GetArguments = GetArguments {
-    key: None,
-    create: true,
-    excl: false,
-    mode: 0o666,
-    moment: 1,
-};
-
-const RECEIVE: ReceiveArguments = ReceiveArguments {
-    id: 0,
-    size: 1024,
-    mtype: 0,
-    nowait: false,
-    noerror: false,
-    moment: 3,
-};
-
-const SET: SetArguments = SetArguments {
-    id: 0,
-    qbytes: 0,
-    uid: None,
-    gid: None,
-    mode: None,
-    moment: 4,
-};
 
 impl Asks {
     /// The call.
@@ -77,93 +25,42 @@ impl Asks {
         Ok(match self {
             Asks::Get(key) => Call::Get(GetArguments {
                 key: Some(key),
-                ..GET
+                create: true,
+                excl: false,
+                mode: 0o666,
+                moment: 1,
             }),
-            Asks::GetMode(key, mode) => Call::Get(GetArguments {
-                key: Some(key),
-                mode,
-                ..GET
-            }),
-            Asks::GetNew(key) => Call::Get(GetArguments {
-                key: Some(key),
-                excl: true,
-                ..GET
-            }),
-            Asks::Find(key) => Call::Get(GetArguments {
-                key: Some(key),
-                create: false,
-                ..GET
-            }),
-            Asks::FindExcl(key) => Call::Get(GetArguments {
-                key: Some(key),
-                create: false,
-                excl: true,
-                ..GET
-            }),
-            Asks::Private => Call::Get(GET),
-            Asks::Send(id, mtype, text) => send(
-                id,
-                mtype,
-                Vec::from_slice(alloc, text.as_bytes())?,
-                false,
-            ),
-            Asks::SendNow(id, mtype, text) => send(
-                id,
-                mtype,
-                Vec::from_slice(alloc, text.as_bytes())?,
-                true,
-            ),
-            Asks::SendLong(mtype, bytes) => send(1, mtype, letters(alloc, bytes)?, false),
+            Asks::Send(id, mtype, text) => {
+                send(id, mtype, Vec::from_slice(alloc, text.as_bytes())?)
+            }
+            Asks::SendLong(mtype, bytes) => send(1, mtype, letters(alloc, bytes)?),
             Asks::Receive(id, mtype) => Call::Receive(ReceiveArguments {
                 id,
+                size: 1024,
                 mtype,
-                ..RECEIVE
+                nowait: false,
+                noerror: false,
+                moment: 3,
             }),
-            Asks::ReceiveNow(id, mtype) => Call::Receive(ReceiveArguments {
-                id,
-                mtype,
-                nowait: true,
-                ..RECEIVE
-            }),
-            Asks::ReceiveShort(id, mtype, size) => Call::Receive(ReceiveArguments {
-                id,
-                mtype,
-                size,
-                ..RECEIVE
-            }),
-            Asks::ReceiveCut(id, mtype, size) => Call::Receive(ReceiveArguments {
-                id,
-                mtype,
-                size,
-                noerror: true,
-                ..RECEIVE
-            }),
-            Asks::Stat(id) => Call::Stat { id },
-            Asks::Set(id, qbytes) => Call::Set(SetArguments { id, qbytes, ..SET }),
-            Asks::SetMode(id, qbytes, mode) => Call::Set(SetArguments {
+            Asks::Set(id, qbytes) => Call::Set(SetArguments {
                 id,
                 qbytes,
-                mode: Some(mode),
-                ..SET
+                uid: None,
+                gid: None,
+                mode: None,
+                moment: 4,
             }),
-            Asks::SetOwner(id, qbytes, uid) => Call::Set(SetArguments {
-                id,
-                qbytes,
-                uid: Some(uid),
-                ..SET
-            }),
-            Asks::Remove(id) => Call::Remove { id },
         })
     }
 }
 
 /// A Send.
-fn send(id: u32, mtype: i64, bytes: Vec<u8>, nowait: bool) -> Call {
+fn send(id: u32, mtype: i64, bytes: Vec<u8>) -> Call {
     Call::Send(SendArguments {
         id,
         mtype,
         body: Body::new(bytes),
-        nowait,
+        nowait: false,
         moment: 2,
     })
 }

@@ -2,13 +2,11 @@
 
 use crate::asks::Asks;
 use crate::asks::Asks::{Get, Receive, Send, SendLong};
-use crate::cases::page_of;
-use crate::rows::{begin, step};
+use crate::seats::{begin, new_file, page_of, step};
 use bucket_page::NumberKey;
 use interleaving_core::{Closed, Kernel, NotClosed, Step};
 use page_device::{FaultyDevice, MemDevice, PageDevice};
 use queue_model::{Call, Caller, Entry};
-use record_file::format;
 use std::alloc::Global;
 use std::process::Abort;
 use std::test::Fail;
@@ -142,17 +140,10 @@ fn runs(rt: &(impl Abort + AllocGlobal), device: FaultyDevice<MemDevice>) -> Res
     })
 }
 
-/// A device with a new file.
-fn new_file(alloc: Global) -> Result<MemDevice, Fail> {
-    let mut device = MemDevice::new(alloc);
-    format(&mut device, PAGES)?;
-    Ok(device)
-}
-
 #[test]
 fn each_transfer_fails_in_turn(rt: HostRuntime) -> Result<(), Fail> {
     let alloc = rt.alloc();
-    let mut file = new_file(alloc)?;
+    let mut file = new_file(alloc, PAGES)?;
     let whole = runs(&rt, faulty(alloc, &mut file, 0)?)?;
     assert!(rt; !whole.failed && whole.told == Told::Never);
     assert_eq!(rt; whole.journal.len(), CALLS.len());

@@ -1,23 +1,27 @@
 //! What finds no memory leaves all as it was, and is answered when it is asked once more. In the
 //! gate's run there is memory; with `rt try --test --fail-alloc N` there is none for the Nth growth.
 
-use crate::asks::Asks::Receive;
-use crate::cases::close;
-use crate::rows::{CALLERS, Want, is_wanted, show};
-use crate::scripts::FOUR_SENT;
+use crate::asks::Asks;
+use crate::asks::Asks::{Get, Receive, Send};
+use crate::seats::{CALLERS, FRAMES, close, make, new_file};
 use bucket_page::NumberKey;
 use file_check::{Checked, check};
-use interleaving_core::{BeginFault, Kernel};
+use interleaving_core::{BeginFault, Kernel, Step};
 use interleavings::{Event, Outcome, are_of_seats, run};
 use page_device::MemDevice;
 use queue_model::{Answer, Applied, Call, Caller, Entry, System};
-use record_file::format;
 use std::alloc::Global;
 use std::process::Abort;
 use std::test::Fail;
 
-/// The frames of a kernel of five seats.
-const FRAMES: usize = 28;
+/// Messages 1 to 4, of types 5, 2, 3 and 2.
+const FOUR_SENT: [Asks; 5] = [
+    Get(7),
+    Send(1, 5, "a"),
+    Send(1, 2, "b"),
+    Send(1, 3, "c"),
+    Send(1, 2, "d"),
+];
 
 /// A kernel over the file of a device.
 fn opened(rt: &(impl Abort + AllocGlobal), device: MemDevice) -> Kernel<MemDevice, NumberKey> {
@@ -113,14 +117,17 @@ fn counted(rt: &(impl Abort + AllocGlobal), device: MemDevice) -> (usize, usize)
 
 #[test]
 fn what_found_no_memory_is_answered_when_it_is_asked_again(rt: HostRuntime) -> Result<(), Fail> {
-    let mut device = MemDevice::new(rt.alloc());
-    format(&mut device, 258)?;
-    let mut kernel = opened(&rt, device);
-    show(&rt, &mut kernel, &FOUR_SENT)?;
+    let mut kernel = opened(&rt, new_file(rt.alloc(), 258)?);
+    make(&rt, &mut kernel, &FOUR_SENT)?;
     let outcomes = played(&rt, &mut kernel)?;
     match outcomes.as_slice() {
         [Outcome::Begun, Outcome::Driven(told)] => {
-            assert!(rt; is_wanted(told, Want::Message(2, 1, 2, "b")));
+            let is_second = matches!(
+                told,
+                Step::Answered(Answer::Received(message))
+                    if (message.serial, message.mtype) == (2, 2)
+            );
+            assert!(rt; is_second, "{told:?}");
         }
         _ => panic!(rt; "{outcomes:?}"),
     }

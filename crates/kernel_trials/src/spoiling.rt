@@ -1,26 +1,28 @@
 //! A device that is not honest: after some reads it gives back pages with a wrong digest.
 
 use crate::asks::Asks;
-use crate::asks::Asks::{Get, Receive, SendLong, Set};
-use crate::cases::Left::{Bytes, Header};
-use crate::cases::{Case, run};
-use crate::rows::{CALLERS, begin, step};
-use crate::splitting::{FULL_BUCKET, SPLIT};
+use crate::asks::Asks::{Get, Receive, Send, SendLong, Set};
+use crate::seats::{CALLERS, FRAMES, begin, close, make, new_file, step};
 use bucket_page::{NumberKey, ShaKey};
 use interleaving_core::{BeginFault, Kernel, NotClosed, Step};
 use page_device::{DeviceFault, MemDevice, Page, PageDevice};
-use record_file::format;
 use std::cell::Cell;
 use std::process::Abort;
 use std::test::Fail;
 use step_rules::Kind;
 
 /// Two queues in two buckets: page 257 has the records with even numbers, page 258 those with odd ones.
-const TWO_BUCKETS: Case = Case {
-    pages: 288,
-    rows: &[&FULL_BUCKET, &SPLIT],
-    left: &[Bytes(257, 2500), Bytes(258, 2235), Header(1, 259)],
-};
+const TWO_BUCKETS: [Asks; 9] = [
+    Get(7),
+    Get(9),
+    Send(2, 2, "a"),
+    Send(2, 2, "b"),
+    Receive(2, 0),
+    SendLong(1, 1024),
+    SendLong(1, 1024),
+    SendLong(1, 1024),
+    SendLong(1, 1024),
+];
 
 /// A device in memory. When so many reads are made, each one changes a byte of what it reads.
 #[derive(Drop)]
@@ -92,18 +94,29 @@ fn fails(kernel: &mut Kernel<SpoilingDevice<'_>, NumberKey>, seat: u8) -> bool {
     false
 }
 
+/// The file of these calls.
+fn two_buckets(rt: &(impl Abort + AllocGlobal)) -> Result<MemDevice, Fail> {
+    let device = new_file(rt.alloc(), 288)?;
+    let mut kernel = match Kernel::open(rt.alloc(), device, NumberKey, &CALLERS, FRAMES) {
+        Ok(kernel) => kernel,
+        Err((_, fault)) => return Err(fault.into()),
+    };
+    make(rt, &mut kernel, &TWO_BUCKETS)?;
+    Ok(close(rt, kernel).device)
+}
+
 #[test]
 fn a_page_that_is_spoilt_behind_opening_fails_the_kernel(rt: HostRuntime) -> Result<(), Fail> {
     let alloc = rt.alloc();
     let right = Cell::new(READS_OF_OPENING);
     let device = SpoilingDevice {
-        inner: run(&rt, NumberKey, TWO_BUCKETS)?,
+        inner: two_buckets(&rt)?,
         right: &right,
     };
     let call = Get(7).to_call(alloc)?;
     let other = Get(9).to_call(alloc)?;
     let late = Get(7).to_call(alloc)?;
-    let mut kernel = match Kernel::open(alloc, device, NumberKey, &CALLERS, 28) {
+    let mut kernel = match Kernel::open(alloc, device, NumberKey, &CALLERS, FRAMES) {
         Ok(kernel) => kernel,
         Err((_, fault)) => return Err(fault.into()),
     };
@@ -114,7 +127,7 @@ fn a_page_that_is_spoilt_behind_opening_fails_the_kernel(rt: HostRuntime) -> Res
     for seat in [2, 1] {
         assert!(rt; is_failed(&step(&mut kernel, seat)), "seat {seat}");
     }
-    let begun = begin(&mut kernel, 3, late);
+    let begun = begin(&mut kernel, 2, late);
     assert!(rt; matches!(begun, Err((_, BeginFault::Failed))));
     let Err(left) = kernel.close() else {
         return Ok(assert!(rt; false));
@@ -127,9 +140,6 @@ fn a_page_that_is_spoilt_behind_opening_fails_the_kernel(rt: HostRuntime) -> Res
         NotClosed::Busy(_) => Ok(assert!(rt; false)),
     }
 }
-
-/// The frames of a kernel of two seats: four for each, and eight.
-const FRAMES: usize = 16;
 
 /// How many messages fill more buckets than there are frames.
 const MESSAGES: u32 = 48;
@@ -168,13 +178,11 @@ fn is_answered<R: Abort + AllocGlobal>(
 fn a_write_whose_page_is_spoilt_is_not_made(rt: HostRuntime) -> Result<(), Fail> {
     let alloc = rt.alloc();
     let right = Cell::new(u32::MAX);
-    let mut inner = MemDevice::new(alloc);
-    format(&mut inner, 352)?;
     let device = SpoilingDevice {
-        inner,
+        inner: new_file(alloc, 352)?,
         right: &right,
     };
-    let mut kernel = match Kernel::open(alloc, device, ShaKey, &CALLERS[..2], FRAMES) {
+    let mut kernel = match Kernel::open(alloc, device, ShaKey, &CALLERS, FRAMES) {
         Ok(kernel) => kernel,
         Err((_, fault)) => return Err(fault.into()),
     };

@@ -97,3 +97,17 @@ pub fn delete<D: PageDevice + Drop, K: PseudoKey + Drop>(
     let count = count(trial, seat, counted)?;
     Some((trial.found(seat)?, count))
 }
+
+/// Whether the next steps of a seat are of these kinds.
+pub fn makes<D: PageDevice + Drop, K: PseudoKey + Drop>(
+    trial: &mut Trial<D, K>,
+    seat: u8,
+    kinds: &[Kind],
+) -> bool {
+    for kind in kinds {
+        if trial.step(seat) != Some(Progress::Moved(*kind)) {
+            return false;
+        }
+    }
+    true
+}

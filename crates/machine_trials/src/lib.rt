@@ -18,20 +18,12 @@ mod bytes;
 #[cfg(test)]
 mod files;
 #[cfg(test)]
-mod kinds;
-#[cfg(test)]
 mod merges;
 #[cfg(test)]
 mod new_files;
 #[cfg(test)]
-mod rows;
-#[cfg(test)]
-mod searches;
-#[cfg(test)]
 mod skips;
 #[cfg(test)]
 mod soundness;
-#[cfg(test)]
-mod splits;
 #[cfg(test)]
 mod three_seats;

@@ -1,8 +1,6 @@
-//! A merge over the 32 pages of a directory of depth 14, and each of its transfers failed.
+//! A merge over the 32 pages of a directory of depth 14, of which each transfer fails.
 
-use crate::files::{delete, empty_file, key};
-use crate::rows::Row::{Covers, Deletes, Has, Inserts, Leaf};
-use crate::rows::{Row, show};
+use crate::files::{delete, empty_file, insert, key};
 use crate::soundness::{covers_once, is_in_place, pictured};
 use crate::trial::Trial;
 use bucket_page::NumberKey;
@@ -16,28 +14,25 @@ use step_rules::{Kind, Progress};
 /// More transfers than the delete makes.
 const MOST_TRANSFERS: u64 = 500;
 
-/// Records 5 and 7 are left of eight: 5 on page 258, 7 on page 272, behind a directory of depth 14.
-const TWO_HALVES: [Row; 14] = [
-    Inserts(0, IsPut, 0),
-    Inserts(8192, IsPut, 0),
-    Inserts(16384, IsPut, 0),
-    Inserts(24576, IsPut, 14),
-    Covers(14, 15),
-    Leaf(258, 1, 1),
-    Inserts(1, IsPut, 0),
-    Inserts(3, IsPut, 0),
-    Inserts(5, IsPut, 0),
-    Inserts(7, IsPut, 1),
-    Has(258, &[1, 5]),
-    Has(272, &[3, 7]),
-    Deletes(1, (258, Some(1060)), Kind::Tombstone, 0),
-    Deletes(3, (272, Some(1060)), Kind::Tombstone, 0),
-];
+/// Records that are put, in this order: the first four into one bucket, which is split 14 times,
+/// the others into its upper half, which is split once.
+const PUT: [u32; 8] = [0, 8192, 16384, 24576, 1, 3, 5, 7];
+
+/// Records that are deleted again. Page 258 keeps record 5 and page 272 record 7, behind a
+/// directory of depth 14, and nothing is merged.
+const DELETED: [u32; 2] = [1, 3];
 
 /// A trial of the file with these.
 pub fn two_halves(rt: &(impl Abort + AllocGlobal)) -> Result<Trial<MemDevice, NumberKey>, Fail> {
     let mut trial = empty_file(rt, rt.alloc(), NumberKey)?;
-    show(rt, &mut trial, &TWO_HALVES);
+    for number in PUT {
+        let is_put = insert(&mut trial, number).is_some_and(|(tried, _)| tried == IsPut);
+        assert!(rt; is_put, "record {number}");
+    }
+    for number in DELETED {
+        let merges = delete(&mut trial, number, Kind::Tombstone).map(|(_, merges)| merges);
+        assert_eq!(rt; merges, Some(0));
+    }
     Ok(trial)
 }
 
@@ -54,17 +49,6 @@ fn is_merged<D: PageDevice + Drop>(alloc: Global, trial: &mut Trial<D, NumberKey
         }
         None => false,
     }
-}
-
-#[test]
-fn a_merge_goes_through_the_directory(rt: HostRuntime) -> Result<(), Fail> {
-    let mut trial = two_halves(&rt)?;
-    assert_eq!(rt;
-        delete(&mut trial, 7, Kind::Retarget),
-        Some(((272, Some(1060)), 32))
-    );
-    assert!(rt; is_merged(rt.alloc(), &mut trial));
-    Ok(())
 }
 
 /// The same pages on another device.

@@ -1,9 +1,8 @@
 //! Finds that go straight to a page, and what is read ahead there; writes that go to their page in one
 //! go, or make no step.
 
-use crate::files::{COUNTER, LONG, MOST_STEPS, count, key, new_file};
+use crate::files::{COUNTER, LONG, MOST_STEPS, count, key, makes, new_file};
 use crate::merges::two_halves;
-use crate::rows::makes;
 use crate::trial::Trial;
 use bucket_page::{NumberKey, RecordKey};
 use file_pages::FileFault;

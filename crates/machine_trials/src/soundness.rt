@@ -46,21 +46,6 @@ impl Picture {
         rest.is_empty()
     }
 
-    /// Whether these are the pages of the chain and the numbers of their records.
-    pub fn is(&self, chain: &[(u64, &[u64])]) -> bool {
-        let mut rest = self.leaves.as_slice();
-        for (page, numbers) in chain {
-            match rest.split_first() {
-                Some((leaf, after)) if leaf.page == *page => rest = after,
-                _ => return false,
-            }
-            if !self.has(*page, numbers) {
-                return false;
-            }
-        }
-        rest.is_empty()
-    }
-
     /// The bucket on a page of the chain.
     pub fn leaf(&self, page: u64) -> Option<Leaf> {
         self.leaves.iter().find(|leaf| leaf.page == page).copied()

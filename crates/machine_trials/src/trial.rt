@@ -12,7 +12,7 @@ use bucket_page::{PseudoKey, RecordKey};
 use buffer_pool::{Pool, PoolFault};
 use file_pages::FileFault;
 use page_device::{PageDevice, Payload};
-use page_locks::{LockTable, MAX_SEATS};
+use page_locks::{Lock, LockTable, MAX_SEATS};
 use queue_records::Record;
 use record_file::{BucketAccess, Deed, RecordOperation, Tried, record_ahead};
 use std::alloc::Global;
@@ -200,6 +200,14 @@ impl<D: PageDevice + Drop, K: PseudoKey + Drop> Trial<D, K> {
         }
         let task = self.seats[seat as usize - 1].as_mut()?;
         Some(task.reach(&mut self.pool, &mut self.locks, seat))
+    }
+
+    /// The lock that a seat was granted last, of those that it holds.
+    pub fn last(&self, seat: u8) -> Option<Lock> {
+        if seat == 0 || seat > self.locks.seats() {
+            return None;
+        }
+        self.locks.last(seat)
     }
 
     /// What the access of a seat has found at its key, once a page answered.

@@ -1,5 +1,5 @@
 //! Trials from outside of what stands below the machines: the model, devices and their journals, pages
-//! typed from the format, locks, pools, and what calls ask of the records. They stand here, so that
+//! typed from the format, pools, and what calls ask of the records. They stand here, so that
 //! those crates are not proved once more for them.
 
 #![tactic(auto)]
@@ -21,8 +21,6 @@ mod inquiry_records;
 #[cfg(test)]
 mod kept_pseudokeys;
 #[cfg(test)]
-mod locks;
-#[cfg(test)]
 mod longest_file;
 #[cfg(test)]
 mod no_system;
@@ -37,8 +35,4 @@ mod ranges;
 #[cfg(test)]
 mod readings;
 #[cfg(test)]
-mod records;
-#[cfg(test)]
 mod sessions;
-#[cfg(test)]
-mod stored;

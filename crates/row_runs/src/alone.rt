@@ -1,0 +1,106 @@
+//! One call at a time, each as the machine that it is, with no kernel beside it: how many searches it
+//! begins before its Decide.
+
+use crate::keys::Keys;
+use crate::line::Line;
+use buffer_pool::Pool;
+use page_device::{MemDevice, PageDevice};
+use page_locks::{Lock, LockKind, LockName, LockTable};
+use queue_model::{Call, Caller, NoMemory};
+use std::alloc::Global;
+use std::marker::Model;
+use step_rules::{Kind, Progress};
+use xsi_calls::CallMachine;
+use xsi_inquiry::Room;
+
+/// More steps than any call of a row makes.
+const MOST_STEPS: u32 = 100_000;
+
+/// What a search asks for first, and nothing else does.
+const DIRECTORY: Lock = Lock {
+    name: LockName::Directory,
+    kind: LockKind::Read,
+};
+
+/// A call over the pages of a file, of which the one seat holds what the call says.
+#[derive(Drop)]
+pub struct Alone {
+    pool: Pool<MemDevice>,
+    locks: LockTable,
+    machine: CallMachine,
+}
+
+impl Model for Alone {
+    ghost use Rattle.xsi_calls.specs.Machine.{CallView};
+    ghost use Rattle.row_runs.specs.Alone.{IsAlone};
+
+    ghost Value = { CallView };
+
+    ghost view = { λ a. a.machine };
+
+    ghost invariant = { λ a. IsAlone a.pool a.locks a.machine };
+}
+
+impl Alone {
+    /// The file of a device, and a call that is refused before it asks for anything.
+    pub fn new(alloc: Global, device: MemDevice, caller: Caller) -> Result<Alone, NoMemory> {
+        let call = Call::Stat { id: 0 };
+        let room = Room::new(alloc, &call)?;
+        let locks = LockTable::new(alloc, 1)?;
+        let frames = device.pages() as usize;
+        match Pool::open(alloc, device, frames.max(4)) {
+            Ok(pool) => Ok(Alone {
+                pool,
+                locks,
+                machine: CallMachine::new(caller, call, room),
+            }),
+            Err(_) => Err(NoMemory),
+        }
+    }
+
+    /// Makes a call to its end in the place of the one before, and tells how many searches it has
+    /// begun before its Decide: after each of its steps it tells as many as were seen so far.
+    pub fn makes(
+        &mut self,
+        alloc: Global,
+        keys: Keys,
+        caller: Caller,
+        call: Call,
+        line: &mut Line,
+    ) -> Result<(), NoMemory> {
+        let room = Room::new(alloc, &call)?;
+        let locks = LockTable::new(alloc, 1)?;
+        self.locks = locks;
+        self.machine.renew(caller, call, room);
+        let mut seen: u32 = 0;
+        for _ in 0..MOST_STEPS {
+            let is_undecided = !self.machine.has_concluded();
+            let Some(kind) = self.step(keys) else {
+                break;
+            };
+            if is_undecided && kind == Kind::Grant && self.locks.last(1) == Some(DIRECTORY) {
+                seen = seen.saturating_add(1);
+            }
+            if self.machine.finds() != seen {
+                line.word("miscounted");
+            }
+        }
+        if !self.machine.has_concluded() || self.locks.last(1).is_some() {
+            line.word("unended");
+        }
+        line.number(u64::from(seen));
+        line.word("searches");
+        Ok(())
+    }
+
+    /// The kind of its next step; none where it makes none.
+    fn step(&mut self, keys: Keys) -> Option<Kind> {
+        match self
+            .machine
+            .step(&mut self.pool, &mut self.locks, &keys, false, 1)
+        {
+            Progress::Moved(kind) => Some(kind),
+            _ => None,
+        }
+    }
+}

@@ -1,0 +1,101 @@
+//! What stands in the file is looked at.
+
+use crate::bench::{Bench, Stage};
+use crate::bytes::{
+    bytes_at, free_behind, next_of, page_at, tell_header, tell_numbers, tell_page, value_of,
+};
+use crate::deed::Look;
+use crate::file::payload_of;
+use crate::line::Line;
+use crate::words::Wrong;
+use bucket_page::RecordKey;
+use page_device::Payload;
+
+/// The page of the first bucket.
+const ROOT: u32 = 257;
+
+/// Entries of a directory page, and where they begin.
+const ENTRIES: u32 = 1_012;
+
+/// More pages than a file of a row has.
+const MOST_PAGES: u32 = 2_000;
+
+/// What is wanted where no page can be looked at.
+const NO_PAGE: Wrong = Wrong::Wanted("a page of a file, or records,");
+
+impl Bench {
+    /// Looks, and tells what stands there.
+    pub(crate) fn look(&mut self, look: Look, line: &mut Line) -> Result<(), Wrong> {
+        match look {
+            Look::Header => tell_header(&self.payload(0)?, line),
+            Look::Entry(index) => {
+                let payload = self.payload(1 + index / ENTRIES)?;
+                let at = 16 + 4 * (index % ENTRIES) as usize;
+                line.number(u64::from(page_at(&payload, at)));
+            }
+            Look::Chain => self.walk(ROOT, next_of, line)?,
+            Look::Free => {
+                let first = page_at(&self.payload(0)?, 16);
+                self.walk(first, free_behind, line)?;
+            }
+            Look::Page(page) => tell_page(&self.payload(page)?, line),
+            Look::Numbers(page) => tell_numbers(&self.payload(page)?, line),
+            Look::Bytes(page, place, many) => {
+                let payload = self.payload(page)?;
+                line.hex(bytes_at(&payload, place as usize, many as usize));
+            }
+            Look::Record(key) => self.record(key, line)?,
+        }
+        Ok(())
+    }
+
+    /// The payload of a page.
+    fn payload(&mut self, page: u32) -> Result<Payload, Wrong> {
+        match &mut self.stage {
+            Stage::File(device) => payload_of(device, page).map_err(|_| NO_PAGE),
+            Stage::Machines(machines) => machines.trial.payload(page).map_err(|_| NO_PAGE),
+            _ => Err(NO_PAGE),
+        }
+    }
+
+    /// Tells the pages that are met from a page on, until there is no next.
+    fn walk(
+        &mut self,
+        first: u32,
+        next: fn(&Payload) -> u32,
+        line: &mut Line,
+    ) -> Result<(), Wrong> {
+        if first == 0 {
+            line.word("none");
+        }
+        let mut page = first;
+        for _ in 0..MOST_PAGES {
+            if page == 0 {
+                return Ok(());
+            }
+            line.number(u64::from(page));
+            page = next(&self.payload(page)?);
+        }
+        line.word("and on");
+        Ok(())
+    }
+
+    /// Tells the page of the chain that has the record of a key, and its value.
+    fn record(&mut self, key: RecordKey, line: &mut Line) -> Result<(), Wrong> {
+        let mut page = ROOT;
+        for _ in 0..MOST_PAGES {
+            if page == 0 {
+                break;
+            }
+            let payload = self.payload(page)?;
+            if let Some(value) = value_of(&payload, key) {
+                line.number(u64::from(page));
+                line.hex(value);
+                return Ok(());
+            }
+            page = next_of(&payload);
+        }
+        line.word("none");
+        Ok(())
+    }
+}

@@ -1,0 +1,152 @@
+//! Seats at work on the records of a file, with no call above them.
+
+use crate::deed::{Operation, RecordDeed, SeatDeed};
+use crate::keys::Keys;
+use crate::kinds::Made;
+use crate::line::Line;
+use crate::told::{tell_blocked, tell_fault, tell_move};
+use crate::words::Wrong;
+use file_pages::FileFault;
+use machine_trials::{Trial, Value};
+use page_device::MemDevice;
+use page_locks::MAX_SEATS;
+use record_file::Tried;
+use step_rules::{Kind, Progress};
+
+/// More steps than any work of a row makes.
+const MOST_STEPS: u32 = 100_000;
+
+/// What a deed of a seat that has no work is told.
+const NO_SEAT: Wrong = Wrong::Wanted("a seat that has work");
+
+/// Seats at work, and how many steps of each kind they have made.
+#[derive(Drop)]
+pub struct Machines {
+    pub trial: Trial<MemDevice, Keys>,
+    made: [Made; MAX_SEATS as usize],
+}
+
+impl Machines {
+    /// Seats none of which has work.
+    pub fn new(trial: Trial<MemDevice, Keys>) -> Machines {
+        Machines {
+            trial,
+            made: [Made::NONE; MAX_SEATS as usize],
+        }
+    }
+
+    /// The next idle seat begins an operation, and the seat is told; and what it comes to, where it
+    /// is stepped to its end.
+    pub fn operate(&mut self, deed: RecordDeed, line: &mut Line) -> Result<(), Wrong> {
+        let key = deed.key;
+        let begun = match deed.operation {
+            Operation::Search => self.trial.search(key),
+            Operation::Find => self.trial.find(key),
+            Operation::Insert(bytes) => self.trial.insert(
+                key,
+                Value {
+                    mark: 7,
+                    bytes: bytes as usize,
+                },
+            ),
+            Operation::Delete => self.trial.delete(key),
+        };
+        let Some(seat) = begun else {
+            line.word("none");
+            return Ok(());
+        };
+        line.word("seat");
+        line.number(u64::from(seat));
+        if deed.ends {
+            let did = self.run(seat, None)?;
+            self.tell(seat, did, line);
+        }
+        Ok(())
+    }
+
+    /// Does a deed of a seat, and tells what it came to.
+    pub fn does(&mut self, deed: SeatDeed, line: &mut Line) -> Result<(), Wrong> {
+        match deed {
+            SeatDeed::Step(seat) => {
+                let did = self.step(seat)?;
+                self.tell(seat, did, line);
+            }
+            SeatDeed::Run(seat) => {
+                let did = self.run(seat, None)?;
+                self.tell(seat, did, line);
+            }
+            SeatDeed::Reach(seat, kind) => {
+                let did = self.run(seat, Some(kind))?;
+                self.tell(seat, did, line);
+            }
+            SeatDeed::Made(seat, kind) => {
+                match self.made.get(usize::from(seat).saturating_sub(1)) {
+                    Some(made) => line.number(u64::from(made.of(kind))),
+                    None => return Err(NO_SEAT),
+                }
+            }
+            SeatDeed::Searched(seat) => {
+                let hops = self.trial.hops(seat).ok_or(NO_SEAT)?;
+                line.word("hops");
+                line.number(u64::from(hops));
+            }
+            _ => return Err(Wrong::Elsewhere("a kernel")),
+        }
+        Ok(())
+    }
+
+    /// One step of a seat, which is counted where it moves.
+    fn step(&mut self, seat: u8) -> Result<Progress<FileFault>, Wrong> {
+        let did = self.trial.step(seat).ok_or(NO_SEAT)?;
+        if let Progress::Moved(kind) = did {
+            if let Some(made) = self.made.get_mut(usize::from(seat).saturating_sub(1)) {
+                made.note(kind);
+            }
+        }
+        Ok(did)
+    }
+
+    /// Steps of a seat up to the first of a kind, or that does not move.
+    fn run(&mut self, seat: u8, until: Option<Kind>) -> Result<Progress<FileFault>, Wrong> {
+        for _ in 0..MOST_STEPS {
+            let did = self.step(seat)?;
+            match did {
+                Progress::Moved(kind) if until != Some(kind) => {}
+                _ => return Ok(did),
+            }
+        }
+        Err(Wrong::Wanted("work that ends"))
+    }
+
+    /// Tells what a step of a seat came to, and where that has ended what its work did.
+    fn tell(&self, seat: u8, did: Progress<FileFault>, line: &mut Line) {
+        match did {
+            Progress::Moved(kind) => tell_move(line, kind, self.trial.last(seat)),
+            Progress::Blocked(other) => tell_blocked(line, other),
+            Progress::Fault(fault) => tell_fault(line, fault.number()),
+            Progress::Ended => self.tell_end(seat, line),
+        }
+    }
+
+    /// Tells what the work of a seat that has ended came to: an insert whether it put the record,
+    /// any other the page that answered and how long the value is there.
+    fn tell_end(&self, seat: u8, line: &mut Line) {
+        match self.trial.tried(seat) {
+            Some(Tried::IsPut) => return line.word("put"),
+            Some(Tried::IsThere) => return line.word("there"),
+            Some(Tried::IsFull) => return line.word("full"),
+            None => {}
+        }
+        match self.trial.found(seat) {
+            Some((page, bytes)) => {
+                line.word("page");
+                line.number(u64::from(page));
+                match bytes {
+                    Some(bytes) => line.number(bytes as u64),
+                    None => line.word("none"),
+                }
+            }
+            None => line.word("ended"),
+        }
+    }
+}

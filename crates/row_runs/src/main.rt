@@ -1,0 +1,99 @@
+//! Rows of trials as text: reads deeds of standard input, one a line, does them over files in memory
+//! and prints what each came to. tests/rows/README.md has the language.
+
+#![tactic(auto)]
+
+mod alone;
+mod bench;
+mod bytes;
+mod calls;
+mod deed;
+mod events;
+mod file;
+mod keys;
+mod kinds;
+mod line;
+mod lists;
+mod machines;
+mod seats;
+mod tables;
+mod told;
+mod words;
+
+use bench::Bench;
+use line::Line;
+use std::alloc::Global;
+use std::io;
+use std::io::{BufWriter, Eprint, Read, Write};
+use std::process::ExitCode;
+use words::{Words, Wrong};
+
+fn main(rt: HostRuntime) -> ExitCode {
+    let alloc = rt.alloc();
+    let mut text = Vec::new(alloc);
+    if rt.reader().read_to_end(&mut text).is_err() {
+        return fail(&rt, 0, Wrong::Unread);
+    }
+    let Ok(mut output) = BufWriter::new(alloc, io::writer(&rt)) else {
+        return fail(&rt, 0, Wrong::NoMemory);
+    };
+    let ended = rows(alloc, text.as_slice(), &mut output);
+    if output.flush().is_err() {
+        return ExitCode::FAILURE;
+    }
+    match ended {
+        Ok(()) => ExitCode::SUCCESS,
+        Err((number, wrong)) => fail(&rt, number, wrong),
+    }
+}
+
+/// Does the deeds of all lines, and prints of each its number and what it came to. Where a line is
+/// none of the language, or can't be done, its number is given and why.
+fn rows<W: Write>(alloc: Global, text: &[u8], output: &mut W) -> Result<(), (u64, Wrong)> {
+    let mut bench = Bench::new(alloc);
+    let mut told = Line::new(alloc);
+    let mut number: u64 = 0;
+    for line in text.split(|byte| *byte == b'\n') {
+        number = number.wrapping_add(1);
+        told.clear();
+        match does(alloc, &mut bench, line, &mut told) {
+            Ok(true) => {}
+            Ok(false) => continue,
+            Err(wrong) => return Err((number, wrong)),
+        }
+        let Some(words) = told.text() else {
+            return Err((number, Wrong::NoMemory));
+        };
+        let Ok(()) = print(number, words, output) else {
+            return Err((number, Wrong::Unwritten));
+        };
+    }
+    Ok(())
+}
+
+/// Prints a line of words behind its number.
+fn print<W: Write>(number: u64, words: &[u8], output: &mut W) -> io::Result<()> {
+    write!(output, "{number} ")?;
+    output.write_all(words)?;
+    output.write_all(b"\n")
+}
+
+/// Whether a line has a deed. That is done, and it is told what it came to.
+fn does(alloc: Global, bench: &mut Bench, line: &[u8], told: &mut Line) -> Result<bool, Wrong> {
+    let mut words = Words::of(line);
+    let Some(verb) = words.next() else {
+        return Ok(false);
+    };
+    if verb.starts_with(b"#") {
+        return Ok(false);
+    }
+    let deed = deed::read(alloc, verb, &mut words)?;
+    bench.does(alloc, deed, told)?;
+    Ok(true)
+}
+
+/// Ends where a line is wrong.
+fn fail(rt: &HostRuntime, number: u64, wrong: Wrong) -> ExitCode {
+    let _ = writeln!(rt.stderr(), "line {number}: {wrong}");
+    ExitCode::from(2)
+}
