@@ -229,7 +229,7 @@ fn each_row_comes_to_what_the_rules_say(rt: HostRuntime) -> Result<(), Fail> {
 /// A thousand receives wait alike on one queue: a message tries the first alone.
 #[test]
 fn of_a_thousand_that_wait_alike_one_is_tried(rt: HostRuntime) -> Result<(), Fail> {
-    let mut desk = with_receives(&rt, 1_000, |_| 0)?;
+    let mut desk = with_receives(&rt, 1_000, false)?;
     let rows = [
         Asked(2_000, Send(1, 3, "a"), Sent(1)),
         Next(10, Received(1, 2_000, 3, "a")),
@@ -243,7 +243,7 @@ fn of_a_thousand_that_wait_alike_one_is_tried(rt: HostRuntime) -> Result<(), Fai
 /// A thousand receives wait each for a type of its own: a message tries the one that may take it.
 #[test]
 fn of_a_thousand_by_type_one_is_tried(rt: HostRuntime) -> Result<(), Fail> {
-    let mut desk = with_receives(&rt, 1_000, |place| i64::from(place) + 1)?;
+    let mut desk = with_receives(&rt, 1_000, true)?;
     let rows = [
         Asked(2_000, Send(1, 501, "a"), Sent(1)),
         Next(510, Received(1, 2_000, 501, "a")),
@@ -256,7 +256,7 @@ fn of_a_thousand_by_type_one_is_tried(rt: HostRuntime) -> Result<(), Fail> {
 /// Where it is not known what a deed could wake, of those that wait alike the first is tried alone.
 #[test]
 fn behind_one_tried_in_vain_no_other_is(rt: HostRuntime) -> Result<(), Fail> {
-    let mut desk = with_receives(&rt, 100, |_| 0)?;
+    let mut desk = with_receives(&rt, 100, false)?;
     let rows = [
         Asked(1, Set(1, 9), Done),
         Nobody,
@@ -271,16 +271,18 @@ fn behind_one_tried_in_vain_no_other_is(rt: HostRuntime) -> Result<(), Fail> {
     all_right(&rt, &mut desk, &rows)
 }
 
-/// A desk at which clients from 10 on wait for a message of queue 1, each by its type.
+/// A desk at which clients from 10 on wait for a message of queue 1: of any type, or each of one of
+/// its own, from 1 on.
 fn with_receives(
     rt: &(impl Abort + AllocGlobal),
-    many: u32,
-    type_of: impl Fn(u32) -> i64,
+    many: u16,
+    has_types: bool,
 ) -> Result<Desk, Fail> {
     let mut desk = Desk::create(rt.alloc(), 258, many as usize)?;
     all_right(rt, &mut desk, &[Asked(1, Get(7), Id(1))])?;
     for place in 0..many {
-        let waits = Asked(place + 10, Receive(1, type_of(place)), WAITS);
+        let mtype = if has_types { i64::from(place) + 1 } else { 0 };
+        let waits = Asked(u32::from(place) + 10, Receive(1, mtype), WAITS);
         all_right(rt, &mut desk, &[waits, Nobody])?;
     }
     Ok(desk)
