@@ -189,7 +189,8 @@ module _ (c : Caller) (id : ℕ) (s t : State) (q p : Queue) (became : Became id
       outcome c (calls.Receive x) s ≡ None → outcome c (calls.Receive x) t ≡ None
   receive_waits_on x on selects none =
       let off = receive_put_off c x s none in
-      let its : off.q ≡ q = one_queue off.q q (sym off.found ∙ ap (λ (n : ℕ). find (has_id n) s.queues) on ∙ became.was) in
+      let its : off.q ≡ q =
+      one_queue off.q q (sym off.found ∙ ap (λ (n : ℕ). find (has_id n) s.queues) on ∙ became.was) in
       let may : lacks_access Read c p.permissions ≡ false =
       ap (lacks_access Read c) (became.permissions ∙ ap (λ (r : Queue). r.permissions) (sym its)) ∙ off.may in
       let none_there : selected x.mtype q.messages ≡ None =
@@ -205,7 +206,8 @@ module _ (c : Caller) (id : ℕ) (s t : State) (q p : Queue) (became : Became id
       outcome c (calls.Send x) s ≡ None → outcome c (calls.Send x) t ≡ None
   send_waits_on x on lacks none =
       let off = send_put_off c x s none in
-      let its : off.q ≡ q = one_queue off.q q (sym off.found ∙ ap (λ (n : ℕ). find (has_id n) s.queues) on ∙ became.was) in
+      let its : off.q ≡ q =
+      one_queue off.q q (sym off.found ∙ ap (λ (n : ℕ). find (has_id n) s.queues) on ∙ became.was) in
       let may : lacks_access Write c p.permissions ≡ false =
       ap (lacks_access Write c) (became.permissions ∙ ap (λ (r : Queue). r.permissions) (sym its)) ∙ off.may in
       let full : lacks_room (length x.body) p ≡ true =

@@ -32,7 +32,8 @@ each_quiet s (OfMessage queue serial mtype) ws was = λ place w within undue.
     let its : may_take was.arguments.id was.arguments.mtype a.call ≡ false =
     ap (λ (q : ℕ). may_take q was.arguments.mtype a.call) was.queue_is
     ∙ ap (λ (t : ℤ). may_take queue t a.call) was.mtype_is ∙ undue in
-    sent_leaves was.caller was.arguments serial was.before s was.by_rules a.caller a.call its (was.waited place w within)
+    sent_leaves was.caller was.arguments serial was.before s was.by_rules a.caller a.call its
+    (was.waited place w within)
 each_quiet s (Room queue) ws quiet = quiet
 each_quiet s (OnQueue queue) ws quiet = quiet
 each_quiet s Everybody ws quiet = quiet

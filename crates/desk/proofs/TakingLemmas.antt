@@ -65,7 +65,8 @@ none_selected (negsuc n) ms fails =
 pub none_of_more : (t : ℤ) (ms : List Message) (m : Message) → selected t ms ≡ None → takes t m.mtype ≡ false →
     selected t (ms ++ m ∷ []) ≡ None
 none_of_more t ms m none other =
-    none_selected t (ms ++ m ∷ []) (All-push (λ (n : Message). takes t n.mtype ≡ false) ms m (none_taken t ms none) other)
+    none_selected t (ms ++ m ∷ [])
+    (All-push (λ (n : Message). takes t n.mtype ≡ false) ms m (none_taken t ms none) other)
 
 -- or where one is taken
 pub none_of_fewer : (t u : ℤ) (ms : List Message) → selected t ms ≡ None → selected t (unselected u ms) ≡ None
@@ -201,7 +202,8 @@ module _ (c : Caller) (x : SendArguments) (s t : State) (n : ℕ) (at : outcome 
   below lawful k d within =
       let stands = find-Some (has_id x.id) t.queues (with_message c.pid x sent.q) to_queue.is in
       let place = stands.1.0 in
-      let its : slice_index_or t.queues place (with_message c.pid x sent.q) ≡ with_message c.pid x sent.q = stands.1.2 in
+      let its : slice_index_or t.queues place (with_message c.pid x sent.q) ≡ with_message c.pid x sent.q =
+      stands.1.2 in
       let queue : IsLawfulQueue (with_message c.pid x sent.q) =
       subst IsLawfulQueue its (lawful.queues_lawful place (with_message c.pid x sent.q) stands.1.1) in
       let m : Message =

@@ -134,9 +134,19 @@ risen s page fault old new within holds fails = record {
 pub page_kept : (page : ℕ) (r : Result (List ℕ) PoolFault) (old new : SessionState) → Reads page r old new →
     KeepsSeat old new
 page_kept page (Ok bytes) old new read =
-    subst (KeepsSeat old) (sym read.stay.is) (record { callers = refl; seat = λ is. is; stored = read.stored; later = read.stay.later })
+    subst (KeepsSeat old) (sym read.stay.is) (record {
+      callers = refl;
+      seat = λ is. is;
+      stored = read.stored;
+      later = read.stay.later;
+    })
 page_kept page (Err fault) old new fails =
-    subst (KeepsSeat old) (sym fails.by.is) (record { callers = refl; seat = λ is. is; stored = fails.stored; later = fails.by.later })
+    subst (KeepsSeat old) (sym fails.by.is) (record {
+      callers = refl;
+      seat = λ is. is;
+      stored = fails.stored;
+      later = fails.by.later;
+    })
 
 as_many : (page : ℕ) (r : Result (List ℕ) PoolFault) (old new : SessionState) → Reads page r old new →
     pages_of new ≡ pages_of old

@@ -107,7 +107,12 @@ keeps_seat_back (Some back) old new went =
 pub keeps_seat_refused : (call : Call) (refusal : Call × BeginFault) (old new : SessionState) →
     IsRefused 1 call refusal old new → KeepsSeat old new
 keeps_seat_refused call refusal old new refused =
-    subst (KeepsSeat old) (sym refused.same) (record { callers = refl; seat = λ is. is; stored = refl; later = omega arith })
+    subst (KeepsSeat old) (sym refused.same) (record {
+      callers = refl;
+      seat = λ is. is;
+      stored = refl;
+      later = omega arith;
+    })
 
 pub keeps_seat_begun : (call : Call) (old new : SessionState) → HasCall 1 call old new → KeepsSeat old new
 keeps_seat_begun call old new has =
@@ -385,7 +390,12 @@ keeps_seat_stopped : (old new : SessionState) → IsStopped old new → (b : Boo
 keeps_seat_stopped old new stop true was =
     subst (KeepsSeat old) (sym (stop.again was)) (stays old)
 keeps_seat_stopped old new stop false was =
-    subst (KeepsSeat old) (sym (stop.first was)) (record { callers = refl; seat = λ is. is; stored = refl; later = omega arith })
+    subst (KeepsSeat old) (sym (stop.first was)) (record {
+      callers = refl;
+      seat = λ is. is;
+      stored = refl;
+      later = omega arith;
+    })
 
 pub keeps_seat_stop : (old new : SessionState) → IsStopped old new → KeepsSeat old new
 keeps_seat_stop old new stop = keeps_seat_stopped old new stop old.stopped refl

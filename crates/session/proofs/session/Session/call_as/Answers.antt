@@ -7,7 +7,8 @@ use Rattle.session.proofs.session.Session.call_as.Goals as goal
 pub returns-then-not-seat : goal.returns-then-not-seat
 returns-then-not-seat c =
     unseated_calls c.args.caller c.args.call.now _ c.args.self.now c.seat.new.self
-    (subst (λ (done : Bool). Seats c.args.caller done c.args.self.now c.seat.new.self) c.if-not-seat.true c.seat.ensures)
+    (subst (λ (done : Bool). Seats c.args.caller done c.args.self.now c.seat.new.self) c.if-not-seat.true
+    c.seat.ensures)
 
 pub returns : goal.returns
 returns c =
