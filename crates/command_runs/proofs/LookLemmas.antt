@@ -1,5 +1,5 @@
 -- What the checker found is looked at.
-use Rattle.std.proofs.Common.{◌≡◌, ◌⊎◌, ◌∙◌, ◌<◌, ◌≤◌, ℕ, inl, inr, sym, ap, subst, List, [], length, get_or, Option, Some, None, slice_get, Result, Ok, Err}
+use Rattle.std.proofs.Common.{◌≡◌, ◌⊎◌, ◌∙◌, ◌<◌, ◌≤◌, ◌^◌, ℕ, arith, inl, inr, sym, ap, subst, List, [], length, get_or, Option, Some, None, slice_get, Result, Ok, Err}
 use Rattle.std.specs.Prelude.{IfOk, IfErr}
 use Rattle.std.specs.Option.{option_map}
 use Rattle.std.proofs.lemmas.Bool.{cases_lt}
@@ -12,7 +12,10 @@ use Rattle.interleavings.specs.interleaving_core.file_check.declared.fault.Check
 use Rattle.interleavings.specs.interleaving_core.Fault.{device_failed}
 use Rattle.interleavings.specs.interleaving_core.declared.fault.OpenFault.{OpenFault}
 use Rattle.interleavings.specs.interleaving_core.declared.fault.OpenFault.TheVariants.{Wrong}
+use Rattle.std.proofs.lemmas.List.Elements.{All-get_or}
+use Rattle.queue_model.specs.Lawful.{IsLawful, IsLawfulQueue}
 use Rattle.queue_model.specs.Rules.{info_of}
+use Rattle.queue_model.specs.Selection.{total_bytes}
 use Rattle.queue_model.specs.declared.answer.QueueInfo.{QueueInfo}
 use Rattle.queue_model.specs.declared.queue.Queue.{Queue}
 use Rattle.queue_commands.specs.Json.{PutsJson, messages_data}
@@ -62,3 +65,12 @@ json_at s found place info q old text is told there none puts =
         let shown : option_map info_of (slice_get s.queues place) ≡ None =
         ap (option_map info_of) (slice_get_past s.queues place outside) in
         absurd cc
+
+-- the messages of a queue have few bytes
+pub few_bytes : (s : State) → IsLawful s → (place : ℕ) (q : Queue) → place < length s.queues →
+    q ≡ get_or s.queues place q → total_bytes q.messages < 2 ^ 64
+few_bytes s lawful place q below is =
+    let same : get_or s.queues place q ≡ q = sym is in
+    let at = All-get_or IsLawfulQueue s.queues place q below lawful.queues_lawful in
+    let few = subst (λ (r : Queue). total_bytes r.messages ≤ 65536) same at.few_bytes in
+    omega (arith, few)

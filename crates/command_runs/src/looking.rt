@@ -159,6 +159,7 @@ fn show_messages(
     let Some(info) = system.info(place) else {
         return Err(CommandError::Refused(Errno::ENOENT));
     };
+    system.keeps_limits();
     let messages = &system.queue(place).messages;
     let mut text = Text::new(alloc);
     match form {

@@ -108,28 +108,22 @@ impl Trouble {
                 tell_refusal(rt, errand, errno, command, &mut errors);
             }
             Trouble::Undone(error, refused) => {
-                let is_unclosed = matches!(error, CommandError::Unclosed(_));
-                tell_undone(rt, errand.file, error, refused, &mut errors);
-                if is_unclosed {
-                    tell_unwritten(errand.file, command, &mut errors);
-                }
+                tell_undone(rt, errand.file, error, refused, command, &mut errors);
             }
         }
         status
     }
 }
 
-/// What became of the messages of a command whose file could not be written.
+/// What is known of a file that could not be written: what it holds, the next command finds.
 fn tell_unwritten<E: Write>(file: &str, command: Option<&Command>, errors: &mut E) {
-    let file = Plain(file);
-    let _ = match command {
-        Some(Command::Receive(_)) => writeln!(
-            errors,
-            "msgq: {file}: what was printed was not taken out: it is received again"
-        ),
-        Some(Command::Send(_)) => writeln!(errors, "msgq: {file}: nothing was sent"),
-        _ => writeln!(errors, "msgq: {file}: nothing was changed"),
+    let what = match command {
+        Some(Command::Receive(_)) => "what was printed may be there still, and come again",
+        Some(Command::Send(_)) => "it has all that was to be sent, or nothing of it",
+        _ => "it is as before, or as it was to be",
     };
+    let file = Plain(file);
+    let _ = writeln!(errors, "msgq: {file}: {what}; nothing else is lost");
 }
 
 /// What is said where no refusal of a call is why a command is not done.
@@ -138,8 +132,18 @@ fn tell_undone<E: Write>(
     file: &str,
     error: CommandError,
     refused: Option<Refused>,
+    command: Option<&Command>,
     errors: &mut E,
 ) {
+    if let CommandError::Unclosed(fault) = &error {
+        let what = "it can't be closed";
+        match refused {
+            Some(refused) => complain_of_fault(file, what, fault.number(), refused, errors),
+            None => complain_of_fault(file, what, fault.number(), fault, errors),
+        }
+        tell_unwritten(file, command, errors);
+        return;
+    }
     if let Some(ending) = ending_of(&error) {
         complain_of_refused(file, ending, refused, errors);
         advise(rt, file, ending, errors);
@@ -165,7 +169,6 @@ fn ending_of(error: &CommandError) -> Option<Ending> {
     let (stage, fault) = match error {
         CommandError::Unopened(OpenFault::Wrong(fault)) => return Some(Ending::Unopened(*fault)),
         CommandError::Unopened(fault) => (Stage::Opening, fault.number()),
-        CommandError::Unclosed(fault) => (Stage::Closing, fault.number()),
         _ => return None,
     };
     Some(Ending::Failed(Failure { stage, fault }))
