@@ -24,7 +24,7 @@ impl Lists {
     pub fn new(alloc: Global) -> Lists {
         let mut callers = [ROOT; MAX_SEATS as usize];
         for (place, caller) in callers.iter_mut().enumerate() {
-            caller.pid = place as u32 + 1;
+            caller.pid = (place as u32).saturating_add(1);
         }
         Lists {
             callers,
