@@ -58,20 +58,18 @@ impl Alone {
         }
     }
 
-    /// Makes a call to its end in the place of the one before, and tells how many searches it has
-    /// begun before its Decide: after each of its steps it tells as many as were seen so far.
-    pub fn makes(
-        &mut self,
-        alloc: Global,
-        keys: Keys,
-        caller: Caller,
-        call: Call,
-        line: &mut Line,
-    ) -> Result<(), NoMemory> {
+    /// The next call, in the place of one that is over.
+    pub fn begin(&mut self, alloc: Global, caller: Caller, call: Call) -> Result<(), NoMemory> {
         let room = Room::new(alloc, &call)?;
         let locks = LockTable::new(alloc, 1)?;
         self.locks = locks;
         self.machine.renew(caller, call, room);
+        Ok(())
+    }
+
+    /// Makes the call to its end, and tells how many searches it has begun before its Decide: after
+    /// each of its steps it tells as many as were seen so far.
+    pub fn run(&mut self, keys: Keys, line: &mut Line) {
         let mut seen: u32 = 0;
         for _ in 0..MOST_STEPS {
             let is_undecided = !self.machine.has_concluded();
@@ -90,7 +88,6 @@ impl Alone {
         }
         line.number(u64::from(seen));
         line.word("searches");
-        Ok(())
     }
 
     /// The kind of its next step; none where it makes none.

@@ -123,10 +123,11 @@ impl Bench {
                 let Some(caller) = self.lists.callers(seat).last() else {
                     return Err(Wrong::Wanted("a seat"));
                 };
-                match alone.makes(alloc, self.keys, *caller, call, line) {
-                    Ok(()) => Ok(()),
-                    Err(_) => Err(Wrong::NoMemory),
+                if alone.begin(alloc, *caller, call).is_err() {
+                    return Err(Wrong::NoMemory);
                 }
+                alone.run(self.keys, line);
+                Ok(())
             }
             _ => Err(Wrong::Elsewhere("seats")),
         }

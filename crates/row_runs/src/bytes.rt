@@ -33,9 +33,9 @@ pub fn bytes_at(payload: &Payload, at: usize, bytes: usize) -> &[u8] {
     }
 }
 
-/// The page of a number of four bytes at a place.
+/// The number in four bytes at a place, as that of a page.
 pub fn page_at(payload: &Payload, at: usize) -> u32 {
-    number_at(payload, at, 4) as u32
+    u32::try_from(number_at(payload, at, 4)).unwrap_or(u32::MAX)
 }
 
 /// The next page of a bucket, or else 0.
@@ -107,8 +107,8 @@ fn record_at(payload: &Payload, at: usize) -> Spot<'_> {
     let value = at.saturating_add(15);
     Spot {
         key: RecordKey {
-            kind: number_at(payload, at.saturating_add(2), 1) as u8,
-            queue: number_at(payload, at.saturating_add(3), 4) as u32,
+            kind: u8::try_from(number_at(payload, at.saturating_add(2), 1)).unwrap_or(u8::MAX),
+            queue: page_at(payload, at.saturating_add(3)),
             number: number_at(payload, at.saturating_add(7), 8),
         },
         value: bytes_at(payload, value, bytes),

@@ -84,7 +84,7 @@ pub enum SeatDeed {
 }
 
 /// Something is looked at.
-#[derive(Clone, Copy, Debug)]
+#[derive(Clone, Copy)]
 pub enum Look {
     Header,
     /// An entry of the directory.
@@ -103,7 +103,7 @@ pub enum Look {
 }
 
 /// What the next idle seat does with a record.
-#[derive(Clone, Copy, Debug)]
+#[derive(Clone, Copy)]
 pub enum Operation {
     /// A search alone, which stays on the page that answers.
     Search,
@@ -114,7 +114,7 @@ pub enum Operation {
 }
 
 /// An operation on the record of a key begins, and is stepped to its end or not at all.
-#[derive(Clone, Copy, Debug)]
+#[derive(Clone, Copy)]
 pub struct RecordDeed {
     pub operation: Operation,
     pub key: RecordKey,
@@ -122,7 +122,7 @@ pub struct RecordDeed {
 }
 
 /// A seat asks for a lock, turns it into another kind or gives it back, or what it holds is asked.
-#[derive(Clone, Copy, Debug)]
+#[derive(Clone, Copy)]
 pub enum LockDeed {
     Ask(u8, LockName, LockKind),
     Turn(u8, LockName, LockKind),

@@ -77,11 +77,12 @@ pub fn put(alloc: Global, device: &mut MemDevice, page: u32, key: RecordKey, val
         return false;
     };
     let (at, _) = place_of(&payload, key);
-    let bytes = record.len() as u64;
     let Ok(records) = spliced(alloc, &payload, at, at, record.as_slice()) else {
         return false;
     };
-    set(device, page, 16, records.as_slice()) && count(device, page, &payload, 1, bytes)
+    let many = number_at(&payload, 2, 2).saturating_add(1);
+    let bytes = number_at(&payload, 12, 2).saturating_add(record.len() as u64);
+    set(device, page, 16, records.as_slice()) && count(device, page, many, bytes)
 }
 
 /// Takes the record of a key out of a bucket, and seals the page again. Whether it was there.
@@ -93,16 +94,16 @@ pub fn take(alloc: Global, device: &mut MemDevice, page: u32, key: RecordKey) ->
     let Ok(records) = spliced(alloc, &payload, at, next, b"") else {
         return false;
     };
-    let bytes = next.saturating_sub(at) as u64;
-    next > at
-        && set(device, page, 16, records.as_slice())
-        && count(device, page, &payload, u64::MAX, 0_u64.wrapping_sub(bytes))
+    let taken = next.saturating_sub(at) as u64;
+    let many = number_at(&payload, 2, 2).saturating_sub(1);
+    let bytes = number_at(&payload, 12, 2).saturating_sub(taken);
+    taken > 0 && set(device, page, 16, records.as_slice()) && count(device, page, many, bytes)
 }
 
 /// The bytes of a record: the length of its value, its key and its value.
 fn spelled(alloc: Global, key: RecordKey, value: &[u8]) -> Result<Vec<u8>, AllocError> {
     let mut record = Vec::new(alloc);
-    record.extend_from_slice(&(value.len() as u16).to_be_bytes())?;
+    record.extend_from_slice(&two(value.len() as u64))?;
     record.extend_from_slice(&key.to_bytes())?;
     record.extend_from_slice(value)?;
     Ok(record)
@@ -125,9 +126,12 @@ fn spliced(
     Ok(records)
 }
 
-/// Adds to the number of records of a bucket, and to that of their bytes, what they were before.
-fn count(device: &mut MemDevice, page: u32, before: &Payload, records: u64, bytes: u64) -> bool {
-    let records = number_at(before, 2, 2).wrapping_add(records) as u16;
-    let bytes = number_at(before, 12, 2).wrapping_add(bytes) as u16;
-    set(device, page, 2, &records.to_be_bytes()) && set(device, page, 12, &bytes.to_be_bytes())
+/// Writes how many records a bucket has, and how many bytes.
+fn count(device: &mut MemDevice, page: u32, records: u64, bytes: u64) -> bool {
+    set(device, page, 2, &two(records)) && set(device, page, 12, &two(bytes))
+}
+
+/// A number in two bytes.
+fn two(number: u64) -> [u8; 2] {
+    u16::try_from(number).unwrap_or(u16::MAX).to_be_bytes()
 }

@@ -3,7 +3,7 @@
 use bucket_page::{ConstantKey, NumberKey, PseudoKey, RecordKey, ShaKey};
 
 /// By digests, as in a file of the program; by the low 32 bits of their numbers; or all are 0.
-#[derive(Clone, Copy, Debug, Drop)]
+#[derive(Clone, Copy, Drop)]
 pub enum Keys {
     Sha,
     Number,

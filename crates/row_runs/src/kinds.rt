@@ -41,7 +41,7 @@ pub fn kind_named(name: &[u8]) -> Option<Kind> {
 }
 
 /// How many steps of each kind a seat has made since its work began.
-#[derive(Clone, Copy, Debug)]
+#[derive(Clone, Copy)]
 pub struct Made {
     steps: [u32; KINDS],
 }

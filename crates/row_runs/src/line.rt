@@ -3,6 +3,8 @@
 use itoa::Buffer;
 use std::alloc::Global;
 
+const DIGITS: &[u8; 16] = b"0123456789abcdef";
+
 /// Words with a blank between each two.
 #[derive(Drop)]
 pub struct Line {
@@ -94,8 +96,5 @@ impl Line {
 
 /// A hexadecimal digit.
 fn digit(value: u8) -> u8 {
-    match value % 16 {
-        low @ 0..=9 => b'0' + low,
-        high => b'a' + (high - 10),
-    }
+    DIGITS[usize::from(value % 16)]
 }

@@ -23,8 +23,10 @@ impl Lists {
     /// No queues. At each seat sits a process of its number, of user 0.
     pub fn new(alloc: Global) -> Lists {
         let mut callers = [ROOT; MAX_SEATS as usize];
-        for (place, caller) in callers.iter_mut().enumerate() {
-            caller.pid = place as u32 + 1;
+        let mut pid: u32 = 0;
+        for caller in callers.iter_mut() {
+            pid = pid.saturating_add(1);
+            caller.pid = pid;
         }
         Lists {
             callers,

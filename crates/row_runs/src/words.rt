@@ -39,7 +39,7 @@ const LOCK_KINDS: [(&[u8], LockKind); 3] = [
 ];
 
 /// What is left of a line.
-#[derive(Clone, Copy, Debug)]
+#[derive(Clone, Copy)]
 pub struct Words<'a> {
     rest: &'a [u8],
 }

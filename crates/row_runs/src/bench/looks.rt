@@ -14,8 +14,8 @@ use page_device::Payload;
 /// The page of the first bucket.
 const ROOT: u32 = 257;
 
-/// Entries of a directory page, and where they begin.
-const ENTRIES: u32 = 1_012;
+/// Entries of a directory page.
+const ENTRIES: u32 = 512;
 
 /// More pages than a file of a row has.
 const MOST_PAGES: u32 = 2_000;
