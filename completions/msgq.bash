@@ -2,7 +2,7 @@
 
 _msgq() {
     local word=${COMP_WORDS[COMP_CWORD]} before=${COMP_WORDS[COMP_CWORD - 1]} command= at
-    local commands='new run replay check stat migrate copy salvage send receive peek list make remove set help'
+    local commands='new run replay check stat migrate copy salvage send receive peek do list make remove set help'
     local callers='--pid --uid --gid --help'
     for ((at = 1; at < COMP_CWORD; at++)); do
         [[ ${COMP_WORDS[at]} == -* ]] && continue
@@ -10,6 +10,14 @@ _msgq() {
         break
     done
     COMPREPLY=()
+    # behind `--` of do stands a command of its own
+    if [[ $command == do ]]; then
+        for ((at = 2; at < COMP_CWORD; at++)); do
+            [[ ${COMP_WORDS[at]} == -- ]] || continue
+            if ((at == COMP_CWORD - 1)); then COMPREPLY=($(compgen -c -- "$word")); else COMPREPLY=($(compgen -f -- "$word")); fi
+            return
+        done
+    fi
     if [[ -z $command ]]; then
         COMPREPLY=($(compgen -W "$commands --help --version" -- "$word"))
         return
@@ -30,6 +38,7 @@ _msgq() {
         send) options="--type --lines --create --mode --pages --wait --nowait --verbose -v $callers" ;;
         receive) options="--type --size --noerror --header --all --wait $callers" ;;
         peek) options="--type $callers" ;;
+        do) options='--type -t --wait -w --recover --help -h' ;;
         list) options='--json --help' ;;
         make) options="--mode $callers" ;;
         remove) options=$callers ;;
