@@ -82,7 +82,8 @@ int msgq_create(const char *path, uint32_t pages);
 int msgq_open(const char *path, msgq **queues);
 
 /* The same, but waits while another process has the file open, or this one: without end where limit is NULL, else for so long at
- * most, and then ETIMEDOUT. It looks 200 times a second. Who of several gets it first is not said. */
+ * most, and then ETIMEDOUT. It looks 200 times a second. Who of several gets it first is not said. While a file is open no other
+ * process sends to it or receives from it: who waits for another process closes it meanwhile. */
 int msgq_open_wait(const char *path, const struct timespec *limit, msgq **queues);
 
 /* A limit of so many milliseconds; NULL, which is none, for a number below 0. It is the thread's, and stands until the thread

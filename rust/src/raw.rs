@@ -50,7 +50,11 @@ pub type Handle = *mut c_void;
 extern "C" {
     pub fn msgq_create(path: *const c_char, pages: u32) -> c_int;
     pub fn msgq_open(path: *const c_char, queues: *mut Handle) -> c_int;
-    pub fn msgq_open_wait(path: *const c_char, limit: *const Timespec, queues: *mut Handle) -> c_int;
+    pub fn msgq_open_wait(
+        path: *const c_char,
+        limit: *const Timespec,
+        queues: *mut Handle,
+    ) -> c_int;
     pub fn msgq_get(queues: Handle, key: i64, flags: c_int, id: *mut u32) -> c_int;
     pub fn msgq_send(
         queues: Handle,
