@@ -2,11 +2,7 @@
 
 _msgq() {
     local word=${COMP_WORDS[COMP_CWORD]} before=${COMP_WORDS[COMP_CWORD - 1]} command= at
-<<<<<<< HEAD
-    local commands='new run replay check stat migrate copy grow salvage send receive peek list make remove set help'
-=======
-    local commands='new run replay check stat migrate copy salvage send receive peek do list make remove set help'
->>>>>>> f7e09a07b881addb18aec240eed3d137f980c5d6
+    local commands='new run replay check stat migrate copy grow salvage send receive peek do list make remove set help'
     local callers='--pid --uid --gid --help'
     for ((at = 1; at < COMP_CWORD; at++)); do
         [[ ${COMP_WORDS[at]} == -* ]] && continue
@@ -39,16 +35,10 @@ _msgq() {
         run | grow) options='--wait -w --help' ;;
         replay) options='--wait -w --trace --help' ;;
         check | stat) options='--verbose -v --help' ;;
-<<<<<<< HEAD
         send) options="--type -t --lines -l $makes --wait -w --nowait --verbose -v $callers" ;;
         receive) options="--type -t --size --noerror --header --all -a --serial $makes --wait -w $callers" ;;
         peek) options="--type -t --header $callers" ;;
-=======
-        send) options="--type --lines --create --mode --pages --wait --nowait --verbose -v $callers" ;;
-        receive) options="--type --size --noerror --header --all --wait $callers" ;;
-        peek) options="--type $callers" ;;
         do) options='--type -t --wait -w --recover --help -h' ;;
->>>>>>> f7e09a07b881addb18aec240eed3d137f980c5d6
         list) options='--json --help' ;;
         make) options="--mode --qbytes --owner --group --shared $callers" ;;
         remove) options=$callers ;;
