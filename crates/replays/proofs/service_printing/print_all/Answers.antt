@@ -29,7 +29,8 @@ loop-line-preserved g c =
     let made = is_stopped c.reply-reply.result.now in
     let stops : c.if-has_stopped.has_stopped ≡ (c.loop-line.has_stopped || made) =
     elim c.if-has_stopped.branch [
-      | then-has_stopped w ↦ w.has_stopped-is ∙ sym (ap (λ (b : Bool). b || made) w.if-has_stopped.true)
+      | then-has_stopped w ↦
+          w.has_stopped-is ∙ w.if-has_stopped.true ∙ sym (ap (λ (b : Bool). b || made) w.if-has_stopped.true)
       | else-has_stopped w ↦
           w.has_stopped-is ∙ w.is_stopped-has_stopped.ensures
           ∙ sym (ap (λ (b : Bool). b || made) w.if-has_stopped.false)
