@@ -6,6 +6,7 @@
 mod crew;
 mod fixed;
 mod input;
+mod own_ids;
 mod runs;
 mod scripts;
 mod shell;

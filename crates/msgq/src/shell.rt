@@ -4,6 +4,7 @@ ghost use Rattle.std.specs.Prelude.{IfSome};
 ghost use Rattle.command_runs.specs.Tasks.{CanBeMade, HasPages};
 
 use crate::input::{make_file, read_messages};
+use crate::own_ids::{STATUS, own_ids};
 use crate::trouble::{Awaited, Errand, Trouble};
 use command_runs::{
     CallerIds, CommandError, Deed, Form, Look, Patience, Printer, Ran, ReceiveTask, SendTask,
@@ -34,10 +35,18 @@ const MOST_LOOKS: u64 = u64::MAX;
 pub fn shell(rt: &HostRuntime, task: &ShellTask<'_>) -> ExitStatus
     requires pages { HasPages task.now }
 {
+    let caller = match caller_of(rt, task.ids) {
+        Ok(caller) => caller,
+        Err(error) => {
+            let what = "who calls is not known, so --uid and --gid are needed";
+            complain(STATUS, what, &error, &mut rt.stderr());
+            return ExitStatus::Fault;
+        }
+    };
     let errand = Errand {
         file: task.file,
         queue: task.deed.queue(),
-        caller: caller_of(rt, task.ids),
+        caller,
     };
     match &task.deed {
         Deed::Send(sending) => send(rt, errand, sending),
@@ -71,12 +80,16 @@ pub fn shell(rt: &HostRuntime, task: &ShellTask<'_>) -> ExitStatus
 }
 
 /// Who calls: the process itself, for its real user and group, where it is not said.
-fn caller_of(rt: &HostRuntime, ids: CallerIds) -> Caller {
-    Caller {
-        pid: ids.pid.unwrap_or(process::id(rt.process())),
-        uid: ids.uid.unwrap_or(libc::getuid()),
-        gid: ids.gid.unwrap_or(libc::getgid()),
-    }
+fn caller_of(rt: &HostRuntime, ids: CallerIds) -> io::Result<Caller> {
+    let pid = ids.pid.unwrap_or(process::id(rt.process()));
+    let (uid, gid) = match (ids.uid, ids.gid) {
+        (Some(uid), Some(gid)) => (uid, gid),
+        (uid, gid) => {
+            let (own_uid, own_gid) = own_ids(rt)?;
+            (uid.unwrap_or(own_uid), gid.unwrap_or(own_gid))
+        }
+    };
+    Ok(Caller { pid, uid, gid })
 }
 
 /// Sends standard input. Where it can't be one message, or one a line, nothing is opened.
