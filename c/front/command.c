@@ -25,7 +25,8 @@ static void signals_of(sigset_t *set) {
             (void)sigaddset(set, all[at]);
 }
 
-/* The end of a child is told too, whoever ignored it before. (Of sets and numbers such as these the calls fail of nothing.) */
+/* The end of a child is told too, whoever ignored it before. (Of sets and numbers such as these the calls fail of
+ * nothing.) */
 void signals_hold(sigset_t *before) {
     sigset_t set;
     (void)signal(SIGCHLD, SIG_DFL);
@@ -71,7 +72,8 @@ bool command_is_found(const char *name) {
     for (const char *at = folders == NULL ? "/bin:/usr/bin" : folders;; at++) {
         int length = (int)strcspn(at, ":");
         int made = snprintf(path, sizeof path, "%.*s%s%s", length, at, length > 0 ? "/" : "", name);
-        if (made > 0 && (size_t)made < sizeof path && access(path, X_OK) == 0 && stat(path, &found) == 0 && S_ISREG(found.st_mode))
+        if (made > 0 && (size_t)made < sizeof path && access(path, X_OK) == 0 && stat(path, &found) == 0
+            && S_ISREG(found.st_mode))
             return true;
         at += length;
         if (*at == '\0')
@@ -87,7 +89,8 @@ static int tell(const char *name, int64_t number) {
 }
 
 /* Becomes the command, in the child; tells the parent's pipe what is wrong where that can't be. */
-static void become(char **words, int body, int told, const struct msgq_message *message, const sigset_t *before, pid_t parent) {
+static void become(char **words, int body, int told, const struct msgq_message *message, const sigset_t *before,
+                   pid_t parent) {
     int wrong = 0;
     /* The parent may have ended before it was asked for. */
     if (prctl(PR_SET_PDEATHSIG, SIGTERM) != 0 || dup2(body, STDIN_FILENO) < 0)
@@ -145,7 +148,8 @@ static void close_all(int *files) {
             (void)close(files[at]);
 }
 
-struct ending command_run(char **words, const void *body, const struct msgq_message *message, const sigset_t *before) {
+struct ending command_run(char **words, const void *body, const struct msgq_message *message,
+                          const sigset_t *before) {
     int files[4] = {-1, -1, -1, -1}; /* of the body, and of what is wrong: where each is read and written */
     pid_t parent = getpid(), child = -1;
     int wrong = pipe2(files, O_CLOEXEC) == 0 && pipe2(files + 2, O_CLOEXEC) == 0 ? 0 : errno;

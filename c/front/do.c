@@ -3,8 +3,8 @@
 #include "front.h"
 #include "held.h"
 #include "jobs.h"
+#include "request.h"
 #include "watch.h"
-#include "words.h"
 
 #include <errno.h>
 #include <inttypes.h>
@@ -13,126 +13,8 @@
 #include <sys/wait.h>
 #include <unistd.h>
 
-#define CALL "msgq do [OPTIONS] <FILE> <KEY> -- <COMMAND> [ARGUMENT]..."
-
-static const char USAGE[] =
-    "Takes a message, and runs a command on it\n"
-    "\n"
-    "Usage: " CALL "\n"
-    "       msgq do --recover <FILE>\n"
-    "\n"
-    "Arguments:\n"
-    "  <FILE>     The file of queues\n"
-    "  <KEY>      The queue: its key, or @ and its id\n"
-    "  <COMMAND>  Gets the body on standard input; where it ends with 0 the message is gone, else it is back, last\n"
-    "\n"
-    "Options:\n"
-    "  -t, --type <N>          Which message: 0 the first, N the first of a type, -N the first of the lowest type up to N [default: 0]\n"
-    "  -w, --wait[=<SECONDS>]  Wait until there is a message, for so long or without end\n"
-    "      --recover           Give back what dead workers had in hand, and run nothing\n"
-    "  -h, --help              Print help\n"
-    "\n"
-    "While COMMAND runs the message stands in a private queue of FILE, which is not locked. Where msgq do is killed whoever calls it\n"
-    "next gives the message back. COMMAND is told MSGQ_SERIAL, MSGQ_TYPE and MSGQ_SENDER.\n"
-    "Exit status: 0 done; 1 a fault; 2 the command line is wrong; 3 there is no message; 4 any other refusal, which standard error\n"
-    "names; 5 COMMAND did not end with 0, and the message was given back.\n"
-    "More: docs/SHELL.md, msgq(1).\n";
-
 /* How long a file that another process has open is waited for, in seconds. */
 enum { PATIENCE = 10 };
-
-struct request {
-    const char *file;
-    struct name queue;
-    int64_t type;
-    bool waits, has_end, recovers;
-    struct timespec end; /* of CLOCK_MONOTONIC */
-    char **command;
-};
-
-/* ---- the command line */
-
-/* Says what is wrong with the command line, as the proved program does. */
-static int misuse(const char *format, const char *word) {
-    char what[512];
-    (void)snprintf(what, sizeof what, format, word);
-    complain("%s\n\nUsage: " CALL "\n\nFor more information, try '--help'.", what);
-    return MISUSE;
-}
-
-/* The moment so long from now. */
-static int begin_wait(struct request *it, const struct timespec *limit) {
-    if (clock_gettime(CLOCK_MONOTONIC, &it->end) != 0) {
-        complain("do: the clock can't be read: %s", strerror(errno));
-        return FAULT;
-    }
-    it->end.tv_sec += limit->tv_sec + (it->end.tv_nsec + limit->tv_nsec) / 1000000000;
-    it->end.tv_nsec = (it->end.tv_nsec + limit->tv_nsec) % 1000000000;
-    return DONE;
-}
-
-/* Reads `--wait`, whose seconds stand behind `=`, or are the next word where that is a number and two more words are to come. */
-static int read_wait(struct request *it, struct words *words, int missing, const char *value) {
-    struct timespec limit;
-    int left = 0;
-    it->waits = true;
-    while (left < words->count && strcmp(words->at[left], "--") != 0)
-        left++;
-    if (value == NULL && left > missing && read_seconds(words->at[0], &limit))
-        value = take_value(words, NULL);
-    if (value == NULL)
-        return DONE;
-    it->has_end = true;
-    return read_seconds(value, &limit) ? begin_wait(it, &limit) : misuse("'%s' is no timeout in seconds", value);
-}
-
-/* Reads the words in front of `--`: FILE, KEY and options, in any order. */
-static int read_words(struct request *it, struct words *words) {
-    const char *value, *names[2];
-    int count = 0;
-    while (words->count > 0 && strcmp(words->at[0], "--") != 0) {
-        int status = DONE;
-        if (take_option(words, "--help", 'h', &value)) {
-            return fputs(USAGE, stdout) < 0 || fflush(stdout) != 0 ? FAULT : -1;
-        } else if (take_option(words, "--recover", '\0', &value)) {
-            it->recovers = true;
-        } else if (take_option(words, "--type", 't', &value)) {
-            value = take_value(words, value);
-            if (value == NULL || !read_type(value, &it->type))
-                return misuse("'%s' is no type, a decimal number of 64 bits", value == NULL ? "" : value);
-        } else if (take_option(words, "--wait", 'w', &value)) {
-            status = read_wait(it, words, 2 - count, value);
-        } else if (words->at[0][0] == '-' || count == 2) {
-            return misuse("unexpected argument '%s' found", words->at[0]);
-        } else {
-            names[count++] = take_value(words, NULL);
-        }
-        if (status != DONE)
-            return status;
-    }
-    if (count < 1)
-        return misuse("the following required argument was not provided: %s", "<FILE>");
-    it->file = names[0];
-    it->queue.is_id = it->recovers;
-    if (it->recovers)
-        return count > 1 || words->count > 0 ? misuse("%s takes a file, and nothing else", "--recover") : DONE;
-    if (count < 2)
-        return misuse("the following required argument was not provided: %s", "<KEY>");
-    return read_name(names[1], &it->queue) ? DONE : misuse("'%s' is no key, a number of 32 bits, nor @ and an id", names[1]);
-}
-
-static int read_request(struct request *it, int count, char **at) {
-    struct words words = {count, at};
-    *it = (struct request){.command = NULL};
-    int status = read_words(it, &words);
-    if (status != DONE || it->recovers)
-        return status;
-    if (words.count < 2)
-        return misuse("the following required argument was not provided: %s", words.count == 0 ? "-- <COMMAND>" : "<COMMAND>");
-    it->command = words.at + 1;
-    /* So that a slip of the pen takes no message, and puts it last. */
-    return command_is_found(it->command[0]) ? DONE : misuse("'%s' is no command that can be run", it->command[0]);
-}
 
 /* ---- what is said */
 
@@ -140,14 +22,16 @@ static int read_request(struct request *it, int count, char **at) {
 static void complain_of(const struct request *it, int wrong) {
     const char *reason = msgq_reason(), *at = strstr(reason, ": queue @");
     if (wrong == EACCES && *reason == '\0')
-        complain("%s: queue %s%" PRIu32 ": EACCES: its mode does not let the caller read and write, as what is given back asks for",
+        complain("%s: queue %s%" PRIu32
+                 ": EACCES: its mode does not let the caller read and write, as what is given back asks for",
                  it->file, it->queue.is_id ? "@" : "", it->queue.number);
     else if (*reason == '\0')
         complain("%s: %s", it->file, strerror(wrong));
     else if (at == NULL || it->queue.is_id)
         complain("%s", reason);
     else
-        complain("%.*s: queue %" PRIu32 "%s", (int)(at - reason), reason, it->queue.number, at + 9 + strspn(at + 9, "0123456789"));
+        complain("%.*s: queue %" PRIu32 "%s", (int)(at - reason), reason, it->queue.number,
+                 at + 9 + strspn(at + 9, "0123456789"));
 }
 
 static int status_of(int wrong) {
@@ -164,7 +48,8 @@ static int status_of(int wrong) {
 
 static void tell_hands(const struct request *it, const struct hands *hands) {
     if (hands->dropped > 0)
-        complain("%s: %u jobs of dead workers are gone with their queues, which were removed", it->file, hands->dropped);
+        complain("%s: %u jobs of dead workers are gone with their queues, which were removed", it->file,
+                 hands->dropped);
 }
 
 /* ---- the file */
@@ -238,7 +123,8 @@ static enum look end_with(struct look_out *out, int status) {
 }
 
 /* Takes a job from a file that is open, and does not close it. */
-static int take(const struct request *it, msgq *queues, const struct held *held, struct look_out *out, struct job *job) {
+static int take(const struct request *it, msgq *queues, const struct held *held, struct look_out *out,
+                struct job *job) {
     uint32_t queue = it->queue.number;
     struct hands later;
     int wrong = it->queue.is_id ? 0 : msgq_get(queues, it->queue.number, 0, &queue);
@@ -254,7 +140,8 @@ static int take(const struct request *it, msgq *queues, const struct held *held,
 }
 
 /* Looks at the file once. Where a job was taken the file is saved, and the signals are held back. */
-static enum look look(const struct request *it, struct held *held, struct look_out *out, struct job *job, sigset_t *before) {
+static enum look look(const struct request *it, struct held *held, struct look_out *out, struct job *job,
+                      sigset_t *before) {
     msgq *queues;
     int wrong = open_both(it, &queues, held);
     if (wrong == ENOENT && it->waits)
@@ -330,7 +217,8 @@ static int take_in_time(const struct request *it, struct held *held, struct job 
 
 /* ---- a job has ended */
 
-/* Opens the file again, however long another process has it; behind a signal that tells this one to end for some more seconds. */
+/* Opens the file again, however long another process has it; behind a signal that tells this one to end for some more
+ * seconds. */
 static int open_again(const struct request *it, msgq **queues) {
     int wrong, left = PATIENCE * 5;
     do
@@ -339,7 +227,8 @@ static int open_again(const struct request *it, msgq **queues) {
     return wrong;
 }
 
-/* Gives a job back, or takes it out for good. Where that can't be it stays in hand, and whoever comes next gives it back. */
+/* Gives a job back, or takes it out for good. Where that can't be it stays in hand, and whoever comes next gives it
+ * back. */
 static int settle(const struct request *it, const struct job *job, bool is_done) {
     msgq *queues;
     int wrong = open_again(it, &queues);
@@ -358,10 +247,10 @@ static int settle(const struct request *it, const struct job *job, bool is_done)
 
 /* Says what became of a job that was not done. */
 static void tell_return(const struct request *it, const struct job *job, const char *how, int wrong) {
-    const char *what = wrong == 0 ? "its message is back, last of its queue"
-        : wrong == EIDRM          ? "its message is gone with its queue, which was removed"
-        : wrong == ENOENT         ? "its message was given back or removed meanwhile"
-                                  : "its message stays in hand until a later 'msgq do' gives it back";
+    const char *what = wrong == 0        ? "its message is back, last of its queue"
+                       : wrong == EIDRM  ? "its message is gone with its queue, which was removed"
+                       : wrong == ENOENT ? "its message was given back or removed meanwhile"
+                                         : "its message stays in hand until a later 'msgq do' gives it back";
     complain("%s: queue %s%" PRIu32 ": message %" PRIu64 ": the command %s: %s", it->file, it->queue.is_id ? "@" : "",
              it->queue.number, job->message.serial, how, what);
 }

@@ -1,5 +1,6 @@
-/* Which workers live: the lock file FILE.held, of which the worker that has a job in hand locks the byte at the id of its private queue.
- * The system lets go of the lock when the process ends, however it ends. Each function gives 0 or the number of an error. */
+/* Which workers live: the lock file FILE.held, of which the worker that has a job in hand locks the byte at the id of
+ * its private queue. The system lets go of the lock when the process ends, however it ends. Each function gives 0 or
+ * the number of an error. */
 #ifndef MSGQ_HELD_H
 #define MSGQ_HELD_H
 

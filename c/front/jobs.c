@@ -40,13 +40,14 @@ static int fill(msgq *queues, const struct job *job) {
     return wrong != 0 ? wrong : send_to(queues, job->hand, job);
 }
 
-/* Leaves a hand whose label and job are out idle. Where it is not to last, or the file has no room for a label, it is removed. */
+/* Leaves a hand whose label and job are out idle. Where it is not to last, or the file has no room for a label, it is
+ * removed. */
 static int rest(msgq *queues, uint32_t hand, bool lasts) {
     return lasts && put_label(queues, hand, IDLE) == 0 ? 0 : msgq_remove(queues, hand);
 }
 
-/* Gives a hand the owner, group and mode of a queue, so that who may receive from the queue may give the job back. Its owner, who may
- * be another than the queue's, lacks nothing. */
+/* Gives a hand the owner, group and mode of a queue, so that who may receive from the queue may give the job back.
+ * Its owner, who may be another than the queue's, lacks nothing. */
 static int dress(msgq *queues, uint32_t hand, const struct msgq_info *like) {
     struct msgq_info now;
     int wrong = msgq_stat(queues, hand, &now);
@@ -56,8 +57,8 @@ static int dress(msgq *queues, uint32_t hand, const struct msgq_info *like) {
 
 /* ---- what dead workers had */
 
-/* Gives back what a hand without a worker has. Where that can't be it is put back into the hand, and where that can't be either the
- * file is spoilt. */
+/* Gives back what a hand without a worker has. Where that can't be it is put back into the hand, and where that can't
+ * be either the file is spoilt. */
 static void recover(msgq *queues, uint32_t hand, struct hands *hands) {
     struct job job = {.hand = hand};
     if (take_label(queues, hand, job.label) != 0)
@@ -132,7 +133,8 @@ int hands_clear(msgq *queues, const struct held *held, const struct hands *hands
 
 /* ---- a job is taken */
 
-/* Whether a mode lets this process write: by it no job is taken that could not be given back. What decides is the give-back. */
+/* Whether a mode lets this process write: by it no job is taken that could not be given back. What decides is the
+ * give-back. */
 static bool may_write(const struct msgq_info *info) {
     uint32_t user = geteuid(), group = getegid();
     unsigned digit = info->mode;
@@ -145,19 +147,20 @@ static bool may_write(const struct msgq_info *info) {
     return (digit & 2) != 0;
 }
 
-/* The label says from which queue a job is. What follows makes it the only one of its text: a file that was put in the place of
- * this one may have a hand of the same id. */
+/* The label says from which queue a job is. What follows makes it the only one of its text: a file that was put in
+ * the place of this one may have a hand of the same id. */
 static int write_label(struct job *job) {
     struct timespec now;
     if (clock_gettime(CLOCK_REALTIME, &now) != 0)
         return errno;
-    (void)snprintf(job->label, sizeof job->label, "queue %" PRIu32 ", process %ld, since %lld.%09ld", job->queue, (long)getpid(),
-                   (long long)now.tv_sec, now.tv_nsec);
+    (void)snprintf(job->label, sizeof job->label, "queue %" PRIu32 ", process %ld, since %lld.%09ld", job->queue,
+                   (long)getpid(), (long long)now.tv_sec, now.tv_nsec);
     return 0;
 }
 
 /* Finds an idle hand that this caller may have, and locks it; ENOENT where there is none. */
-static int find_hand(msgq *queues, const struct held *held, const struct hands *hands, const struct msgq_info *like, struct job *job) {
+static int find_hand(msgq *queues, const struct held *held, const struct hands *hands, const struct msgq_info *like,
+                     struct job *job) {
     char label[LABEL_BYTES];
     for (unsigned at = 0; at < hands->idle_count; at++) {
         job->hand = hands->idle[at];
@@ -175,8 +178,8 @@ static int find_hand(msgq *queues, const struct held *held, const struct hands *
     return ENOENT;
 }
 
-/* Makes a hand and puts a job into it. Where a file is nearly full one page has room and another has not, and which it is goes by the
- * id: so several are tried. */
+/* Makes a hand and puts a job into it. Where a file is nearly full one page has room and another has not, and which
+ * it is goes by the id: so several are tried. */
 static int make_hand(msgq *queues, const struct held *held, const struct msgq_info *like, struct job *job) {
     enum { MOST_TRIES = 16 };
     for (int tries = 0;; tries++) {
@@ -196,7 +199,8 @@ static int make_hand(msgq *queues, const struct held *held, const struct msgq_in
     }
 }
 
-int job_take(msgq *queues, const struct held *held, const struct hands *hands, uint32_t queue, int64_t type, struct job *job) {
+int job_take(msgq *queues, const struct held *held, const struct hands *hands, uint32_t queue, int64_t type,
+             struct job *job) {
     struct msgq_info info;
     job->queue = queue;
     int wrong = msgq_stat(queues, queue, &info);

@@ -1,5 +1,5 @@
-/* The program `msgq`: the verbs of its table run here, over libmsgq; every other command is handed to the proved program, which takes
- * the place of this process. */
+/* The program `msgq`: the verbs of its table run here, over libmsgq; every other command is handed to the proved
+ * program, which takes the place of this process. */
 #include "front.h"
 
 #include <errno.h>
@@ -66,8 +66,8 @@ static int hand_over(char **argv) {
 
 /* ---- help */
 
-/* Prints a line of the proved program's help, and what this program adds: its verbs before the last command, which is `help`, and their
- * status behind the last one. */
+/* Prints a line of the proved program's help, and what this program adds: its verbs before the last command, which is
+ * `help`, and their status behind the last one. */
 static void print_line(const char *line, bool *is_behind_status) {
     int column = 0;
     /* `  help     Print ..`: the others begin at its columns. */

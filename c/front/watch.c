@@ -32,7 +32,7 @@ static bool is_same_moment(struct timespec one, struct timespec other) {
 
 static bool is_same(const struct traits *one, const struct traits *other) {
     return one->device == other->device && one->inode == other->inode && one->size == other->size
-        && is_same_moment(one->written, other->written) && is_same_moment(one->changed, other->changed);
+           && is_same_moment(one->written, other->written) && is_same_moment(one->changed, other->changed);
 }
 
 int watch_begin(struct watch *it, const char *path) {

@@ -1,5 +1,5 @@
-/* Waits for another process to change a file, without opening it: by what the system tells of its folder (inotify), else by 50 looks a
- * second at its size and its moments. */
+/* Waits for another process to change a file, without opening it: by what the system tells of its folder (inotify),
+ * else by 50 looks a second at its size and its moments. */
 #ifndef MSGQ_WATCH_H
 #define MSGQ_WATCH_H
 
@@ -32,7 +32,8 @@ void watch_end(struct watch *it);
 /* From here on a change counts: to be called before a look at the file. */
 void watch_note(struct watch *it);
 
-/* Waits until the file has changed, a second has passed, or the moment (of CLOCK_MONOTONIC) is over, where there is one. */
+/* Waits until the file has changed, a second has passed, or the moment (of CLOCK_MONOTONIC) is over, where there is
+ * one. */
 enum found watch_wait(struct watch *it, const struct timespec *end);
 
 #endif

@@ -18,8 +18,8 @@ struct words {
     char **at;
 };
 
-/* Whether the next word is this option, long as `--type` or short as `t` behind one hyphen; its value, behind `=` or behind the short
- * name, goes to `value`, NULL for none. Takes the word. */
+/* Whether the next word is this option, long as `--type` or short as `t` behind one hyphen; its value, behind `=` or
+ * behind the short name, goes to `value`, NULL for none. Takes the word. */
 bool take_option(struct words *words, const char *name, char short_name, const char **value);
 
 /* The value of an option: what stands behind it, or else the next word; NULL where there is none. */

@@ -1,5 +1,5 @@
-/* Each call of the library and of the system that `msgq do` makes fails in turn: then no message is lost, none is there twice, and what
- * is in hand is given back. Run with the path of a new file. */
+/* Each call of the library and of the system that `msgq do` makes fails in turn: then no message is lost, none is
+ * there twice, and what is in hand is given back. Run with the path of a new file. */
 #include "../front/front.h"
 #include "../front/jobs.h"
 #include "../msgq.h"
@@ -40,11 +40,31 @@ void complain(const char *format, ...) {
 
 /* ---- calls that fail */
 
-enum call { NONE, OPENING, GET, SEND, RECEIVE, STAT, SET, REMOVE, LIST, CLOSE, FCNTL, CLOCK, PIPE, FORK, NOTIFY, REALPATH, OPEN, CALLS };
+enum call {
+    NONE,
+    OPENING,
+    GET,
+    SEND,
+    RECEIVE,
+    STAT,
+    SET,
+    REMOVE,
+    LIST,
+    CLOSE,
+    FCNTL,
+    CLOCK,
+    PIPE,
+    FORK,
+    NOTIFY,
+    REALPATH,
+    OPEN,
+    CALLS
+};
 
 static const char *const names[] = {
-    "none", "msgq_open_wait", "msgq_get", "msgq_send", "msgq_receive", "msgq_stat", "msgq_set", "msgq_remove", "msgq_list", "msgq_close",
-    "fcntl", "clock_gettime", "pipe2", "fork", "inotify_init1", "realpath", "open",
+    "none",     "msgq_open_wait", "msgq_get",      "msgq_send",  "msgq_receive", "msgq_stat",
+    "msgq_set", "msgq_remove",    "msgq_list",     "msgq_close", "fcntl",        "clock_gettime",
+    "pipe2",    "fork",           "inotify_init1", "realpath",   "open",
 };
 
 static enum call which;
@@ -60,21 +80,25 @@ static bool is_now(enum call call) {
 #define WRAP(kind, name, call, fails, parameters, arguments) \
     kind __real_##name parameters; \
     kind __wrap_##name parameters; \
-    kind __wrap_##name parameters { return is_now(call) ? (fails) : __real_##name arguments; }
+    kind __wrap_##name parameters { \
+        return is_now(call) ? (fails) : __real_##name arguments; \
+    }
 
-WRAP(int, msgq_open_wait, OPENING, number, (const char *path, const struct timespec *limit, msgq **it), (path, limit, it))
-WRAP(int, msgq_get, GET, number, (msgq *it, int64_t key, int flags, uint32_t *id), (it, key, flags, id))
+WRAP(int, msgq_open_wait, OPENING, number, (const char *path, const struct timespec *limit, msgq **it),
+     (path, limit, it))
+WRAP(int, msgq_get, GET, number, (msgq * it, int64_t key, int flags, uint32_t *id), (it, key, flags, id))
 WRAP(int, msgq_send, SEND, number,
-     (msgq *it, uint32_t id, int64_t type, const void *body, size_t length, int flags, const struct timespec *limit),
+     (msgq * it, uint32_t id, int64_t type, const void *body, size_t length, int flags, const struct timespec *limit),
      (it, id, type, body, length, flags, limit))
 WRAP(int, msgq_receive, RECEIVE, number,
-     (msgq *it, uint32_t id, int64_t type, void *room, size_t size, int flags, const struct timespec *limit, struct msgq_message *got),
+     (msgq * it, uint32_t id, int64_t type, void *room, size_t size, int flags, const struct timespec *limit,
+      struct msgq_message *got),
      (it, id, type, room, size, flags, limit, got))
-WRAP(int, msgq_stat, STAT, number, (msgq *it, uint32_t id, struct msgq_info *info), (it, id, info))
-WRAP(int, msgq_set, SET, number, (msgq *it, uint32_t id, const struct msgq_change *change), (it, id, change))
-WRAP(int, msgq_remove, REMOVE, number, (msgq *it, uint32_t id), (it, id))
-WRAP(int, msgq_list, LIST, number, (msgq *it, uint32_t after, uint32_t *id), (it, after, id))
-WRAP(int, msgq_close, CLOSE, number, (msgq *it), (it))
+WRAP(int, msgq_stat, STAT, number, (msgq * it, uint32_t id, struct msgq_info *info), (it, id, info))
+WRAP(int, msgq_set, SET, number, (msgq * it, uint32_t id, const struct msgq_change *change), (it, id, change))
+WRAP(int, msgq_remove, REMOVE, number, (msgq * it, uint32_t id), (it, id))
+WRAP(int, msgq_list, LIST, number, (msgq * it, uint32_t after, uint32_t *id), (it, after, id))
+WRAP(int, msgq_close, CLOSE, number, (msgq * it), (it))
 WRAP(int, clock_gettime, CLOCK, -1, (clockid_t clock, struct timespec *to), (clock, to))
 WRAP(int, pipe2, PIPE, -1, (int *files, int flags), (files, flags))
 WRAP(pid_t, fork, FORK, -1, (void), ())
@@ -150,7 +174,8 @@ static void limit(uint32_t qbytes) {
 
 struct tally {
     int one, two;     /* on all queues */
-    int right, hands; /* of these on the queue of key 7, with the type that they were sent with; private queues with more than a label */
+    int right, hands; /* of these on the queue of key 7, with the type that they were sent with; private queues with
+                         more than a label */
 };
 
 static void count(msgq *queues, uint32_t id, struct tally *it) {
@@ -160,7 +185,8 @@ static void count(msgq *queues, uint32_t id, struct tally *it) {
     must(msgq_stat(queues, id, &info), "stat");
     it->hands += info.key == MSGQ_PRIVATE && info.qnum > 1;
     while (msgq_receive(queues, id, 0, body, sizeof body, MSGQ_NOWAIT, NULL, &got) == 0) {
-        bool is_one = got.length == 3 && memcmp(body, "one", 3) == 0, is_two = got.length == 3 && memcmp(body, "two", 3) == 0;
+        bool is_one = got.length == 3 && memcmp(body, "one", 3) == 0,
+             is_two = got.length == 3 && memcmp(body, "two", 3) == 0;
         it->one += is_one;
         it->two += is_two;
         it->right += info.key == 7 && ((is_one && got.type == 3) || (is_two && got.type == 4));
@@ -223,7 +249,8 @@ static void die_in_hand(void) {
 
 enum deed { SUCCEEDS, FAILS, SUCCEEDS_BEHIND, RECOVERS, FULL };
 
-static const char *const deeds[] = {"done", "not done", "done behind a dead worker", "recovered", "recovered where there is no room"};
+static const char *const deeds[] = {"done", "not done", "done behind a dead worker", "recovered",
+                                    "recovered where there is no room"};
 
 /* What the file has before a deed. */
 static char *bytes;
@@ -283,9 +310,10 @@ static bool fails_once(enum deed deed, enum call call, int at, int wrong) {
 
 static void each_fails(enum deed deed) {
     static const int wrongs[CALLS] = {
-        [OPENING] = EACCES, [GET] = ENOMEM, [SEND] = ENOMEM, [RECEIVE] = ENOMEM, [STAT] = ENOMEM, [SET] = ENOMEM, [REMOVE] = ENOMEM,
-        [LIST] = ENOMEM, [CLOSE] = EIO, [FCNTL] = ENOLCK, [CLOCK] = EINVAL, [PIPE] = EMFILE, [FORK] = EAGAIN, [NOTIFY] = EMFILE,
-        [REALPATH] = EACCES, [OPEN] = EMFILE,
+        [OPENING] = EACCES, [GET] = ENOMEM,    [SEND] = ENOMEM,     [RECEIVE] = ENOMEM,
+        [STAT] = ENOMEM,    [SET] = ENOMEM,    [REMOVE] = ENOMEM,   [LIST] = ENOMEM,
+        [CLOSE] = EIO,      [FCNTL] = ENOLCK,  [CLOCK] = EINVAL,    [PIPE] = EMFILE,
+        [FORK] = EAGAIN,    [NOTIFY] = EMFILE, [REALPATH] = EACCES, [OPEN] = EMFILE,
     };
     prepare(deed);
     for (enum call call = NONE + 1; call < CALLS; call++) {

@@ -7,7 +7,8 @@
 #include <sys/wait.h>
 #include <unistd.h>
 
-/* A machine that has much else to do holds up whoever waits: so of three rounds the quickest counts, by the mean of its waits. */
+/* A machine that has much else to do holds up whoever waits: so of three rounds the quickest counts, by the mean of
+ * its waits. */
 enum { ROUNDS = 3, WAITS = 10, MOST_LATE = 20 };
 
 static const char *path;
