@@ -23,6 +23,13 @@ const MOST_PAGES: u32 = 2_000;
 /// What is wanted where no page can be looked at.
 const NO_PAGE: Wrong = Wrong::Wanted("a page of a file, or records,");
 
+/// Pages each of which names the next.
+#[derive(Clone, Copy)]
+enum PageList {
+    Chain,
+    Free,
+}
+
 impl Bench {
     /// Looks, and tells what stands there.
     pub(crate) fn look(&mut self, look: Look, line: &mut Line) -> Result<(), Wrong> {
@@ -33,10 +40,10 @@ impl Bench {
                 let at = 16 + 4 * (index % ENTRIES) as usize;
                 line.number(u64::from(page_at(&payload, at)));
             }
-            Look::Chain => self.walk(ROOT, next_of, line)?,
+            Look::Chain => self.walk(PageList::Chain, ROOT, line)?,
             Look::Free => {
                 let first = page_at(&self.payload(0)?, 16);
-                self.walk(first, free_behind, line)?;
+                self.walk(PageList::Free, first, line)?;
             }
             Look::Page(page) => tell_page(&self.payload(page)?, line),
             Look::Numbers(page) => tell_numbers(&self.payload(page)?, line),
@@ -58,13 +65,8 @@ impl Bench {
         }
     }
 
-    /// Tells the pages that are met from a page on, until there is no next.
-    fn walk(
-        &mut self,
-        first: u32,
-        next: fn(&Payload) -> u32,
-        line: &mut Line,
-    ) -> Result<(), Wrong> {
+    /// Tells the pages of a list from its first page on.
+    fn walk(&mut self, list: PageList, first: u32, line: &mut Line) -> Result<(), Wrong> {
         if first == 0 {
             line.word("none");
         }
@@ -74,7 +76,11 @@ impl Bench {
                 return Ok(());
             }
             line.number(u64::from(page));
-            page = next(&self.payload(page)?);
+            let payload = self.payload(page)?;
+            page = match list {
+                PageList::Chain => next_of(&payload),
+                PageList::Free => free_behind(&payload),
+            };
         }
         line.word("and on");
         Ok(())
