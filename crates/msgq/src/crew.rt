@@ -80,14 +80,15 @@ impl<R: Wait> Waiter for ThreadASeat<'_, R> {
 /// can be started are each replied 60. How many calls were decided so far is seen by the pass, if
 /// there is one.
 pub fn make_all<
+    'a,
     's,
     R: Threads + Wait + Clock + Eprint + Sync,
     D: PageDevice + Drop + Send,
     N: Room + Base + Send + Sync,
 >(
-    crew: &ThreadASeat<'_, R>,
-    service: &Shared<D, N>,
-    stopper: Option<&Mutex<Stopper<N>>>,
+    crew: &'a ThreadASeat<'a, R>,
+    service: &'a Shared<D, N>,
+    stopper: Option<&'a Mutex<Stopper<N>>>,
     gauge: Option<GaugePass<Entry, Call, N>>,
     desks: Vec<Desk<'s, N>>,
 ) -> Vec<Desk<'s, N>>

@@ -23,7 +23,7 @@ use std::marker::Brand;
 use std::sync::{Mutex, Wait};
 use std::thread::Threads;
 use std::time::Clock;
-use workers::{Base, GaugePass, Open, Prepared, Room, Stopper};
+use workers::{Base, GaugePass, Open, Prepared, Room, Started, Stopper};
 
 /// Runs a script on the file of a device, the lines of each seat in a thread of its own, and closes
 /// the file once all answers were handed on.
@@ -120,26 +120,25 @@ fn run_prepared<
             leave_refused(OpenFault::NoMemory, output),
         );
     };
-    let mut started = match prepared.start::<Open, N>(Open) {
+    let started = match prepared.start::<Open, N>(Open) {
         Ok(started) => started,
         Err(device) => return Ran::unrun(device, leave_refused(OpenFault::NoMemory, output)),
     };
-    let gauge = started.passes.pop();
+    let Started {
+        service,
+        seats: sitters,
+        stopper,
+        mut passes,
+    } = started;
+    let gauge = passes.pop();
     let Plan {
         script,
         seats,
         mut printed,
     } = plan;
     script.keeps_seats();
-    let desks = at_desks(started.seats, seats, desks);
-    let (desks, lent) = make_lines(
-        crew,
-        &started.service,
-        started.stopper,
-        gauge,
-        desks,
-        script.lines(),
-    );
+    let desks = at_desks(sitters, seats, desks);
+    let (desks, lent) = make_lines(crew, &service, stopper, gauge, desks, script.lines());
     let (so_far, has_stopped) = print_all(
         script.lines(),
         desks.as_slice(),
@@ -148,8 +147,8 @@ fn run_prepared<
     );
     output.flush();
     let is_untold = output.has_refused();
-    let stopper = stop_if(crew, &started.service, lent, has_stopped);
-    let (ended, fault) = end_service(started.service, seats_of(desks, back), stopper, is_untold);
+    let stopper = stop_if(crew, &service, lent, has_stopped);
+    let (ended, fault) = end_service(service, seats_of(desks, back), stopper, is_untold);
     let ending = tell_end(fault, so_far, output);
     Ran {
         device: ended.device,
