@@ -1,4 +1,4 @@
-use Rattle.std.proofs.Common.{rules, ◌≡◌, ◌≤◌, ◌<◌, Bool, List, length, refl, sym, ap, ◌∙◌, subst, arith, ℕ}
+use Rattle.std.proofs.Common.{rules, ◌≡◌, ◌≤◌, ◌<◌, Bool, false, List, length, refl, sym, ap, ◌∙◌, subst, arith, ℕ}
 use denote.Param.Send.{sendable}
 use Rattle.std.specs.List.{list_any}
 use Rattle.std.specs.Prelude.{replicate}
@@ -77,7 +77,7 @@ print_all-so_far-requires-clause-made g c =
     let new = c.in-Ok-start.ensures.seats ∙ ap newcomers c.requires.many in
     let paired = subst (λ (l : List Sitter). ArePaired l c.args.plan.seats.items c.at_desks-desks.result.items) new
     c.at_desks-desks.ensures in
-    rw c.lines.ensures
+    rw c.lines-2.ensures
     (rw c.as_slice.ensures.value
     (of_seats _ _ _ _ c.requires.plan.seats paired _ _ c.make_lines-desks.ensures.made
     (seats_within c.args.plan.script.now.lines c.keeps_seats.ensures.seats)))
@@ -127,8 +127,8 @@ returns-clause-ran g c =
     let first = c.print_all-so_far.new.output in
     let stopped = c.print_all-so_far.result.1 in
     let printed = subst (λ (l : List Line). IsPrintedOf l c.make_lines-desks.result.0.items c.args.output.now first
-    c.print_all-so_far.result.0 stopped) c.lines.ensures
-    (subst (λ (l : List DeskView). IsPrintedOf c.lines.result.now l c.args.output.now first c.print_all-so_far.result.0
+    c.print_all-so_far.result.0 stopped) c.lines-2.ensures
+    (subst (λ (l : List DeskView). IsPrintedOf c.lines-2.result.now l c.args.output.now first c.print_all-so_far.result.0
     stopped) c.as_slice.ensures.value c.print_all-so_far.ensures) in
     let ended = subst (λ (l : List Sitter). HasEnded g.N.Base.origin l c.stop_if-stopper.result.used
     c.has_refused-is_untold.result c.end_service-ended.result.1
@@ -137,7 +137,8 @@ returns-clause-ran g c =
     let pages = sym (ap (λ (o : Origin). o.content) c.requires.origin) in
     let framed = subst HasFrames c.requires.origin c.requires.frames in
     let callers = sym (ap (λ (o : Origin). length o.callers) c.requires.origin) ∙ c.requires.many in
-    let unused = λ none. c.make_lines-desks.ensures.none (ap (list_any is_stop) c.lines.ensures ∙ none)
+    let unused : list_any is_stop c.args.plan.script.now.lines ≡ false → c.make_lines-desks.result.1.used ≡ false =
+    λ none. c.make_lines-desks.ensures.none (ap (list_any is_stop) c.lines.ensures ∙ none)
     ∙ c.in-Ok-start.ensures.stopper in
     λ was before. from_origin _ _ (counted_from was g.N.Base.origin) _ _ (ap (counted_from was) c.requires.origin)
     (beside c.args.plan.script.now c.make_lines-desks.result.0.items made _ callers done
