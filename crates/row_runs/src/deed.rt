@@ -259,21 +259,35 @@ fn look_at(verb: &[u8], words: &mut Words<'_>) -> Result<Option<Look>, Wrong> {
     }))
 }
 
-/// A deed with a record, if the verb is one of these.
-fn record_deed(verb: &[u8], words: &mut Words<'_>) -> Result<Option<RecordDeed>, Wrong> {
-    let ends = verb != b"start".as_slice();
-    let verb = if ends {
-        verb
-    } else {
-        words.next().unwrap_or(b"")
-    };
-    let operation = match verb {
+/// A word that names nothing that is done with a record.
+const NO_OPERATION: Wrong = Wrong::Wanted("search, find, insert or delete");
+
+/// What a word names that is done with a record.
+fn operation_named(word: &[u8]) -> Option<Operation> {
+    Some(match word {
         b"search" => Operation::Search,
         b"find" => Operation::Find,
         b"insert" => Operation::Insert(0),
         b"delete" => Operation::Delete,
-        _ if ends => return Ok(None),
-        _ => return Err(Wrong::Wanted("search, find, insert or delete")),
+        _ => return None,
+    })
+}
+
+/// A deed with a record, if the verb is one of these.
+fn record_deed(verb: &[u8], words: &mut Words<'_>) -> Result<Option<RecordDeed>, Wrong> {
+    let ends = verb != b"start".as_slice();
+    let named = if ends {
+        operation_named(verb)
+    } else {
+        let Some(word) = words.next() else {
+            return Err(NO_OPERATION);
+        };
+        operation_named(word)
+    };
+    let operation = match named {
+        Some(operation) => operation,
+        None if ends => return Ok(None),
+        None => return Err(NO_OPERATION),
     };
     let key = words.one_key()?;
     let operation = match operation {

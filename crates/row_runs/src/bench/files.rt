@@ -169,32 +169,45 @@ impl Bench {
 
     /// Whoever works on the file ends, and its pages are written.
     fn close(&mut self, line: &mut Line) -> Result<(), Wrong> {
-        match mem::replace(&mut self.stage, Stage::Nothing) {
-            Stage::Seats(seats) => match seats.kernel.close() {
-                Ok(closed) => {
-                    let Closed { device, journal } = closed;
-                    self.lists.tell(journal.as_slice(), line);
-                    self.stage = Stage::File(device);
-                }
-                Err(NotClosed::Busy(kernel)) => {
-                    self.stage = Stage::Seats(Seats::new(kernel));
-                    line.word("busy");
-                }
-                Err(NotClosed::Fault(_, fault)) => tell_fault(line, fault.number()),
-            },
-            Stage::Machines(machines) => match machines.trial.close() {
-                Ok(device) => {
-                    self.stage = Stage::File(device);
-                    line.word("ok");
-                }
-                Err(fault) => tell_fault(line, fault.number()),
-            },
+        let stage = mem::replace(&mut self.stage, Stage::Nothing);
+        match stage {
+            Stage::Seats(seats) => self.close_seats(seats, line),
+            Stage::Machines(machines) => self.close_machines(machines, line),
             other => {
                 self.stage = other;
                 return Err(Wrong::Elsewhere("a kernel or records"));
             }
         }
         Ok(())
+    }
+
+    /// The kernel is closed, and its journal told. With a call under way it stays.
+    fn close_seats(&mut self, seats: Seats, line: &mut Line) {
+        let closed = seats.kernel.close();
+        match closed {
+            Ok(closed) => {
+                let Closed { device, journal } = closed;
+                self.lists.tell(journal.as_slice(), line);
+                self.stage = Stage::File(device);
+            }
+            Err(NotClosed::Busy(kernel)) => {
+                self.stage = Stage::Seats(Seats::new(kernel));
+                line.word("busy");
+            }
+            Err(NotClosed::Fault(_closed, fault)) => tell_fault(line, fault.number()),
+        }
+    }
+
+    /// The pages on which machines have worked are written.
+    fn close_machines(&mut self, machines: Machines, line: &mut Line) {
+        let closed = machines.trial.close();
+        match closed {
+            Ok(device) => {
+                self.stage = Stage::File(device);
+                line.word("ok");
+            }
+            Err(fault) => tell_fault(line, fault.number()),
+        }
     }
 
     /// The file is checked whole, and it is told what it holds or what is wrong with it.
