@@ -119,14 +119,15 @@ fn what_is_not_printed_stays(rt: HostRuntime) -> Result<(), Fail> {
     );
     assert!(rt; matches!(refused.came, Err(CommandError::Unprinted(_))));
     let mut device = refused.device;
-    let shown: &[u8] = b"SERIAL\tTYPE\tSENDER\tLENGTH\tBODY\n1\t5\t42\t4\ta...\n2\t5\t42\t1\tc\n";
+    let shown: &[u8] = b"SERIAL\tTYPE\tSENDER\tLENGTH\tBODY\n1\t5\t42\t4\ta...\n2\t5\t42\t1\tc\n\
+        total\t\t\t5\tmessages: 2\n";
     let looks: [(Look, &[u8]); 3] = [
         (Look::Command(request(receiving(1))), b"a\0\xff\n"),
         (Look::Messages(QueueName::Id(1), Form::Table), shown),
         (
             Look::Queues(Form::Json),
             b"{\"queues\":[{\"id\":1,\"key\":7,\"msg_cbytes\":5,\"msg_ctime\":17,\"msg_lrpid\":0,\"msg_lspid\":42,\
-            \"msg_perm\":{\"cgid\":0,\"cuid\":0,\"gid\":0,\"mode\":384,\"uid\":0},\"msg_qbytes\":16384,\
+            \"msg_perm\":{\"cgid\":0,\"cuid\":0,\"gid\":0,\"mode\":384,\"mode_octal\":\"600\",\"uid\":0},\"msg_qbytes\":16384,\
             \"msg_qnum\":2,\"msg_rtime\":0,\"msg_stime\":17}]}\n",
         ),
     ];
