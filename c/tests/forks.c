@@ -122,21 +122,26 @@ static void a_child_ends(void) {
 
 /* A process ends without a close, and its child lives on. */
 static void a_parent_ends(void) {
-    int ends[2], status = 0;
+    int ends[2], runs[2], status = 0;
     char byte;
-    if (pipe(ends) != 0)
+    if (pipe(ends) != 0 || pipe(runs) != 0)
         exit(2);
     pid_t parent = fork();
     if (parent == 0) {
         inherited = opened();
         if (fork() == 0) {
             close(ends[1]);
+            (void)!write(runs[1], "", 1);
             (void)!read(ends[0], &byte, 1);
             _exit(0);
         }
+        /* (a child lets go of the lock before its fork comes back) */
+        (void)!read(runs[0], &byte, 1);
         _exit(failed > 0);
     }
     close(ends[0]);
+    close(runs[0]);
+    close(runs[1]);
     waitpid(parent, &status, 0);
     is(status, 0, "a process that ends");
     is(tried(), 0, "its file while its child lives");
