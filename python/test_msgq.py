@@ -2,6 +2,7 @@
 
 import errno
 import os
+import signal
 import sys
 import threading
 from pathlib import Path
@@ -21,6 +22,8 @@ def expect_words(call, arguments, *words):
             expect(word in str(error), True, f"{word!r} in {str(error)!r}")
 
 
+# Where the shell that began this ignores the signal, as it does for a command in the background, so would all that is begun here.
+signal.signal(signal.SIGINT, signal.default_int_handler)
 path = sys.argv[1]
 msgq.create(path)
 expect(refusal(msgq.create, path), errno.EEXIST, "a file that is there")
