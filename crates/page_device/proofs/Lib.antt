@@ -1,3 +1,4 @@
+pub mod CrashLemmas
 pub mod PageLemmas
 pub mod PagesLemmas
 pub mod CopyLemmas

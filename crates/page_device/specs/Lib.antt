@@ -1,3 +1,4 @@
+pub mod Crash
 pub mod Device
 pub mod Fault
 pub mod Faulty

@@ -1,5 +1,6 @@
 //! A device one of whose transfers fails, for trials.
-ghost use Rattle.std.specs.Prelude.{◌≡◌, ◌↔◌, ◌≤◌, ◌<◌, ◌+◌, ◌-◌, [], ◌∷◌, ◌++◌, min, length, Some, slice_get, slice_set, IsTrue, OnOk, OnErr, IsErrOf, if◌then◌else◌};
+ghost use Rattle.std.specs.Prelude.{◌≡◌, ◌↔◌, ◌≤◌, ◌<◌, ◌+◌, ◌-◌, [], ◌∷◌, ◌++◌, min, length, Some, slice_get, slice_set, IsTrue, OnOk, OnErr, IsErrOf, is_ok, if◌then◌else◌};
+ghost use Rattle.page_device.specs.Crash.{LeavesEither, LeavesLastSync, StaysAs};
 ghost use Rattle.page_device.specs.Device.{DiffersAtMostAt, HasCause, MayMeetTheEnd, MayBeFull, MayOnlyFail, MOST_FAULTS};
 
 use crate::device::PageDevice;
@@ -68,6 +69,8 @@ impl<D: PageDevice> PageDevice for FaultyDevice<D> {
 
     ghost fault_count = { λ f. count_of D.fault_count f };
 
+    ghost after_crash = { λ f. D.after_crash f.inner };
+
     fn pages(&self) -> u32 {
         self.inner.pages()
     }
@@ -83,6 +86,7 @@ impl<D: PageDevice> PageDevice for FaultyDevice<D> {
             (length (D.content (inner_of self.old)) ≤ page) }
         ensures same { D.content (inner_of self.new) ≡ D.content (inner_of self.old) }
         ensures honest { D.is_honest (inner_of self.new) ≡ D.is_honest (inner_of self.old) }
+        ensures crash { D.after_crash (inner_of self.new) ≡ D.after_crash (inner_of self.old) }
         ensures call { Calls MayMeetTheEnd D.fault_count
             (length (D.content (inner_of self.old)) ≤ page) self.old self.new result }
     {
@@ -95,6 +99,7 @@ impl<D: PageDevice> PageDevice for FaultyDevice<D> {
         self.inner.read(page, into)
     }
 
+    #[tactic(auto, using(crate::proofs::CrashLemmas::same_stays))]
     fn write(&mut self, page: u32, bytes: &Page) -> Result<(), DeviceFault>
         ensures ok { IsTrue (D.is_honest (inner_of self.old)) →
             OnOk result (D.content (inner_of self.new) ≡
@@ -104,6 +109,8 @@ impl<D: PageDevice> PageDevice for FaultyDevice<D> {
         ensures others { DiffersAtMostAt page
             (D.content (inner_of self.old)) (D.content (inner_of self.new)) }
         ensures honest { D.is_honest (inner_of self.new) ≡ D.is_honest (inner_of self.old) }
+        ensures crash { LeavesLastSync
+            (D.after_crash (inner_of self.old)) (D.after_crash (inner_of self.new)) }
         ensures call { Calls MayMeetTheEnd D.fault_count
             (length (D.content (inner_of self.old)) ≤ page) self.old self.new result }
     {
@@ -116,6 +123,7 @@ impl<D: PageDevice> PageDevice for FaultyDevice<D> {
         self.inner.write(page, bytes)
     }
 
+    #[tactic(auto, using(crate::proofs::CrashLemmas::same_as))]
     fn extend(&mut self, bytes: &Page) -> Result<(), DeviceFault>
         ensures ok { IsTrue (D.is_honest (inner_of self.old)) →
             OnOk result (D.content (inner_of self.new) ≡
@@ -125,7 +133,9 @@ impl<D: PageDevice> PageDevice for FaultyDevice<D> {
         ensures full { IsErrOf result DeviceFault.DeviceFull ↔
             (MAX_PAGES ≤ length (D.content (inner_of self.old))) }
         ensures err { OnErr result (D.content (inner_of self.new) ≡ D.content (inner_of self.old)) }
-        ensures honest { D.is_honest (inner_of self.new) ≡ D.is_honest (inner_of self.old) }
+        ensures stays { StaysAs
+            (D.is_honest (inner_of self.old)) (D.is_honest (inner_of self.new))
+            (D.after_crash (inner_of self.old)) (D.after_crash (inner_of self.new)) }
         ensures call { Calls MayBeFull D.fault_count
             (MAX_PAGES ≤ length (D.content (inner_of self.old))) self.old self.new result }
     {
@@ -138,11 +148,14 @@ impl<D: PageDevice> PageDevice for FaultyDevice<D> {
         self.inner.extend(bytes)
     }
 
+    #[tactic(auto, using(crate::proofs::CrashLemmas::same_synced))]
     fn sync(&mut self) -> Result<(), DeviceFault>
         ensures ok { IsTrue (D.is_honest (inner_of self.old)) →
             OnOk result (IsTrue (D.is_synced (inner_of self.new))) }
         ensures same { D.content (inner_of self.new) ≡ D.content (inner_of self.old) }
         ensures honest { D.is_honest (inner_of self.new) ≡ D.is_honest (inner_of self.old) }
+        ensures crash { LeavesEither (is_ok result) (D.content (inner_of self.old))
+            (D.after_crash (inner_of self.old)) (D.after_crash (inner_of self.new)) }
         ensures call { Calls MayOnlyFail D.fault_count ⊥ self.old self.new result }
     {
         if is_due(&mut self.left, &mut self.failed) {

@@ -38,6 +38,7 @@ impl<F: PageFile> FileDevice<F> {
 }
 
 impl<F: PageFile> PageDevice for FileDevice<F> {
+    ghost use Rattle.page_device.specs.Crash.{unknown};
     ghost use Rattle.page_device.specs.Pages.{first_pages};
 
     ghost is_honest = { λ d. F.is_honest d.file };
@@ -47,6 +48,8 @@ impl<F: PageFile> PageDevice for FileDevice<F> {
     ghost is_synced = { λ d. F.is_synced d.file };
 
     ghost fault_count = { λ d. d.failed };
+
+    ghost after_crash = { λ _. unknown };
 
     #[tactic(auto, using(crate::proofs::PagesLemmas::first_pages_length))]
     fn pages(&self) -> u32 {
@@ -69,7 +72,7 @@ impl<F: PageFile> PageDevice for FileDevice<F> {
         Ok(())
     }
 
-    #[tactic(auto, using(crate::proofs::PagesLemmas::first_pages_length, crate::proofs::PagesLemmas::first_pages_set))]
+    #[tactic(auto, using(crate::proofs::PagesLemmas::first_pages_length, crate::proofs::PagesLemmas::first_pages_set, crate::proofs::CrashLemmas::unknown_stays))]
     fn write(&mut self, page: u32, bytes: &Page) -> Result<(), DeviceFault> {
         if self.pages <= page {
             return Err(DeviceFault::PastEnd);
@@ -81,7 +84,7 @@ impl<F: PageFile> PageDevice for FileDevice<F> {
         Ok(())
     }
 
-    #[tactic(auto, using(crate::proofs::PagesLemmas::first_pages_length, crate::proofs::PagesLemmas::first_pages_same))]
+    #[tactic(auto, using(crate::proofs::PagesLemmas::first_pages_length, crate::proofs::PagesLemmas::first_pages_same, crate::proofs::CrashLemmas::unknown_as))]
     fn extend(&mut self, bytes: &Page) -> Result<(), DeviceFault> {
         if self.pages >= MAX_PAGES {
             return Err(DeviceFault::DeviceFull);
@@ -96,6 +99,7 @@ impl<F: PageFile> PageDevice for FileDevice<F> {
         Ok(())
     }
 
+    #[tactic(auto, using(crate::proofs::CrashLemmas::unknown_synced))]
     fn sync(&mut self) -> Result<(), DeviceFault> {
         let Ok(()) = self.file.sync() else {
             count_failure(&mut self.failed);

@@ -37,6 +37,7 @@ impl MemDevice {
 
 impl PageDevice for MemDevice {
     ghost use Rattle.std.specs.Prelude.{true};
+    ghost use Rattle.page_device.specs.Crash.{unknown};
 
     ghost is_honest = { λ _. true };
 
@@ -45,6 +46,8 @@ impl PageDevice for MemDevice {
     ghost is_synced = { λ _. true };
 
     ghost fault_count = { λ _. 0 };
+
+    ghost after_crash = { λ _. unknown };
 
     fn pages(&self) -> u32 {
         self.pages.len() as u32
@@ -62,6 +65,7 @@ impl PageDevice for MemDevice {
         Ok(())
     }
 
+    #[tactic(auto, using(crate::proofs::CrashLemmas::unknown_stays))]
     fn write(&mut self, page: u32, bytes: &Page) -> Result<(), DeviceFault> {
         if page as usize >= self.pages.len() {
             return Err(DeviceFault::PastEnd);
@@ -70,6 +74,7 @@ impl PageDevice for MemDevice {
         Ok(())
     }
 
+    #[tactic(auto, using(crate::proofs::CrashLemmas::unknown_as))]
     fn extend(&mut self, bytes: &Page) -> Result<(), DeviceFault> {
         if self.pages.len() >= MAX_PAGES as usize {
             return Err(DeviceFault::DeviceFull);
@@ -78,6 +83,7 @@ impl PageDevice for MemDevice {
         Ok(())
     }
 
+    #[tactic(auto, using(crate::proofs::CrashLemmas::unknown_synced))]
     fn sync(&mut self) -> Result<(), DeviceFault> {
         Ok(())
     }
