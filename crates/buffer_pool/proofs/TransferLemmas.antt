@@ -2,6 +2,8 @@
 use Rattle.std.proofs.Common.{◌≡◌, ℕ, ◌<◌, ◌≤◌, Bool, List, arith, ◌↔◌, Result, Ok, Err, IsErr, IsErrOf, IsErrAnd, refl, sym, subst, ap, ◌∙◌, [], IsTrue, IsSome, Option, Some, None}
 use Rattle.std.proofs.Common.{slice_index_or, slice_set, length, ◌⊎◌, inl, inr}
 use Rattle.std.specs.Prelude.{is_ok, false}
+use Rattle.page_device.specs.Crash.{AfterCrash, LeavesLastSync}
+use Rattle.page_device.proofs.CrashLemmas.{same_stays}
 use Rattle.page_device.specs.Device.{HasCause, MayMeetTheEnd, MayOnlyFail}
 use Rattle.page_device.specs.declared.fault.DeviceFault.{DeviceFault}
 use Rattle.page_device.specs.declared.fault.DeviceFault.TheVariants.{Device, BadDigest, PastEnd, DeviceFull, NoMemory}
@@ -56,7 +58,7 @@ only_fails NoMemory old new pages page cause past within = absurd cause.told
 
 -- the frames below one were written back
 pub record IsWritten {D : Type 0} (content : D → List (List ℕ)) (is_honest : D → Bool) (fault_count : D → ℕ)
-    (first : D) (old : Held)
+    (after_crash : D → AfterCrash) (first : D) (old : Held)
     (device : D) (t : Held) (frame : ℕ) : Type 0 where
   pub sound : IsSoundPool (content device) (is_honest device) t
   pub clean : (g : ℕ) → g < frame → IsClean t g
@@ -65,6 +67,14 @@ pub record IsWritten {D : Type 0} (content : D → List (List ℕ)) (is_honest :
   pub honest : is_honest device ≡ is_honest first
   pub later : fault_count first ≤ fault_count device
   pub seals : IsTrue (is_honest first) → KeepsSeals (content first) (content device)
+  pub crash : LeavesLastSync (after_crash first) (after_crash device)
+
+-- a call that asks nothing of a device, or reads it, leaves what a crash leaves
+pub crash_is : (old new : AfterCrash) → new ≡ old → LeavesLastSync old new
+crash_is old new same = subst (λ (a : AfterCrash). LeavesLastSync old a) (sym same) (same_stays old)
+
+pub read_then : (old mid new : AfterCrash) → mid ≡ old → LeavesLastSync mid new → LeavesLastSync old new
+read_then old mid new same leaves = subst (λ (a : AfterCrash). LeavesLastSync a new) same leaves
 
 -- a sealed page is written
 pub seals_written : (stored : List (List ℕ)) (page : ℕ) (sealed : List ℕ) → page < length stored → IsSealed page sealed

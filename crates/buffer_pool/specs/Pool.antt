@@ -1,6 +1,7 @@
 -- What a pool shows: the image of each page, and how often it is pinned.
 use Rattle.std.specs.Prelude.{◌≡◌, ℕ, ◌<◌, ◌≤◌, Bool, false, List, [], map, length, replicate, Option, Some, None}
 use Rattle.std.specs.Prelude.{IsTrue, Result, IsErrOf, IfErr, slice_index_or, nat_le, if◌then◌else◌, ⊤}
+use Rattle.page_device.specs.Crash.{AfterCrash, LeavesEither, LeavesLastSync}
 use Rattle.page_device.specs.Pages.{first_pages}
 use Rattle.page_device.specs.Sealed.{payload_of, IsSealed}
 use Rattle.page_device.specs.Device.{HasRisen}
@@ -21,6 +22,8 @@ pub record PoolState : Type 0 where
   pub honest : Bool
   pub synced : Bool
   pub faults : ℕ
+  -- what the next opening of the device finds after a crash
+  pub after_crash : AfterCrash
 
 -- what is in the frame of a page, or on the device where it has none
 abbrev pub shown : Held → Option ℕ → List ℕ → List ℕ
@@ -70,8 +73,8 @@ abbrev pub payloads_of : List (List ℕ) → List (List ℕ)
 payloads_of stored = map payload_of stored
 
 -- what a pool of so many frames shows of a device when it is opened
-abbrev pub opened : ℕ → List (List ℕ) → Bool → Bool → ℕ → PoolState
-opened frames stored honest synced faults = record {
+abbrev pub opened : ℕ → List (List ℕ) → Bool → Bool → ℕ → AfterCrash → PoolState
+opened frames stored honest synced faults after_crash = record {
   images = payloads_of stored;
   pins = replicate (length stored) 0;
   stored = stored;
@@ -79,6 +82,7 @@ opened frames stored honest synced faults = record {
   honest = honest;
   synced = synced;
   faults = faults;
+  after_crash = after_crash;
 }
 
 -- a page that was sealed on the device is so still
@@ -95,15 +99,28 @@ pub record KeepsImages (succeeded : Bool) (old new : PoolState) : Type 0 where
   pub honest : new.honest ≡ old.honest
   pub seals : IsTrue old.honest → IsTrue succeeded → KeepsSeals old.stored new.stored
 
--- the pages that a pool spares until it is flushed: all that its device has, where there is a frame for each; it is
--- unfoldable, so that crates above see one word
-unfoldable pub spared : PoolState → Option (List (List ℕ))
-spared s = if nat_le (length s.stored) s.frames then Some s.stored else None
+-- what a pool leaves as it is until it is flushed: the pages that its device has, and what a crash leaves of them
+pub record Spared : Type 0 where
+  pub stored : List (List ℕ)
+  pub after_crash : AfterCrash
 
--- nothing but frames has changed
+-- what a pool spares: all of it, where there is a frame for each page; it is unfoldable, so that crates above see one
+-- word
+unfoldable pub spared : PoolState → Option Spared
+spared s =
+    if nat_le (length s.stored) s.frames then Some (record { stored = s.stored; after_crash = s.after_crash })
+    else None
+
+-- nothing but frames has changed; where a page had to leave one, a crash leaves the pages of the last sync
 pub record KeepsStored (succeeded : Bool) (old new : PoolState) : Type 0 where
   pub keeps : KeepsImages succeeded old new
   pub stored : spared new ≡ spared old
+  pub crash : LeavesLastSync old.after_crash new.after_crash
+
+-- a crash while the images are written leaves the pages of the last sync, or those that the device has then; once all
+-- are written, the latter
+abbrev pub LeavesFlushed : (succeeded : Bool) (old new : PoolState) → Type 0
+LeavesFlushed succeeded old new = LeavesEither succeeded new.stored old.after_crash new.after_crash
 
 -- what a pool may tell, and that a failure of the device comes only where its count of faults rose
 pub record PoolHasCause {T : Type 0} (MayTell : PoolFault → Type 0) (old new : ℕ)

@@ -1,5 +1,6 @@
 -- What the transfers of a pool leave.
 use Rattle.std.specs.Prelude.{◌≡◌, ℕ, ◌<◌, Bool, false, List, [], length, Some, IsTrue, slice_index_or, ⊤}
+use Rattle.page_device.specs.Crash.{AfterCrash, LeavesEither, LeavesLastSync}
 use Rattle.page_device.specs.declared.fault.DeviceFault.TheVariants as device
 use Rattle.page_device.specs.Sealed.{IsSealed}
 use Rattle.buffer_pool.specs.Forms.{IsWell}
@@ -28,13 +29,21 @@ pub record KeepsPins (old new : Held) : Type 0 where
   pub places : length new.places ≡ length old.places
   pub frames : length new.pages ≡ length old.pages
 
--- a device is as honest as it was, and where that is so and the call succeeded its seals are whole; where nothing needs
--- to be written it has the same pages
-pub record KeepsDevice (Spares : Type 0) (succeeded was_honest is_honest : Bool) (old new : List (List ℕ))
-    : Type 0 where
-  pub honest : is_honest ≡ was_honest
-  pub seals : IsTrue was_honest → IsTrue succeeded → KeepsSeals old new
-  pub spared : Spares → new ≡ old
+module _ {D : Type 0} (is_honest : D → Bool) (content : D → List (List ℕ)) (after_crash : D → AfterCrash) where
+  -- a device is as honest as it was, and where that is so and the call succeeded its seals are whole; a crash leaves
+  -- the pages of the last sync; where nothing needs to be written it has the same pages, and a crash leaves the same
+  pub record KeepsDevice (Spares : Type 0) (succeeded : Bool) (old new : D) : Type 0 where
+    pub honest : is_honest new ≡ is_honest old
+    pub seals : IsTrue (is_honest old) → IsTrue succeeded → KeepsSeals (content old) (content new)
+    pub crash : LeavesLastSync (after_crash old) (after_crash new)
+    pub spared : Spares → content new ≡ content old
+    pub same : Spares → after_crash new ≡ after_crash old
+
+  -- the same of a device that is synced: a crash leaves the pages of the last sync, or those that there are then
+  pub record SyncsDevice (succeeded : Bool) (old new : D) : Type 0 where
+    pub honest : is_honest new ≡ is_honest old
+    pub seals : IsTrue (is_honest old) → IsTrue succeeded → KeepsSeals (content old) (content new)
+    pub crash : LeavesEither succeeded (content new) (after_crash old) (after_crash new)
 
 -- each frame has what the device has, and an honest device was synced
 pub record AreWritten (honest is_synced : Bool) (t : Held) : Type 0 where

@@ -1,7 +1,7 @@
 //! Pools: the images of a device's pages, in frames.
 ghost use Rattle.std.specs.Prelude.{◌≡◌, ◌↔◌, ◌+◌, ◌-◌, ◌^◌, ◌<◌, ◌≤◌, false, length, is_ok, Some, IsTrue, IfOk, IfErr, IfSome, IsErrAnd, IsErrOf, OnOk, slice_get, slice_set, if◌then◌else◌};
 ghost use Rattle.page_device.specs.declared.fault.DeviceFault.TheVariants.{PastEnd};
-ghost use Rattle.buffer_pool.specs.Pool.{pins_at, opened, IsAtRest, payloads_of, IsCrowded, IsOnDevice, KeepsImages, KeepsStored, PoolHasCause, MayNotOpen, MayNotPin, MayNotFlush, TellsChanged};
+ghost use Rattle.buffer_pool.specs.Pool.{pins_at, opened, IsAtRest, payloads_of, IsCrowded, IsOnDevice, KeepsImages, KeepsStored, LeavesFlushed, PoolHasCause, MayNotOpen, MayNotPin, MayNotFlush, TellsChanged};
 ghost use Rattle.std.specs.Borrow.{sem};
 ghost use Rattle.buffer_pool.specs.Lending.{LendsImage};
 
@@ -36,6 +36,7 @@ impl<D: PageDevice> Model for Pool<D> {
       honest = D.is_honest p.device;
       synced = D.is_synced p.device;
       faults = D.fault_count p.device;
+      after_crash = D.after_crash p.device;
     } };
 
     ghost invariant = { λ p. IsSoundPool (D.content p.device) (D.is_honest p.device) p.table };
@@ -46,7 +47,8 @@ impl<D: PageDevice> Pool<D> {
     /// `TooFewFrames`; each refusal gives the device back.
     pub fn open(alloc: Global, device: D, frames: usize) -> Result<Pool<D>, (D, PoolFault)>
         ensures ok { IfOk result (λ pool. pool ≡ opened frames (D.content device)
-            (D.is_honest device) (D.is_synced device) (D.fault_count device)) }
+            (D.is_honest device) (D.is_synced device) (D.fault_count device)
+            (D.after_crash device)) }
         ensures rest { IfOk result IsAtRest }
         ensures few { IsErrAnd result (λ refusal. refusal.1 ≡ PoolFault.TooFewFrames) ↔
             (frames ≡ 0) }
@@ -79,8 +81,9 @@ impl<D: PageDevice> Pool<D> {
     }
 
     /// Pins a page, so that it stays in its frame. Where it has none it is read, and its digest and
-    /// its payload are tested. A pool with a frame for each page writes nothing here.
-    #[tactic(auto, using(crate::proofs::ImagesLemmas::images_length))]
+    /// its payload are tested. A pool with a frame for each page writes nothing here, so that a
+    /// crash leaves what it left.
+    #[tactic(auto, using(crate::proofs::ImagesLemmas::images_length, crate::proofs::TransferLemmas::crash_is))]
     pub fn pin(&mut self, page: u32) -> Result<Frame, PoolFault>
         requires { pins_at self.old page + 1 < 2 ^ 32 }
         ensures ok { IfOk result (λ frame.
@@ -191,13 +194,15 @@ impl<D: PageDevice> Pool<D> {
         }
     }
 
-    /// Writes each image that was stored to the device, and syncs it.
+    /// Writes each image that was stored to the device, and syncs it. A crash at any moment leaves
+    /// the pages of the last sync or these, and after an `Ok` these.
     pub fn flush(&mut self) -> Result<(), PoolFault>
         ensures ok { IsTrue self.old.honest →
             OnOk result (payloads_of self.new.stored ≡ self.old.images) }
         ensures synced { IsTrue self.old.honest → OnOk result (IsTrue self.new.synced) }
         ensures pins { self.new.pins ≡ self.old.pins }
         ensures keeps { KeepsImages (is_ok result) self.old self.new }
+        ensures crash { LeavesFlushed (is_ok result) self.old self.new }
         ensures cause { PoolHasCause MayNotFlush self.old.faults self.new.faults result }
     {
         write_all(&mut self.device, &mut self.table)?;
@@ -210,6 +215,7 @@ impl<D: PageDevice> Pool<D> {
         ensures honest { D.is_honest result ≡ self.honest }
         ensures synced { D.is_synced result ≡ self.synced }
         ensures faults { D.fault_count result ≡ self.faults }
+        ensures crash { D.after_crash result ≡ self.after_crash }
     {
         let Pool { device, table: _ } = self;
         device

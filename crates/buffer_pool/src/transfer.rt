@@ -3,7 +3,7 @@ ghost use Rattle.std.specs.Prelude.{◌≡◌, ◌<◌, ◌≤◌, length, is_ok
 ghost use Rattle.page_device.specs.Device.{HasCause, MayOnlyFail};
 ghost use Rattle.buffer_pool.specs.Pool.{IsSoundPool, IsClean, PoolHasCause, images_of};
 ghost use Rattle.buffer_pool.specs.Table.{place_of, page_of, count_pinned};
-ghost use Rattle.buffer_pool.specs.Transfer.{AreWritten, KeepsDevice, KeepsPages, KeepsPins, MayBeUnread};
+ghost use Rattle.buffer_pool.specs.Transfer.{AreWritten, KeepsDevice, KeepsPages, KeepsPins, MayBeUnread, SyncsDevice};
 
 use crate::fault::PoolFault;
 use crate::file_page::FilePage;
@@ -11,6 +11,7 @@ use crate::table::Table;
 use page_device::{DeviceFault, PAGE_BYTES, PageDevice, seal, unseal};
 
 /// Writes the page of a frame to the device where the frame was changed.
+#[tactic(auto, using(crate::proofs::TransferLemmas::crash_is))]
 pub fn write_back<D: PageDevice>(
     device: &mut D,
     table: &mut Table,
@@ -23,9 +24,8 @@ pub fn write_back<D: PageDevice>(
     ensures images { images_of (D.content device.new) table.new ≡
         images_of (D.content device.old) table.old }
     ensures pages { KeepsPages table.old table.new }
-    ensures device { KeepsDevice (page_of table.old frame ≡ None) (is_ok result)
-        (D.is_honest device.old) (D.is_honest device.new)
-        (D.content device.old) (D.content device.new) }
+    ensures device { KeepsDevice D.is_honest D.content D.after_crash
+        (page_of table.old frame ≡ None) (is_ok result) device.old device.new }
     ensures cause { HasCause MayOnlyFail
         (D.fault_count device.old) (D.fault_count device.new) result }
 {
@@ -43,6 +43,7 @@ pub fn write_back<D: PageDevice>(
 
 /// Sees that a page is in a frame. Where it is in none it is read and tested, and comes into a
 /// frame whose page may go, and which is written to the device before.
+#[tactic(auto, using(crate::proofs::TransferLemmas::crash_is))]
 pub fn bring_in<D: PageDevice>(
     device: &mut D,
     table: &mut Table,
@@ -57,9 +58,9 @@ pub fn bring_in<D: PageDevice>(
     ensures images { IsTrue (D.is_honest device.old) →
         images_of (D.content device.new) table.new ≡ images_of (D.content device.old) table.old }
     ensures pins { KeepsPins table.old table.new }
-    ensures device { KeepsDevice (length (D.content device.old) ≤ length table.old.pages)
-        (is_ok result) (D.is_honest device.old) (D.is_honest device.new)
-        (D.content device.old) (D.content device.new) }
+    ensures device { KeepsDevice D.is_honest D.content D.after_crash
+        (length (D.content device.old) ≤ length table.old.pages)
+        (is_ok result) device.old device.new }
     ensures cause { PoolHasCause (MayBeUnread (D.is_honest device.old) page
         (D.content device.old) (images_of (D.content device.old) table.old))
         (D.fault_count device.old) (D.fault_count device.new) result }
@@ -74,6 +75,7 @@ pub fn bring_in<D: PageDevice>(
 /// Brings in a page that is in no frame. Where there is a frame for each page of the device one is
 /// empty, and nothing is written. It stands apart from `bring_in`, so that a pin of a page that is
 /// in one sets up no room for the page's bytes.
+#[tactic(auto, using(crate::proofs::TransferLemmas::crash_is))]
 fn read_in<D: PageDevice>(device: &mut D, table: &mut Table, page: u32) -> Result<(), PoolFault>
     requires sound { IsSoundPool (D.content device.old) (D.is_honest device.old) table.old }
     requires page { page < length table.old.places }
@@ -84,9 +86,9 @@ fn read_in<D: PageDevice>(device: &mut D, table: &mut Table, page: u32) -> Resul
     ensures images { IsTrue (D.is_honest device.old) →
         images_of (D.content device.new) table.new ≡ images_of (D.content device.old) table.old }
     ensures pins { KeepsPins table.old table.new }
-    ensures device { KeepsDevice (length (D.content device.old) ≤ length table.old.pages)
-        (is_ok result) (D.is_honest device.old) (D.is_honest device.new)
-        (D.content device.old) (D.content device.new) }
+    ensures device { KeepsDevice D.is_honest D.content D.after_crash
+        (length (D.content device.old) ≤ length table.old.pages)
+        (is_ok result) device.old device.new }
     ensures cause { PoolHasCause (MayBeUnread (D.is_honest device.old) page
         (D.content device.old) (images_of (D.content device.old) table.old))
         (D.fault_count device.old) (D.fault_count device.new) result }
@@ -112,9 +114,8 @@ pub fn write_all<D: PageDevice>(device: &mut D, table: &mut Table) -> Result<(),
     ensures images { images_of (D.content device.new) table.new ≡
         images_of (D.content device.old) table.old }
     ensures pages { KeepsPages table.old table.new }
-    ensures device { KeepsDevice (⊥) (is_ok result)
-        (D.is_honest device.old) (D.is_honest device.new)
-        (D.content device.old) (D.content device.new) }
+    ensures device { SyncsDevice D.is_honest D.content D.after_crash
+        (is_ok result) device.old device.new }
     ensures cause { HasCause MayOnlyFail
         (D.fault_count device.old) (D.fault_count device.new) result }
 {

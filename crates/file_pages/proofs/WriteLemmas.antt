@@ -133,7 +133,7 @@ only_writes ok s t v page right new ready pinned keeps is = subst (OnlyWrites ok
   stored = spared_is t (record t {
     images = slice_set t.images right new;
     pins = slice_set t.pins right (pins_at t right - 1);
-  }) refl refl ∙ pinned.stored;
+  }) refl refl refl ∙ pinned.stored;
   as_many = length-set t.images right new ∙ pinned.keeps.as_many;
   file = λ honest done f.
       let same = written_is honest in

@@ -31,6 +31,7 @@ pub struct SpoilingDevice<'a> {
 
 impl PageDevice for SpoilingDevice<'_> {
     ghost use Rattle.std.specs.Prelude.{false, true};
+    ghost use Rattle.page_device.specs.Crash.{unknown};
 
     ghost is_honest = { λ _. false };
 
@@ -39,6 +40,8 @@ impl PageDevice for SpoilingDevice<'_> {
     ghost is_synced = { λ _. true };
 
     ghost fault_count = { λ _. 0 };
+
+    ghost after_crash = { λ _. unknown };
 
     fn pages(&self) -> u32 {
         self.inner.pages()

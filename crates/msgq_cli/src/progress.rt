@@ -121,6 +121,8 @@ impl<D: PageDevice, E: Write> PageDevice for Shown<'_, '_, D, E> {
 
     ghost fault_count = { λ s. D.fault_count s.device };
 
+    ghost after_crash = { λ s. D.after_crash s.device };
+
     fn pages(&self) -> u32 {
         self.device.pages()
     }

@@ -144,6 +144,7 @@ impl<F: FileExt + OpenFile + Drop> SystemPair<F> {
 
 impl<F: FileExt + OpenFile + Drop> PagePair for SystemPair<F> {
     ghost use Rattle.std.specs.Prelude.{false, None, []};
+    ghost use Rattle.std.proofs.Common.{arith};
 
     ghost is_honest = { false };
 
@@ -157,11 +158,21 @@ impl<F: FileExt + OpenFile + Drop> PagePair for SystemPair<F> {
 
     ghost left_since = { λ _ _ _. ⊥ };
 
+    ghost seen_since = { λ _ _. [] };
+
     ghost seen_may_stay = { λ _ honest. absurd cc };
 
     ghost counts_now = { λ _ _ _ _ now. now };
 
     ghost only_now = { λ _ _ left. left };
+
+    ghost sees_now = { λ _ _ honest _. absurd cc };
+
+    ghost only_seen = { λ _ _ has. let within = has.1 in absurd (omega (arith, within)) };
+
+    fn moments(&self) -> u64 {
+        0
+    }
 
     fn pages(&self) -> u32 {
         self.pages

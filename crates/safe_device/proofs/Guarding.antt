@@ -13,7 +13,7 @@ use Rattle.safe_device.proofs.Sessions.{appended_kept, added_kept, added_session
 use Rattle.safe_device.proofs.Sessions.{extend_step, extend_pages, longer_session}
 
 module _ {P : Type 0} (file : P → Pages) (journal : P → Option Journal) (may_leave : P → Left → Type 0)
-    (moment : P → ℕ) (left_since : P → ℕ → Left → Type 0) where
+    (moment : P → ℕ) (left_since : P → ℕ → Left → Type 0) (seen_since : P → ℕ → List Left) where
   abbrev base : GuardedFile P → Pages
   base old = committed file journal old.pair
 
@@ -31,10 +31,10 @@ module _ {P : Type 0} (file : P → Pages) (journal : P → Option Journal) (may
         (subst (λ (m : ℕ). Follows (Appended m images) (may_leave old.pair) (may_leave mid)) starts follows)
 
     pub images_added : ((c : Left) → left_since old.pair (moment old.pair) c → may_leave old.pair c)
-        → Elapses moment left_since may_leave old.pair mid
-        → LeavesOnly moment left_since old.pair mid (StandsFor (base old))
+        → Elapses moment left_since seen_since may_leave old.pair mid
+        → LeavesOnly moment left_since seen_since old.pair mid (StandsFor (base old))
     images_added only_now time =
-        first moment left_since may_leave old.pair mid (StandsFor (base old)) only_now safe.pages_kept time images_kept
+        first moment left_since seen_since may_leave old.pair mid (StandsFor (base old)) only_now safe.pages_kept time images_kept
 
   -- and were waited for
   module _ (old : GuardedFile P) (images : List PageImage) (n : ℕ) (new : P)
@@ -70,11 +70,11 @@ module _ {P : Type 0} (file : P → Pages) (journal : P → Option Journal) (may
 
   -- a call that kept it
   module _ (mid : GuardedFile P) (new : P) (kept : (c : Left) → may_leave new c → Kept mid c) where
-    pub still_only : (old : P) (pages : Pages) → LeavesOnly moment left_since old mid.pair (StandsFor pages)
-        → base mid ≡ pages → Elapses moment left_since may_leave mid.pair new
-        → LeavesOnly moment left_since old new (StandsFor pages)
+    pub still_only : (old : P) (pages : Pages) → LeavesOnly moment left_since seen_since old mid.pair (StandsFor pages)
+        → base mid ≡ pages → Elapses moment left_since seen_since may_leave mid.pair new
+        → LeavesOnly moment left_since seen_since old new (StandsFor pages)
     still_only old pages so_far is time =
-        goes_on moment left_since may_leave old mid.pair new (StandsFor pages) so_far time
+        goes_on moment left_since seen_since may_leave old mid.pair new (StandsFor pages) so_far time
         (λ c now. (kept c now).1 ∙ is)
 
     pub still_safe : IsSafe file journal may_leave mid → journal new ≡ journal mid.pair

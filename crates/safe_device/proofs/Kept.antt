@@ -1,10 +1,10 @@
 -- What a crash may leave of files in memory after each call.
-use Rattle.std.proofs.Common.{◌≡◌, ◌⊎◌, inl, inr, ⊎_elim, ℕ, zero, suc, ◌+◌, ◌≤◌, List, [], ◌∷◌, ◌++◌, length, take, drop}
+use Rattle.std.proofs.Common.{◌≡◌, ◌⊎◌, inl, inr, ⊎_elim, ℕ, zero, suc, ◌+◌, ◌≤◌, List, [], ◌∷◌, ◌++◌, length, map, take, drop, Contains, ◌<◌, get_or}
 use Rattle.std.proofs.Common.{set, Option, Some, None, refl, sym, ◌∙◌, ap, subst, arith, length-append}
 use Rattle.std.proofs.lemmas.List.{append-nil, take_all}
 use Rattle.safe_device.specs.Left.{Left, added}
-use Rattle.safe_device.specs.Crash.{Elapses, Follows, TornAt, LongerBy, CutTo, Appended, Removed}
-use Rattle.safe_device.specs.Memory.{FileMay, IsQuiet, MayLeave, Meets, MightLeave, Since}
+use Rattle.safe_device.specs.Crash.{Elapses, IsSeenEnded, Follows, TornAt, LongerBy, CutTo, Appended, Removed}
+use Rattle.safe_device.specs.Memory.{FileMay, IsQuiet, MayLeave, Meets, MightLeave, Seen, Since, left_of, seen_stays}
 use Rattle.safe_device.specs.declared.journal.Journal.{Journal}
 use Rattle.safe_device.specs.declared.journal.PageImage.{PageImage}
 use Rattle.safe_device.specs.declared.memory.FileChange.{FileChange}
@@ -138,10 +138,48 @@ drop_push zero past s le = refl
 drop_push (suc t) [] s le = absurd (omega arith)
 drop_push (suc t) (p ∷ past) s le = drop_push t past s (omega arith)
 
+-- ---- what a reader found
+
+first_or_later : {X : Type 0} (x : X) (xs : List X) (y : X) → Contains (x ∷ xs) y → (x ≡ y) ⊎ Contains xs y
+first_or_later x xs y has = at has.0 has.1 has.2
+  where
+    at : (k : ℕ) → k < length (x ∷ xs) → get_or (x ∷ xs) k y ≡ y → (x ≡ y) ⊎ Contains xs y
+    at zero lt is = inl is
+    at (suc k) lt is = inr (k, omega (arith, lt), is)
+
+first : {X : Type 0} (x : X) (xs : List X) (y : X) → x ≡ y → Contains (x ∷ xs) y
+first x xs y is = (0, omega arith, is)
+
+later : {X : Type 0} (x : X) (xs : List X) (y : X) → Contains xs y → Contains (x ∷ xs) y
+later x xs y has = let lt = has.1 in (suc has.0, omega (arith, lt), has.2)
+
+-- the last snapshot of the past was the newest
+of_those : (past : List Snapshot) (s : Snapshot) (c : Left) → Contains (map left_of (past ++ s ∷ [])) c
+    → Contains (left_of s ∷ map left_of past) c
+of_those [] s c has = has
+of_those (p ∷ past) s c has =
+    ⊎_elim (λ is. later (left_of s) (map left_of (p ∷ past)) c (first (left_of p) (map left_of past) c is))
+    (λ rest. behind (first_or_later (left_of s) (map left_of past) c (of_those past s c rest)))
+    (first_or_later (left_of p) (map left_of (past ++ s ∷ [])) c has)
+  where
+    behind : (left_of s ≡ c) ⊎ Contains (map left_of past) c → Contains (left_of s ∷ map left_of (p ∷ past)) c
+    behind (inl is) = first (left_of s) (map left_of (p ∷ past)) c is
+    behind (inr had) = later (left_of s) (map left_of (p ∷ past)) c (later (left_of p) (map left_of past) c had)
+
+among : (past : List Snapshot) (s : Snapshot) (c : Left) → (left_of s ≡ c) ⊎ Contains (map left_of past) c
+    → Contains (map left_of (past ++ s ∷ [])) c
+among [] s c (inl is) = first (left_of s) [] c is
+among [] s c (inr had) = later (left_of s) [] c had
+among (p ∷ past) s c (inl is) = later (left_of p) (map left_of (past ++ s ∷ [])) c (among past s c (inl is))
+among (p ∷ past) s c (inr had) =
+    ⊎_elim (λ is. first (left_of p) (map left_of (past ++ s ∷ [])) c is)
+    (λ rest. later (left_of p) (map left_of (past ++ s ∷ [])) c (among past s c (inr rest)))
+    (first_or_later (left_of p) (map left_of past) c had)
+
 -- one more snapshot joins those that there were
 pub elapses : (old new : MemPair) → new.past.items ≡ old.past.items ++ old.newest ∷ []
     → Elapses {P = MemPair} (λ m. length m.past.items) (λ m t c. Since m.past.items m.newest t c)
-    (λ m c. MayLeave m.newest c) old new
+    (λ m t. Seen m.past.items m.newest t) (λ m c. MayLeave m.newest c) old new
 elapses old new same = record {
   later = omega (arith, ap length same, length-append old.past.items (old.newest ∷ []));
   nothing_else = λ t c le left.
@@ -159,10 +197,49 @@ elapses old new same = record {
     dropped : (t : ℕ) → t ≤ length old.past.items → drop t new.past.items ≡ drop t old.past.items ++ old.newest ∷ []
     dropped t le = ap (λ (l : List Snapshot). drop t l) same ∙ drop_push t old.past.items old.newest le
 
+    seen_at : (t : ℕ) (c : Left) → t ≤ length old.past.items
+        → (left_of new.newest ≡ c) ⊎ Contains (map left_of (drop t new.past.items)) c
+        → Contains (Seen old.past.items old.newest t) c ⊎ MayLeave new.newest c
+    seen_at t c le (inl is) = inr (subst (MayLeave new.newest) is (seen_stays new.newest))
+    seen_at t c le (inr has) =
+        inl (of_those (drop t old.past.items) old.newest c
+        (subst (λ (l : List Snapshot). Contains (map left_of l) c) (dropped t le) has))
+
     was : (t : ℕ) (c : Left) → MightLeave (drop t old.past.items) c ⊎ MayLeave old.newest c
         → Since old.past.items old.newest t c
     was t c (inl had) = inr had
     was t c (inr now) = inl now
+
+-- a call that changes nothing
+pub stands : (old new : MemPair) → new.past.items ≡ old.past.items → new.newest ≡ old.newest
+    → Elapses {P = MemPair} (λ m. length m.past.items) (λ m t c. Since m.past.items m.newest t c)
+    (λ m t. Seen m.past.items m.newest t) (λ m c. MayLeave m.newest c) old new
+stands old new past newest = record {
+  later = omega (arith, ap length past);
+  nothing_else = λ t c le left.
+      inl (subst (λ (s : Snapshot). Since old.past.items s t c) newest
+      (subst (λ (l : List Snapshot). Since l new.newest t c) past left));
+  keeps = λ t c le left.
+      subst (λ (l : List Snapshot). Since l new.newest t c) (sym past)
+      (subst (λ (s : Snapshot). Since old.past.items s t c) (sym newest) left);
+  seen = λ t c le has.
+      inl (subst (λ (s : Snapshot). Contains (Seen old.past.items s t) c) newest
+      (subst (λ (l : List Snapshot). Contains (Seen l new.newest t) c) past has));
+  still_seen = λ t c le has.
+      subst (λ (l : List Snapshot). Contains (Seen l new.newest t) c) (sym past)
+      (subst (λ (s : Snapshot). Contains (Seen old.past.items s t) c) (sym newest) has);
+}
+
+-- a journal that was ended is found so, and one that could not be is as it was
+pub ended_seen : (old new : MemPair) → left_of new.newest ≡ record { file = old.newest.seen_file; journal = None }
+    → IsSeenEnded {P = MemPair} (λ m. length m.past.items) (λ m t. Seen m.past.items m.newest t)
+    (λ m c. MayLeave m.newest c) old.newest.seen_file old new
+ended_seen old new is t c le now none = inr (0, omega arith, is)
+
+pub ended_same : (old new : MemPair) → new.newest ≡ old.newest
+    → IsSeenEnded {P = MemPair} (λ m. length m.past.items) (λ m t. Seen m.past.items m.newest t)
+    (λ m c. MayLeave m.newest c) old.newest.seen_file old new
+ended_same old new same t c le now none = inl (subst (λ (s : Snapshot). MayLeave s c) same now)
 
 -- files of which all is synced, and that have no journal
 pub quiet : (m : MemPair) → m.newest.synced_file ≡ m.newest.seen_file → m.newest.changes ≡ []

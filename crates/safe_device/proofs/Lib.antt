@@ -5,3 +5,4 @@ mod Moments
 mod Recovering
 mod Restoring
 mod Sessions
+mod Telling

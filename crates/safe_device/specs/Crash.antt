@@ -1,8 +1,8 @@
 -- What each call on a file and its journal may leave at a crash, and when.
-use Rattle.std.specs.Prelude.{◌≡◌, ◌⊎◌, ℕ, ◌≤◌, List, ◌++◌, Option, Some, None, take, slice_set}
+use Rattle.std.specs.Prelude.{◌≡◌, ◌⊎◌, ℕ, ◌≤◌, List, ◌++◌, Contains, map, Option, Some, None, take, slice_set}
 use Rattle.safe_device.specs.declared.journal.Journal.{Journal}
 use Rattle.safe_device.specs.declared.journal.PageImage.{PageImage}
-use Rattle.safe_device.specs.Left.{Left, added}
+use Rattle.safe_device.specs.Left.{Left, added, recovered}
 
 -- the page is as it was, or holds anything; all others are the same
 abbrev pub IsTornAt : ℕ → List (List ℕ) → List (List ℕ) → Type 0
@@ -57,17 +57,37 @@ pub record HasBoth (pages : List (List ℕ)) (found : Option Journal) (left : Le
   pub file : HasFile pages left
   pub journal : HasJournal found left
 
--- Time goes on: a crash since t might have left what it might have left before, or what it may leave now.
-pub record Elapses {P : Type 0} (moment : P → ℕ) (left_since : P → ℕ → Left → Type 0)
+-- a crash leaves the journal ended only where it might have left it so before, or where a reader found it so
+abbrev pub IsSeenEnded : {P : Type 0} → (P → ℕ) → (P → ℕ → List Left) → (P → Left → Type 0) → List (List ℕ) → (old new : P)
+    → Type 0
+IsSeenEnded moment seen_since may_leave file old new =
+    (t : ℕ) (c : Left) → t ≤ moment old → may_leave new c → c.journal ≡ None
+    → may_leave old c ⊎ Contains (seen_since new t) (record { file = file; journal = None })
+
+-- Time goes on: a crash since t might have left what it might have left before, or what it may leave now; and a
+-- reader has found what one had found before, or what a crash may leave now.
+pub record Elapses {P : Type 0} (moment : P → ℕ) (left_since : P → ℕ → Left → Type 0) (seen_since : P → ℕ → List Left)
     (may_leave : P → Left → Type 0) (old new : P) : Type 0 where
   pub later : moment old ≤ moment new
   pub nothing_else : (t : ℕ) (c : Left) → t ≤ moment old → left_since new t c → left_since old t c ⊎ may_leave new c
   pub keeps : (t : ℕ) (c : Left) → t ≤ moment old → left_since old t c → left_since new t c
+  pub seen : (t : ℕ) (c : Left) → t ≤ moment old → Contains (seen_since new t) c
+      → Contains (seen_since old t) c ⊎ may_leave new c
+  pub still_seen : (t : ℕ) (c : Left) → t ≤ moment old → Contains (seen_since old t) c → Contains (seen_since new t) c
 
--- A crash at any moment since old leaves what has Q.
-pub record LeavesOnly {P : Type 0} (moment : P → ℕ) (left_since : P → ℕ → Left → Type 0) (old new : P)
-    (Q : Left → Type 0) : Type 0 where
+-- A crash at any moment since old leaves what has Q, and so has what a reader finds.
+pub record LeavesOnly {P : Type 0} (moment : P → ℕ) (left_since : P → ℕ → Left → Type 0)
+    (seen_since : P → ℕ → List Left) (old new : P) (Q : Left → Type 0) : Type 0 where
   pub later : moment old ≤ moment new
   pub each : (c : Left) → left_since new (moment old) c → Q c
   -- for a run that began earlier
   pub before : (t : ℕ) (c : Left) → t ≤ moment old → left_since new t c → left_since old t c ⊎ Q c
+  pub seen : (t : ℕ) (c : Left) → t ≤ moment old → Contains (seen_since new t) c → Contains (seen_since old t) c ⊎ Q c
+  pub still_seen : (t : ℕ) (c : Left) → t ≤ moment old → Contains (seen_since old t) c → Contains (seen_since new t) c
+
+-- Recovery makes of whatever a crash since old might have left what it makes of something that a reader has found.
+abbrev pub LeavesSeen : {P : Type 0} → (P → ℕ) → (P → ℕ → Left → Type 0) → (P → ℕ → List Left) → (old new : P)
+    → Type 0
+LeavesSeen moment left_since seen_since old new =
+    (t : ℕ) (c : Left) → t ≤ moment old → left_since new t c
+    → left_since old t c ⊎ Contains (map recovered (seen_since new t)) (recovered c)

@@ -1,7 +1,8 @@
 -- What a crash may leave of files in memory, now and since a moment.
-use Rattle.std.specs.Prelude.{◌≡◌, ◌⊎◌, ℕ, ◌≤◌, List, [], ◌∷◌, length, drop, take}
+use Rattle.std.specs.Prelude.{◌≡◌, ◌⊎◌, ℕ, zero, suc, ◌≤◌, ◌<◌, List, [], ◌∷◌, Contains, length, map, drop, take, slice_index_or}
 use mathlib.Core.Logic.{inl, inr}
-use mathlib.Core.Path.{refl}
+use mathlib.Core.Path.{refl, subst}
+use Rattle.std.proofs.Common.{arith}
 use Rattle.safe_device.specs.Crash.{IsTornAt, IsLongerBy}
 use Rattle.safe_device.specs.Left.{Left}
 use Rattle.safe_device.specs.declared.memory.FileChange.{FileChange}
@@ -53,6 +54,23 @@ counts past now t c here = inl here
 
 pub seen_stays : (s : Snapshot) → MayLeave s (left_of s)
 seen_stays s = (inl refl, inl refl)
+
+-- what a reader finds now, and found since
+abbrev pub Seen : List Snapshot → Snapshot → ℕ → List Left
+Seen past now t = left_of now ∷ map left_of (drop t past)
+
+pub sees : (past : List Snapshot) (now : Snapshot) (t : ℕ) → Contains (Seen past now t) (left_of now)
+sees past now t = (0, omega arith, refl)
+
+only_seen_at : (past : List Snapshot) (now : Snapshot) (c : Left) (k : ℕ) → k < length (Seen past now (length past))
+    → slice_index_or (Seen past now (length past)) k c ≡ c → MayLeave now c
+only_seen_at [] now c zero lt is = subst (MayLeave now) is (seen_stays now)
+only_seen_at [] now c (suc k) lt is = absurd (omega (arith, lt))
+only_seen_at (s ∷ past) now c k lt is = only_seen_at past now c k lt is
+
+pub only_seen : (past : List Snapshot) (now : Snapshot) (c : Left) → Contains (Seen past now (length past)) c
+    → MayLeave now c
+only_seen past now c has = only_seen_at past now c has.0 has.1 has.2
 
 -- there is no journal, and a crash leaves what a read gives
 abbrev pub IsQuiet : MemPair → Type 0

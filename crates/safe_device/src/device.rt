@@ -4,7 +4,7 @@ ghost use Rattle.page_device.specs.Device.{DiffersAtMostAt, HasCause, MayMeetThe
 ghost use Rattle.page_device.specs.declared.page.TheConstants.{MAX_PAGES};
 ghost use Rattle.safe_device.specs.Crash.{Keeps, LeavesOnly};
 ghost use Rattle.safe_device.specs.Left.{put_back};
-ghost use Rattle.safe_device.specs.Device.{HasRoom, IsOpened, IsWrittenOut, StaysCommitted, Commits};
+ghost use Rattle.safe_device.specs.Device.{HasRoom, IsOpened, IsWrittenOut, KeepsPages, StaysCommitted, Commits, TellsAll};
 ghost use Rattle.safe_device.specs.Safe.{committed, IsAtRest, StandsFor};
 
 use crate::guarded_file::GuardedFile;
@@ -32,11 +32,14 @@ pub struct SafeDevice<P: PagePair> {
     pages: u32,
     failed: u64,
     is_broken: bool,
+    /// The moment at which it was made, from which on its contracts tell what a crash leaves.
+    made: u64,
 }
 
 impl<P: PagePair> Model for SafeDevice<P> {
     ghost use Rattle.std.specs.Prelude.{length, vec_capacity};
-    ghost use Rattle.safe_device.specs.Device.{DeviceState, IsSound, content_of, is_synced};
+    ghost use Rattle.safe_device.specs.Device.{DeviceState, IsSound, IsTelling, after_crash_of, content_of, is_synced};
+    ghost use Rattle.safe_device.specs.Safe.{committed};
 
     ghost Value = { DeviceState P };
 
@@ -48,9 +51,12 @@ impl<P: PagePair> Model for SafeDevice<P> {
       failed = d.failed;
       is_broken = d.is_broken;
       is_synced = is_synced d.file.begun d.pending.items;
+      after_crash = after_crash_of P.is_honest d.made (committed P.file P.journal d.file.pair)
+          (P.seen_since d.file.pair d.made);
     } };
 
     ghost invariant = { λ d. IsSound P.is_honest P.file P.journal P.may_leave
+        (IsTelling P.moment P.left_since P.seen_since d.made)
         d.file d.pages d.is_broken (vec_capacity d.pending) };
 }
 
@@ -61,11 +67,12 @@ impl<P: PagePair> SafeDevice<P> {
     where
         P: Drop,
         requires { IsTrue P.is_honest → IsAtRest P.file P.journal P.may_leave pair }
-        ensures { IfOk result (IsOpened P.is_honest P.file pair) }
+        ensures { IfOk result (IsOpened P.is_honest P.file P.moment pair) }
     {
         let pending = Vec::with_capacity(alloc, MOST_PENDING)?;
         let images = Images::with_capacity(alloc, MOST_PENDING)?;
         let pages = pair.pages();
+        let made = pair.moments();
         let file = GuardedFile::new(alloc, pair)?;
         Ok(SafeDevice {
             file,
@@ -74,12 +81,15 @@ impl<P: PagePair> SafeDevice<P> {
             pages,
             failed: 0,
             is_broken: false,
+            made,
         })
     }
 
-    /// Both files.
+    /// Both files. Whatever a crash might have left of them since the device was made, `recover`
+    /// makes of it one of the pages that the device tells of.
     pub fn into_pair(self) -> P
-        ensures { result ≡ self.pair }
+        ensures same { result ≡ self.pair }
+        ensures crash { IsTrue P.is_honest → TellsAll P.left_since self.after_crash result }
     {
         self.file.pair
     }
@@ -92,9 +102,9 @@ impl<P: PagePair> SafeDevice<P> {
         ensures err { OnErr result (HasRisen self.old.failed self.new.failed) }
         ensures told { IsOkUnless result DeviceFault.Device }
         ensures content { self.new.content ≡ self.old.content }
-        ensures later { (self.old.failed ≤ self.new.failed) × (self.new.pages ≡ self.old.pages) }
+        ensures keeps { KeepsPages self.old self.new }
         ensures any_moment { IsTrue P.is_honest →
-            LeavesOnly P.moment P.left_since self.old.pair self.new.pair
+            LeavesOnly P.moment P.left_since P.seen_since self.old.pair self.new.pair
             (StandsFor (committed P.file P.journal self.old.pair)) }
     {
         let Ok(()) = self.file.write_all(&mut self.images, &self.pending) else {
@@ -107,15 +117,16 @@ impl<P: PagePair> SafeDevice<P> {
     }
 
     /// Sees to it that one more page can wait.
+    #[tactic(auto, using(crate::proofs::Telling::keeps_same))]
     fn make_room(&mut self) -> Result<(), DeviceFault>
         requires usable { self.old.is_broken ≡ false }
         ensures ok { OnOk result (HasRoom P.is_honest P.file P.journal self.old self.new) }
         ensures err { OnErr result (HasRisen self.old.failed self.new.failed) }
         ensures told { IsOkUnless result DeviceFault.Device }
         ensures content { self.new.content ≡ self.old.content }
-        ensures later { (self.old.failed ≤ self.new.failed) × (self.new.pages ≡ self.old.pages) }
+        ensures keeps { KeepsPages self.old self.new }
         ensures any_moment { IsTrue P.is_honest →
-            LeavesOnly P.moment P.left_since self.old.pair self.new.pair
+            LeavesOnly P.moment P.left_since P.seen_since self.old.pair self.new.pair
             (StandsFor (committed P.file P.journal self.old.pair)) }
     {
         if self.pending.len() < MOST_PENDING {
@@ -134,6 +145,8 @@ impl<P: PagePair> PageDevice for SafeDevice<P> {
 
     ghost fault_count = { λ d. d.failed };
 
+    ghost after_crash = { λ d. d.after_crash };
+
     #[tactic(auto, using(crate::proofs::DeviceLemmas::content_length))]
     fn pages(&self) -> u32 {
         self.pages
@@ -150,6 +163,7 @@ impl<P: PagePair> PageDevice for SafeDevice<P> {
         ensures past { IsErrOf result DeviceFault.PastEnd ↔ (length self.old.content ≤ page) }
         ensures same { self.new.content ≡ self.old.content }
         ensures files { self.new.pair ≡ self.old.pair }
+        ensures crash { self.new.after_crash ≡ self.old.after_crash }
         ensures cause { HasCause MayMeetTheEnd self.old.failed self.new.failed result }
     {
         if page >= self.pages {
@@ -163,14 +177,14 @@ impl<P: PagePair> PageDevice for SafeDevice<P> {
         Ok(())
     }
 
-    #[tactic(auto, using(crate::proofs::DeviceLemmas::content_length, crate::proofs::DeviceLemmas::content_set, crate::proofs::DeviceLemmas::content_differs, crate::proofs::DeviceLemmas::differs_same))]
+    #[tactic(auto, using(crate::proofs::DeviceLemmas::content_length, crate::proofs::DeviceLemmas::content_set, crate::proofs::DeviceLemmas::content_differs, crate::proofs::DeviceLemmas::differs_same, crate::proofs::Telling::crash_same))]
     fn write(&mut self, page: u32, bytes: &Page) -> Result<(), DeviceFault>
         ensures ok { IsTrue P.is_honest →
             OnOk result (self.new.content ≡ slice_set self.old.content page bytes.now) }
         ensures past { IsErrOf result DeviceFault.PastEnd ↔ (length self.old.content ≤ page) }
         ensures others { DiffersAtMostAt page self.old.content self.new.content }
         ensures cause { HasCause MayMeetTheEnd self.old.failed self.new.failed result }
-        ensures any_moment { StaysCommitted P.is_honest P.file P.journal P.moment P.left_since
+        ensures any_moment { StaysCommitted P.is_honest P.file P.journal P.moment P.left_since P.seen_since
             (is_ok result) self.old self.new }
     {
         if page >= self.pages {
@@ -190,7 +204,7 @@ impl<P: PagePair> PageDevice for SafeDevice<P> {
         Ok(())
     }
 
-    #[tactic(auto, using(crate::proofs::DeviceLemmas::content_length, crate::proofs::DeviceLemmas::content_extended, crate::proofs::DeviceLemmas::content_longer))]
+    #[tactic(auto, using(crate::proofs::DeviceLemmas::content_length, crate::proofs::DeviceLemmas::content_extended, crate::proofs::DeviceLemmas::content_longer, crate::proofs::Telling::crash_same))]
     fn extend(&mut self, bytes: &Page) -> Result<(), DeviceFault>
         ensures ok { IsTrue P.is_honest →
             OnOk result (self.new.content ≡ self.old.content ++ bytes.now ∷ []) }
@@ -199,7 +213,7 @@ impl<P: PagePair> PageDevice for SafeDevice<P> {
             (MAX_PAGES ≤ length self.old.content) }
         ensures err { OnErr result (self.new.content ≡ self.old.content) }
         ensures cause { HasCause MayBeFull self.old.failed self.new.failed result }
-        ensures any_moment { StaysCommitted P.is_honest P.file P.journal P.moment P.left_since
+        ensures any_moment { StaysCommitted P.is_honest P.file P.journal P.moment P.left_since P.seen_since
             (is_ok result) self.old self.new }
     {
         if self.pages >= MAX_PAGES {
@@ -219,11 +233,12 @@ impl<P: PagePair> PageDevice for SafeDevice<P> {
         Ok(())
     }
 
+    #[tactic(auto, using(crate::proofs::Telling::synced_same, crate::proofs::Telling::sync_unbegun))]
     fn sync(&mut self) -> Result<(), DeviceFault>
         ensures ok { IsTrue P.is_honest → OnOk result (IsTrue self.new.is_synced) }
         ensures same { self.new.content ≡ self.old.content }
         ensures cause { HasCause MayOnlyFail self.old.failed self.new.failed result }
-        ensures any_moment { Commits P.is_honest P.file P.journal P.moment P.left_since
+        ensures any_moment { Commits P.is_honest P.file P.journal P.moment P.left_since P.seen_since
             (is_ok result) self.old self.new }
         ensures durable { IsTrue P.is_honest →
             OnOk result (Keeps (StandsFor self.old.content) (P.may_leave self.new.pair)) }

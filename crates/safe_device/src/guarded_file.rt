@@ -3,7 +3,7 @@ ghost use Rattle.std.specs.Prelude.{◌≡◌, ◌<◌, ◌≤◌, ◌⊎◌, []
 ghost use Rattle.std.specs.List.{All, Contains};
 ghost use Rattle.safe_device.specs.declared.journal.PageImage.{PageImage as TheImage};
 ghost use Rattle.safe_device.specs.Left.{put_back, restored};
-ghost use Rattle.safe_device.specs.Crash.{LeavesOnly, IsTornAt, IsLongerBy};
+ghost use Rattle.safe_device.specs.Crash.{LeavesOnly, LeavesSeen, IsTornAt, IsLongerBy};
 ghost use Rattle.safe_device.specs.Safe.{numbers, first_count, committed, IsSafe, IsAtRest, IsEither, StandsFor};
 
 use crate::journal::{Images, PageImage};
@@ -83,7 +83,7 @@ impl<P: PagePair> GuardedFile<P> {
         ensures guarded { OnOk result
             (self.new.guarded.items ≡ self.old.guarded.items ++ numbers images.now) }
         ensures any_moment { IsTrue P.is_honest →
-            LeavesOnly P.moment P.left_since self.old.pair self.new.pair
+            LeavesOnly P.moment P.left_since P.seen_since self.old.pair self.new.pair
             (StandsFor (committed P.file P.journal self.old.pair)) }
     {
         push_numbers(&mut self.guarded, images)?;
@@ -127,7 +127,7 @@ impl<P: PagePair> GuardedFile<P> {
             OnOk result (committed P.file P.journal self.new.pair
             ≡ committed P.file P.journal self.old.pair) }
         ensures any_moment { IsTrue P.is_honest →
-            LeavesOnly P.moment P.left_since self.old.pair self.new.pair
+            LeavesOnly P.moment P.left_since P.seen_since self.old.pair self.new.pair
             (StandsFor (committed P.file P.journal self.old.pair)) }
     {
         self.open_images(images, pages)?;
@@ -150,7 +150,7 @@ impl<P: PagePair> GuardedFile<P> {
         ensures guarded { OnOk result
             (Contains self.new.guarded.items page ⊎ (self.new.count ≤ page)) }
         ensures any_moment { IsTrue P.is_honest →
-            LeavesOnly P.moment P.left_since self.old.pair self.new.pair
+            LeavesOnly P.moment P.left_since P.seen_since self.old.pair self.new.pair
             (StandsFor (committed P.file P.journal self.old.pair)) }
     {
         if self.is_guarded(page) {
@@ -173,7 +173,7 @@ impl<P: PagePair> GuardedFile<P> {
             OnOk result (committed P.file P.journal self.new.pair
             ≡ committed P.file P.journal self.old.pair) }
         ensures any_moment { IsTrue P.is_honest →
-            LeavesOnly P.moment P.left_since self.old.pair self.new.pair
+            LeavesOnly P.moment P.left_since P.seen_since self.old.pair self.new.pair
             (StandsFor (committed P.file P.journal self.old.pair)) }
     {
         self.guard(page.page)?;
@@ -196,7 +196,7 @@ impl<P: PagePair> GuardedFile<P> {
             OnOk result (committed P.file P.journal self.new.pair
             ≡ committed P.file P.journal self.old.pair) }
         ensures any_moment { IsTrue P.is_honest →
-            LeavesOnly P.moment P.left_since self.old.pair self.new.pair
+            LeavesOnly P.moment P.left_since P.seen_since self.old.pair self.new.pair
             (StandsFor (committed P.file P.journal self.old.pair)) }
     {
         self.protect(images, pages)?;
@@ -216,7 +216,7 @@ impl<P: PagePair> GuardedFile<P> {
             OnOk result (committed P.file P.journal self.new.pair
             ≡ committed P.file P.journal self.old.pair) }
         ensures any_moment { IsTrue P.is_honest →
-            LeavesOnly P.moment P.left_since self.old.pair self.new.pair
+            LeavesOnly P.moment P.left_since P.seen_since self.old.pair self.new.pair
             (StandsFor (committed P.file P.journal self.old.pair)) }
     {
         for page in pages {
@@ -236,7 +236,7 @@ impl<P: PagePair> GuardedFile<P> {
             ≡ committed P.file P.journal self.old.pair) }
         ensures begun { OnOk result (self.new.begun ≡ true) }
         ensures any_moment { IsTrue P.is_honest →
-            LeavesOnly P.moment P.left_since self.old.pair self.new.pair
+            LeavesOnly P.moment P.left_since P.seen_since self.old.pair self.new.pair
             (StandsFor (committed P.file P.journal self.old.pair)) }
     {
         if self.begun {
@@ -257,7 +257,7 @@ impl<P: PagePair> GuardedFile<P> {
             OnOk result (committed P.file P.journal self.new.pair
             ≡ committed P.file P.journal self.old.pair) }
         ensures any_moment { IsTrue P.is_honest →
-            LeavesOnly P.moment P.left_since self.old.pair self.new.pair
+            LeavesOnly P.moment P.left_since P.seen_since self.old.pair self.new.pair
             (StandsFor (committed P.file P.journal self.old.pair)) }
     {
         self.begin()?;
@@ -275,8 +275,10 @@ impl<P: PagePair> GuardedFile<P> {
             OnOk result (committed P.file P.journal self.new.pair ≡ P.file self.old.pair) }
         ensures ended { OnOk result (self.new.begun ≡ false) }
         ensures any_moment { IsTrue P.is_honest →
-            LeavesOnly P.moment P.left_since self.old.pair self.new.pair
+            LeavesOnly P.moment P.left_since P.seen_since self.old.pair self.new.pair
             (IsEither (committed P.file P.journal self.old.pair) (P.file self.old.pair)) }
+        ensures seen { IsTrue P.is_honest →
+            LeavesSeen P.moment P.left_since P.seen_since self.old.pair self.new.pair }
     {
         if !self.begun {
             return Ok(());

@@ -2,7 +2,7 @@
 ghost use Rattle.std.specs.Prelude.{◌≡◌, ◌≤◌, [], ◌∷◌, ◌++◌, length, take, slice_set, None, IfOk, OnOk, OnErr};
 ghost use Rattle.page_device.specs.declared.page.TheConstants.{MAX_PAGES};
 ghost use Rattle.safe_device.specs.Left.{added};
-ghost use Rattle.safe_device.specs.Memory.{IsQuiet, MayLeave, Since, seen_stays, counts, only};
+ghost use Rattle.safe_device.specs.Memory.{IsQuiet, MayLeave, Seen, Since, counts, only, only_seen, seen_stays, sees};
 
 use crate::journal::{Images, Journal, PageImage};
 use crate::page_pair::{FoundJournal, PagePair};
@@ -255,11 +255,21 @@ impl PagePair for MemPair {
 
     ghost left_since = { λ m t c. Since m.past.items m.newest t c };
 
+    ghost seen_since = { λ m t. Seen m.past.items m.newest t };
+
     ghost seen_may_stay = { λ m _. seen_stays m.newest };
 
     ghost counts_now = { λ m t c le now. counts m.past.items m.newest t c now };
 
     ghost only_now = { λ m c left. only m.past.items m.newest c left };
+
+    ghost sees_now = { λ m t _ _. sees m.past.items m.newest t };
+
+    ghost only_seen = { λ m c has. only_seen m.past.items m.newest c has };
+
+    fn moments(&self) -> u64 {
+        self.past.len() as u64
+    }
 
     fn pages(&self) -> u32 {
         self.newest.seen_file.items.len() as u32
@@ -273,7 +283,7 @@ impl PagePair for MemPair {
         Ok(())
     }
 
-    #[tactic(auto, using(crate::proofs::Kept::set_follows))]
+    #[tactic(auto, using(crate::proofs::Kept::set_follows, crate::proofs::Kept::stands))]
     fn store(&mut self, page: u32, bytes: &Page) -> io::Result<()> {
         spend(&mut self.calls_left, &mut self.calls)?;
         let mut next = self.newest.try_copy(self.alloc)?;
@@ -284,7 +294,7 @@ impl PagePair for MemPair {
         Ok(change(self.alloc, &mut self.newest, &mut self.past, next)?)
     }
 
-    #[tactic(auto, using(crate::proofs::Kept::push_follows))]
+    #[tactic(auto, using(crate::proofs::Kept::push_follows, crate::proofs::Kept::stands))]
     fn extend(&mut self, bytes: &Page) -> io::Result<()> {
         spend(&mut self.calls_left, &mut self.calls)?;
         let mut next = self.newest.try_copy(self.alloc)?;
@@ -293,7 +303,7 @@ impl PagePair for MemPair {
         Ok(change(self.alloc, &mut self.newest, &mut self.past, next)?)
     }
 
-    #[tactic(auto, using(crate::proofs::Kept::cut_follows, crate::proofs::Kept::not_cut))]
+    #[tactic(auto, using(crate::proofs::Kept::cut_follows, crate::proofs::Kept::not_cut, crate::proofs::Kept::stands))]
     fn cut(&mut self, pages: u32) -> io::Result<()> {
         spend(&mut self.calls_left, &mut self.calls)?;
         let mut next = self.newest.try_copy(self.alloc)?;
@@ -302,6 +312,7 @@ impl PagePair for MemPair {
         Ok(change(self.alloc, &mut self.newest, &mut self.past, next)?)
     }
 
+    #[tactic(auto, using(crate::proofs::Kept::stands))]
     fn sync_file(&mut self) -> io::Result<()> {
         spend(&mut self.calls_left, &mut self.calls)?;
         let mut next = self.newest.try_copy(self.alloc)?;
@@ -334,7 +345,7 @@ impl PagePair for MemPair {
         Ok(image.page)
     }
 
-    #[tactic(auto, using(crate::proofs::Kept::append_follows))]
+    #[tactic(auto, using(crate::proofs::Kept::append_follows, crate::proofs::Kept::stands))]
     fn append_images(&mut self, count: u32, images: &[PageImage]) -> io::Result<()> {
         spend(&mut self.calls_left, &mut self.calls)?;
         let mut next = self.newest.try_copy(self.alloc)?;
@@ -343,7 +354,7 @@ impl PagePair for MemPair {
         Ok(change(self.alloc, &mut self.newest, &mut self.past, next)?)
     }
 
-    #[tactic(auto, using(crate::proofs::Kept::remove_follows))]
+    #[tactic(auto, using(crate::proofs::Kept::remove_follows, crate::proofs::Kept::stands, crate::proofs::Kept::ended_seen, crate::proofs::Kept::ended_same))]
     fn end_journal(&mut self) -> io::Result<()> {
         spend(&mut self.calls_left, &mut self.calls)?;
         let mut next = self.newest.try_copy(self.alloc)?;
@@ -356,6 +367,7 @@ impl PagePair for MemPair {
         false
     }
 
+    #[tactic(auto, using(crate::proofs::Kept::stands))]
     fn sync_journal(&mut self) -> io::Result<()> {
         spend(&mut self.calls_left, &mut self.calls)?;
         let mut next = self.newest.try_copy(self.alloc)?;

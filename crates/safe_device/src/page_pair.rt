@@ -1,7 +1,7 @@
 //! A file of pages and the rollback journal beside it, as a crash sees them.
-ghost use Rattle.std.specs.Prelude.{◌≡◌, ◌≤◌, ℕ, Bool, [], ◌∷◌, ◌++◌, List, Option, Some, None, length, take, slice_get, slice_set, IfOk, OnOk, IsTrue};
+ghost use Rattle.std.specs.Prelude.{◌≡◌, ◌≤◌, ℕ, Bool, [], ◌∷◌, ◌++◌, List, Contains, Option, Some, None, length, take, slice_get, slice_set, IfOk, OnOk, IsTrue};
 ghost use Rattle.safe_device.specs.Left.{Left, added, found_of, images_of};
-ghost use Rattle.safe_device.specs.Crash.{Follows, Keeps, HasBoth, IsTornAt, IsLongerBy, TornAt, LongerBy, CutTo, Appended, Removed, HasFile, HasJournal, Elapses};
+ghost use Rattle.safe_device.specs.Crash.{Follows, Keeps, HasBoth, IsTornAt, IsLongerBy, TornAt, LongerBy, CutTo, Appended, Removed, HasFile, HasJournal, Elapses, IsSeenEnded};
 ghost use Rattle.safe_device.specs.declared.journal.Journal.{Journal as TheJournal};
 
 use crate::journal::PageImage;
@@ -40,6 +40,13 @@ pub trait PagePair {
     /// What a crash at some moment from that one on might have left, in a call or between two.
     ghost left_since: { Self → ℕ → Left → Type 0 };
 
+    /// What a reader found of both, or would have found, at each moment from that one on.
+    ghost seen_since: { Self → ℕ → List Left };
+
+    /// The moment. Only contracts have a use for it, so a pair that is not honest may tell any.
+    fn moments(&self) -> u64
+        ensures { IsTrue is_honest → result ≡ moment self.now };
+
     /// How many pages the file has.
     fn pages(&self) -> u32
         ensures { IsTrue is_honest → result ≡ length (file self.now) };
@@ -56,7 +63,7 @@ pub trait PagePair {
         ensures torn { IsTornAt page (file self.old) (file self.new) }
         ensures journal { journal self.new ≡ journal self.old }
         ensures crash { Follows (TornAt page) (may_leave self.old) (may_leave self.new) }
-        ensures time { Elapses moment left_since may_leave self.old self.new };
+        ensures time { Elapses moment left_since seen_since may_leave self.old self.new };
 
     /// Adds a page after the last.
     fn extend(&mut self, bytes: &Page) -> io::Result<()>
@@ -65,14 +72,14 @@ pub trait PagePair {
         ensures longer { IsLongerBy (file self.old) (file self.new) }
         ensures journal { journal self.new ≡ journal self.old }
         ensures crash { Follows LongerBy (may_leave self.old) (may_leave self.new) }
-        ensures time { Elapses moment left_since may_leave self.old self.new };
+        ensures time { Elapses moment left_since seen_since may_leave self.old self.new };
 
     /// Ends the file after its first so many pages.
     fn cut(&mut self, pages: u32) -> io::Result<()>
         ensures ok { IsTrue is_honest → OnOk result (file self.new ≡ take pages (file self.old)) }
         ensures journal { journal self.new ≡ journal self.old }
         ensures crash { Follows (CutTo pages) (may_leave self.old) (may_leave self.new) }
-        ensures time { Elapses moment left_since may_leave self.old self.new };
+        ensures time { Elapses moment left_since seen_since may_leave self.old self.new };
 
     /// Brings the file to where it outlasts a crash.
     fn sync_file(&mut self) -> io::Result<()>
@@ -80,7 +87,7 @@ pub trait PagePair {
         ensures file { file self.new ≡ file self.old }
         ensures journal { journal self.new ≡ journal self.old }
         ensures crash { (c : Left) → may_leave self.new c → may_leave self.old c }
-        ensures time { Elapses moment left_since may_leave self.old self.new };
+        ensures time { Elapses moment left_since seen_since may_leave self.old self.new };
 
     /// What the journal says of itself, where there is a whole one.
     fn find_journal(&self) -> io::Result<Option<FoundJournal>>
@@ -100,14 +107,16 @@ pub trait PagePair {
         ensures file { file self.new ≡ file self.old }
         ensures crash { Follows (Appended count images.now)
             (may_leave self.old) (may_leave self.new) }
-        ensures time { Elapses moment left_since may_leave self.old self.new };
+        ensures time { Elapses moment left_since seen_since may_leave self.old self.new };
 
     /// Ends the journal, so that a reader finds none.
     fn end_journal(&mut self) -> io::Result<()>
         ensures ok { OnOk result (journal self.new ≡ None) }
         ensures file { file self.new ≡ file self.old }
         ensures crash { Follows Removed (may_leave self.old) (may_leave self.new) }
-        ensures time { Elapses moment left_since may_leave self.old self.new };
+        ensures seen { IsSeenEnded moment seen_since may_leave
+            (file self.old) self.old self.new }
+        ensures time { Elapses moment left_since seen_since may_leave self.old self.new };
 
     /// Brings the journal, or that there is none, to where it outlasts a crash.
     fn sync_journal(&mut self) -> io::Result<()>
@@ -115,7 +124,7 @@ pub trait PagePair {
         ensures file { file self.new ≡ file self.old }
         ensures journal { journal self.new ≡ journal self.old }
         ensures crash { (c : Left) → may_leave self.new c → may_leave self.old c }
-        ensures time { Elapses moment left_since may_leave self.old self.new };
+        ensures time { Elapses moment left_since seen_since may_leave self.old self.new };
 
     /// Whether it is known that a crash leaves both as they are read.
     fn is_settled(&self) -> bool
@@ -133,4 +142,12 @@ pub trait PagePair {
     /// Since this moment there is no other.
     ghost only_now: { (pair : Self) (c : Left) →
         left_since pair (moment pair) c → may_leave pair c };
+
+    /// What a reader finds at this moment is among what one found since an earlier one.
+    ghost sees_now: { (pair : Self) (t : ℕ) → IsTrue is_honest → t ≤ moment pair →
+        Contains (seen_since pair t) (record { file = file pair; journal = journal pair }) };
+
+    /// What a reader finds at this moment is an outcome of a crash.
+    ghost only_seen: { (pair : Self) (c : Left) →
+        Contains (seen_since pair (moment pair)) c → may_leave pair c };
 }

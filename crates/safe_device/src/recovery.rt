@@ -48,7 +48,7 @@ pub fn recover<P: PagePair>(pair: &mut P) -> Result<(), RecoveryFault>
     ensures damaged { IsTrue P.is_honest → IsErrOf result RecoveryFault.Damaged →
         (Fits (P.journal pair.old) (P.file pair.old) → ⊥) × (pair.new ≡ pair.old) }
     ensures any_moment { IsTrue P.is_honest →
-        LeavesOnly P.moment P.left_since pair.old pair.new
+        LeavesOnly P.moment P.left_since P.seen_since pair.old pair.new
         (IsFoundOrLeft (committed P.file P.journal pair.old) (P.may_leave pair.old)) }
 {
     let found = pair.find_journal()?;
@@ -71,7 +71,7 @@ fn settle<P: PagePair>(pair: &mut P) -> io::Result<()>
     ensures journal { P.journal pair.new ≡ P.journal pair.old }
     ensures settled { OnOk result
         (Keeps (HasBoth (P.file pair.new) (P.journal pair.new)) (P.may_leave pair.new)) }
-    ensures any_moment { LeavesOnly P.moment P.left_since pair.old pair.new (P.may_leave pair.old) }
+    ensures any_moment { LeavesOnly P.moment P.left_since P.seen_since pair.old pair.new (P.may_leave pair.old) }
 {
     if pair.is_settled() {
         return Ok(());
@@ -110,7 +110,7 @@ fn put_back<P: PagePair>(pair: &mut P, journal: FoundJournal) -> io::Result<()>
     ensures restoring { IsTrue P.is_honest →
         IsRestoring (P.journal pair.old) (P.may_leave pair.old) (P.may_leave pair.new) }
     ensures any_moment { IsTrue P.is_honest →
-        LeavesOnly P.moment P.left_since pair.old pair.new (IsLeftBefore (P.may_leave pair.old)) }
+        LeavesOnly P.moment P.left_since P.seen_since pair.old pair.new (IsLeftBefore (P.may_leave pair.old)) }
 {
     pair.cut(journal.count)?;
     write_images(pair, journal.images)?;
@@ -128,7 +128,7 @@ fn write_images<P: PagePair>(pair: &mut P, images: u32) -> io::Result<()>
     ensures restoring { IsTrue P.is_honest →
         IsRestoring (P.journal pair.old) (P.may_leave pair.old) (P.may_leave pair.new) }
     ensures any_moment { IsTrue P.is_honest →
-        LeavesOnly P.moment P.left_since pair.old pair.new (IsLeftBefore (P.may_leave pair.old)) }
+        LeavesOnly P.moment P.left_since P.seen_since pair.old pair.new (IsLeftBefore (P.may_leave pair.old)) }
 {
     let mut bytes = [0; PAGE_BYTES];
     for index in 0..images {

@@ -9,7 +9,7 @@ use Rattle.buffer_pool.proofs.FilledLemmas.{roomy_is_empty}
 use Rattle.buffer_pool.proofs.TableLemmas.{some_if_placed, length-places}
 use Rattle.buffer_pool.proofs.ImagesLemmas.{image_outside, stored_outside}
 use Rattle.buffer_pool.proofs.PoolLemmas.{IsSoundPool-moved_in, images-moved_in, stays-moved_in}
-use Rattle.buffer_pool.proofs.TransferLemmas.{handed_on, no_page, not_ok, stays_with}
+use Rattle.buffer_pool.proofs.TransferLemmas.{handed_on, no_page, not_ok, read_then, stays_with}
 use Rattle.buffer_pool.specs.declared.fault.PoolFault.TheVariants.{Device}
 use Rattle.buffer_pool.specs.Pool.{PoolHasCause, images_of}
 use Rattle.buffer_pool.specs.Transfer.{MayBeUnread}
@@ -104,6 +104,11 @@ returns-clause-device g c = record {
       (roomy_is_empty _ _ c.args.table.now c.requires.sound c.free_frame-frame.result c.args.page
       c.free_frame-frame.ensures.next c.requires.page c.requires.outside roomy _ c.free_frame-frame.ensures.same)
       ∙ c.read.ensures.same;
+  crash = read_then _ _ _ c.read.ensures.crash c.write_back.ensures.device.crash;
+  same = λ roomy. c.write_back.ensures.device.same
+      (roomy_is_empty _ _ c.args.table.now c.requires.sound c.free_frame-frame.result c.args.page
+      c.free_frame-frame.ensures.next c.requires.page c.requires.outside roomy _ c.free_frame-frame.ensures.same)
+      ∙ c.read.ensures.crash;
 }
 
 pub returns-in_err-write_back-clause-device : goal.returns-in_err-write_back-clause-device
@@ -115,6 +120,11 @@ returns-in_err-write_back-clause-device g c =
           (roomy_is_empty _ _ c.args.table.now c.requires.sound c.free_frame-frame.result c.args.page
           c.free_frame-frame.ensures.next c.requires.page c.requires.outside roomy _ c.free_frame-frame.ensures.same)
           ∙ c.read.ensures.same;
+      crash = read_then _ _ _ c.read.ensures.crash c.write_back.ensures.device.crash;
+      same = λ roomy. c.write_back.ensures.device.same
+          (roomy_is_empty _ _ c.args.table.now c.requires.sound c.free_frame-frame.result c.args.page
+          c.free_frame-frame.ensures.next c.requires.page c.requires.outside roomy _ c.free_frame-frame.ensures.same)
+          ∙ c.read.ensures.crash;
     })
 
 pub returns-clause-ok : goal.returns-clause-ok

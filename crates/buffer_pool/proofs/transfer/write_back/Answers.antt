@@ -32,7 +32,9 @@ returns-in_err-write-clause-device g c =
     rw (not_ok c.from_residual.result c.from_residual.ensures.0) (record {
       honest = c.write.ensures.honest;
       seals = λ is good. absurd cc;
+      crash = c.write.ensures.crash;
       spared = λ none. let here = sym c.page.ensures ∙ c.in-Some.is in absurd cc;
+      same = λ none. let here = sym c.page.ensures ∙ c.in-Some.is in absurd cc;
     })
 
 pub returns-clause-sound : goal.returns-clause-sound
@@ -57,5 +59,7 @@ returns-clause-device g c = record {
       let here = sym c.page.ensures ∙ c.in-Some.is in
       let within = page_within _ _ _ c.requires.sound c.args.frame c.in-Some.page here in
       rw (c.in_ok-write.ensures.ok is) (seals_written _ c.in-Some.page _ within c.seal-sealed.ensures.sealed);
+  crash = c.write.ensures.crash;
   spared = λ none. let here = sym c.page.ensures ∙ c.in-Some.is in absurd cc;
+  same = λ none. let here = sym c.page.ensures ∙ c.in-Some.is in absurd cc;
 }

@@ -45,9 +45,9 @@ returns-in_err-write_images-clause-any_moment g c honest =
     let mid = c.cut.new.self in
     let cut = restoring_cut_on (P.journal old) c.args.journal (P.may_leave old) (P.may_leave mid)
     (c.requires.found honest) (c.requires.durable honest) c.cut.ensures.crash in
-    let at_cut = first P.moment P.left_since P.may_leave old mid (IsLeftBefore (P.may_leave old))
+    let at_cut = first P.moment P.left_since P.seen_since P.may_leave old mid (IsLeftBefore (P.may_leave old))
     (g.met.P.PagePair.only_now old) (λ f now. (f, now, refl)) c.cut.ensures.time cut.pages_kept in
-    joined P.moment P.left_since P.may_leave old mid c.write_images.new.pair _ (IsLeftBefore (P.may_leave mid)) _ at_cut
+    joined P.moment P.left_since P.seen_since P.may_leave old mid c.write_images.new.pair _ (IsLeftBefore (P.may_leave mid)) _ at_cut
     (c.write_images.ensures.any_moment honest) (λ f was. was)
     (λ f via. before_joined (P.may_leave old) (P.may_leave mid) f cut.pages_kept via)
 
@@ -74,10 +74,10 @@ returns-clause-any_moment g c honest =
     let mid = c.cut.new.self in
     let cut = restoring_cut_on (P.journal old) c.args.journal (P.may_leave old) (P.may_leave mid)
     (c.requires.found honest) (c.requires.durable honest) c.cut.ensures.crash in
-    let at_cut = first P.moment P.left_since P.may_leave old mid (IsLeftBefore (P.may_leave old))
+    let at_cut = first P.moment P.left_since P.seen_since P.may_leave old mid (IsLeftBefore (P.may_leave old))
     (g.met.P.PagePair.only_now old) (λ f now. (f, now, refl)) c.cut.ensures.time cut.pages_kept in
-    let at_images = joined P.moment P.left_since P.may_leave old mid c.write_images.new.pair _
+    let at_images = joined P.moment P.left_since P.seen_since P.may_leave old mid c.write_images.new.pair _
     (IsLeftBefore (P.may_leave mid)) _ at_cut (c.write_images.ensures.any_moment honest) (λ f was. was)
     (λ f via. before_joined (P.may_leave old) (P.may_leave mid) f cut.pages_kept via) in
-    goes_on P.moment P.left_since P.may_leave old c.write_images.new.pair c.sync_file.new.self _ at_images
+    goes_on P.moment P.left_since P.seen_since P.may_leave old c.write_images.new.pair c.sync_file.new.self _ at_images
     c.sync_file.ensures.time (returns-clause-restoring g c honest).pages_kept

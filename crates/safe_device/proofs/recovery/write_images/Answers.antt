@@ -23,7 +23,7 @@ returns-in_err-store-clause-restoring g c honest =
 pub returns-in_err-store-clause-any_moment : goal.returns-in_err-store-clause-any_moment
 returns-in_err-store-clause-any_moment g c honest =
     let P = g.P.PagePair in
-    goes_on P.moment P.left_since P.may_leave c.args.pair.now c.loop-index.pair c.store.new.self _
+    goes_on P.moment P.left_since P.seen_since P.may_leave c.args.pair.now c.loop-index.pair c.store.new.self _
     (c.loop-index.invariant.any_moment honest) c.store.ensures.time
     (returns-in_err-store-clause-restoring g c honest).pages_kept
 
@@ -48,6 +48,6 @@ loop-index-preserved g c =
       journal = c.store.ensures.journal ∙ loop.invariant.journal;
       restoring = restoring;
       any_moment = λ honest.
-          goes_on P.moment P.left_since P.may_leave old loop.pair c.store.new.self _ (loop.invariant.any_moment honest)
+          goes_on P.moment P.left_since P.seen_since P.may_leave old loop.pair c.store.new.self _ (loop.invariant.any_moment honest)
           c.store.ensures.time (restoring honest).pages_kept;
     }

@@ -13,6 +13,6 @@ invariant-loop-index g l = record {
   restoring : IsTrue g.P.PagePair.is_honest
       → IsRestoring (g.P.PagePair.journal l.fn.pair) (g.P.PagePair.may_leave l.fn.pair) (g.P.PagePair.may_leave l.pair);
   any_moment : IsTrue g.P.PagePair.is_honest
-      → LeavesOnly g.P.PagePair.moment g.P.PagePair.left_since l.fn.pair l.pair
+      → LeavesOnly g.P.PagePair.moment g.P.PagePair.left_since g.P.PagePair.seen_since l.fn.pair l.pair
       (IsLeftBefore (g.P.PagePair.may_leave l.fn.pair));
 }

@@ -23,6 +23,7 @@ returns g c =
       honest = g.D.PageDevice.is_honest device;
       synced = g.D.PageDevice.is_synced device;
       faults = g.D.PageDevice.fault_count device;
+      after_crash = g.D.PageDevice.after_crash device;
     } in (
       (
         refl,

@@ -27,7 +27,8 @@ returns-clause-keeps g c =
         honest = brought.device.honest;
         seals = λ is _. c.in_ok-bring_in.ensures.device.seals is refl;
       };
-      stored = spared_kept _ _ brought.pins.frames stored brought.device.spared;
+      stored = spared_kept _ _ brought.pins.frames stored brought.device.spared brought.device.same;
+      crash = brought.device.crash;
     })
 
 pub returns-in_err-bring_in-clause-keeps : goal.returns-in_err-bring_in-clause-keeps
@@ -43,7 +44,8 @@ returns-in_err-bring_in-clause-keeps g c =
         honest = brought.device.honest;
         seals = λ is good. absurd cc;
       };
-      stored = spared_kept _ _ brought.pins.frames stored brought.device.spared;
+      stored = spared_kept _ _ brought.pins.frames stored brought.device.spared brought.device.same;
+      crash = brought.device.crash;
     })
 
 pub returns-in_err-bring_in-clause-cause : goal.returns-in_err-bring_in-clause-cause

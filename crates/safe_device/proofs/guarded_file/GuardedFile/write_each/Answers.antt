@@ -41,7 +41,7 @@ loop-page-preserved g c =
           ∙ loop.invariant.others count;
       base = stays;
       any_moment = λ honest.
-          joined P.moment P.left_since P.may_leave old loop.self.pair c.write.new.self.pair _ _ _
+          joined P.moment P.left_since P.seen_since P.may_leave old loop.self.pair c.write.new.self.pair _ _ _
           (loop.invariant.any_moment honest) (c.write.ensures.any_moment honest) (λ f was. was)
           (λ f was. was ∙ loop.invariant.base honest);
     }

@@ -16,6 +16,6 @@ invariant-loop-page g l = record {
       → committed g.P.PagePair.file g.P.PagePair.journal l.self.pair
       ≡ committed g.P.PagePair.file g.P.PagePair.journal l.fn.self.pair;
   any_moment : IsTrue g.P.PagePair.is_honest
-      → LeavesOnly g.P.PagePair.moment g.P.PagePair.left_since l.fn.self.pair l.self.pair
+      → LeavesOnly g.P.PagePair.moment g.P.PagePair.left_since g.P.PagePair.seen_since l.fn.self.pair l.self.pair
       (StandsFor (committed g.P.PagePair.file g.P.PagePair.journal l.fn.self.pair));
 }
