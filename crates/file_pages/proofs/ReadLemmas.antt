@@ -34,7 +34,8 @@ only_reads ok s t u page right ready pinned is = subst (OnlyReads ok s) (sym is)
   };
   honest = pinned.keeps.honest;
   later = pinned.later;
-  stored = spared_is t (record t { pins = slice_set t.pins right (pins_at t right - 1) }) refl refl refl ∙ pinned.stored;
+  stored = spared_is t (record t { pins = slice_set t.pins right (pins_at t right - 1) }) refl refl refl ∙
+      pinned.stored;
   as_many = pinned.keeps.as_many;
   images = pinned.keeps.images;
   file = λ honest done f. file_kept s (record t { pins = slice_set t.pins right (pins_at t right - 1) })

@@ -34,7 +34,8 @@ module _ {P : Type 0} (file : P → Pages) (journal : P → Option Journal) (may
         → Elapses moment left_since seen_since may_leave old.pair mid
         → LeavesOnly moment left_since seen_since old.pair mid (StandsFor (base old))
     images_added only_now time =
-        first moment left_since seen_since may_leave old.pair mid (StandsFor (base old)) only_now safe.pages_kept time images_kept
+        first moment left_since seen_since may_leave old.pair mid (StandsFor (base old)) only_now safe.pages_kept
+        time images_kept
 
   -- and were waited for
   module _ (old : GuardedFile P) (images : List PageImage) (n : ℕ) (new : P)

@@ -58,8 +58,8 @@ pub record HasBoth (pages : List (List ℕ)) (found : Option Journal) (left : Le
   pub journal : HasJournal found left
 
 -- a crash leaves the journal ended only where it might have left it so before, or where a reader found it so
-abbrev pub IsSeenEnded : {P : Type 0} → (P → ℕ) → (P → ℕ → List Left) → (P → Left → Type 0) → List (List ℕ) → (old new : P)
-    → Type 0
+abbrev pub IsSeenEnded : {P : Type 0} → (P → ℕ) → (P → ℕ → List Left) → (P → Left → Type 0) → List (List ℕ)
+    → (old new : P) → Type 0
 IsSeenEnded moment seen_since may_leave file old new =
     (t : ℕ) (c : Left) → t ≤ moment old → may_leave new c → c.journal ≡ None
     → may_leave old c ⊎ Contains (seen_since new t) (record { file = file; journal = None })

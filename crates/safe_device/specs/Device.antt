@@ -115,7 +115,8 @@ pub record Commits {P : Type 0} (honest : Bool) (file : P → List (List ℕ)) (
     (old new : DeviceState P) : Type 0 where
   pub broken : IsTrue old.is_broken → (new.pair ≡ old.pair) × IsTrue new.is_broken
   pub any_moment : IsTrue honest → old.is_broken ≡ false
-      → LeavesOnly moment left_since seen_since old.pair new.pair (IsEither (committed file journal old.pair) old.content)
+      → LeavesOnly moment left_since seen_since old.pair new.pair (IsEither (committed file journal old.pair)
+      old.content)
   pub commits : IsTrue honest → IsTrue succeeded → committed file journal new.pair ≡ old.content
   pub crash : LeavesEither succeeded old.content old.after_crash new.after_crash
 

@@ -184,8 +184,8 @@ impl<P: PagePair> PageDevice for SafeDevice<P> {
         ensures past { IsErrOf result DeviceFault.PastEnd ↔ (length self.old.content ≤ page) }
         ensures others { DiffersAtMostAt page self.old.content self.new.content }
         ensures cause { HasCause MayMeetTheEnd self.old.failed self.new.failed result }
-        ensures any_moment { StaysCommitted P.is_honest P.file P.journal P.moment P.left_since P.seen_since
-            (is_ok result) self.old self.new }
+        ensures any_moment { StaysCommitted P.is_honest P.file P.journal
+            P.moment P.left_since P.seen_since (is_ok result) self.old self.new }
     {
         if page >= self.pages {
             return Err(DeviceFault::PastEnd);
@@ -213,8 +213,8 @@ impl<P: PagePair> PageDevice for SafeDevice<P> {
             (MAX_PAGES ≤ length self.old.content) }
         ensures err { OnErr result (self.new.content ≡ self.old.content) }
         ensures cause { HasCause MayBeFull self.old.failed self.new.failed result }
-        ensures any_moment { StaysCommitted P.is_honest P.file P.journal P.moment P.left_since P.seen_since
-            (is_ok result) self.old self.new }
+        ensures any_moment { StaysCommitted P.is_honest P.file P.journal
+            P.moment P.left_since P.seen_since (is_ok result) self.old self.new }
     {
         if self.pages >= MAX_PAGES {
             return Err(DeviceFault::DeviceFull);
@@ -238,8 +238,8 @@ impl<P: PagePair> PageDevice for SafeDevice<P> {
         ensures ok { IsTrue P.is_honest → OnOk result (IsTrue self.new.is_synced) }
         ensures same { self.new.content ≡ self.old.content }
         ensures cause { HasCause MayOnlyFail self.old.failed self.new.failed result }
-        ensures any_moment { Commits P.is_honest P.file P.journal P.moment P.left_since P.seen_since
-            (is_ok result) self.old self.new }
+        ensures any_moment { Commits P.is_honest P.file P.journal
+            P.moment P.left_since P.seen_since (is_ok result) self.old self.new }
         ensures durable { IsTrue P.is_honest →
             OnOk result (Keeps (StandsFor self.old.content) (P.may_leave self.new.pair)) }
         ensures usable { OnOk result (self.new.is_broken ≡ false) }

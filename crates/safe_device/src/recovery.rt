@@ -71,7 +71,8 @@ fn settle<P: PagePair>(pair: &mut P) -> io::Result<()>
     ensures journal { P.journal pair.new ≡ P.journal pair.old }
     ensures settled { OnOk result
         (Keeps (HasBoth (P.file pair.new) (P.journal pair.new)) (P.may_leave pair.new)) }
-    ensures any_moment { LeavesOnly P.moment P.left_since P.seen_since pair.old pair.new (P.may_leave pair.old) }
+    ensures any_moment { LeavesOnly P.moment P.left_since P.seen_since pair.old pair.new
+        (P.may_leave pair.old) }
 {
     if pair.is_settled() {
         return Ok(());
@@ -110,7 +111,8 @@ fn put_back<P: PagePair>(pair: &mut P, journal: FoundJournal) -> io::Result<()>
     ensures restoring { IsTrue P.is_honest →
         IsRestoring (P.journal pair.old) (P.may_leave pair.old) (P.may_leave pair.new) }
     ensures any_moment { IsTrue P.is_honest →
-        LeavesOnly P.moment P.left_since P.seen_since pair.old pair.new (IsLeftBefore (P.may_leave pair.old)) }
+        LeavesOnly P.moment P.left_since P.seen_since pair.old pair.new
+        (IsLeftBefore (P.may_leave pair.old)) }
 {
     pair.cut(journal.count)?;
     write_images(pair, journal.images)?;
@@ -128,7 +130,8 @@ fn write_images<P: PagePair>(pair: &mut P, images: u32) -> io::Result<()>
     ensures restoring { IsTrue P.is_honest →
         IsRestoring (P.journal pair.old) (P.may_leave pair.old) (P.may_leave pair.new) }
     ensures any_moment { IsTrue P.is_honest →
-        LeavesOnly P.moment P.left_since P.seen_since pair.old pair.new (IsLeftBefore (P.may_leave pair.old)) }
+        LeavesOnly P.moment P.left_since P.seen_since pair.old pair.new
+        (IsLeftBefore (P.may_leave pair.old)) }
 {
     let mut bytes = [0; PAGE_BYTES];
     for index in 0..images {

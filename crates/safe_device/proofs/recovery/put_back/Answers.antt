@@ -47,7 +47,8 @@ returns-in_err-write_images-clause-any_moment g c honest =
     (c.requires.found honest) (c.requires.durable honest) c.cut.ensures.crash in
     let at_cut = first P.moment P.left_since P.seen_since P.may_leave old mid (IsLeftBefore (P.may_leave old))
     (g.met.P.PagePair.only_now old) (λ f now. (f, now, refl)) c.cut.ensures.time cut.pages_kept in
-    joined P.moment P.left_since P.seen_since P.may_leave old mid c.write_images.new.pair _ (IsLeftBefore (P.may_leave mid)) _ at_cut
+    joined P.moment P.left_since P.seen_since P.may_leave old mid c.write_images.new.pair _ (IsLeftBefore
+    (P.may_leave mid)) _ at_cut
     (c.write_images.ensures.any_moment honest) (λ f was. was)
     (λ f via. before_joined (P.may_leave old) (P.may_leave mid) f cut.pages_kept via)
 

@@ -11,7 +11,8 @@ returns-in_err-put_back-clause-any_moment g c honest =
     let old = c.args.pair.now in
     let synced = c.sync_journal.new.self in
     let found = committed P.file P.journal old in
-    let at_sync = first P.moment P.left_since P.seen_since P.may_leave old synced (IsFoundOrLeft found (P.may_leave old))
+    let at_sync = first P.moment P.left_since P.seen_since P.may_leave old synced (IsFoundOrLeft found (P.may_leave
+    old))
     (g.met.P.PagePair.only_now old) (λ f now. inr (f, now, refl)) c.sync_journal.ensures.time
     (was_left P.may_leave old synced found c.sync_journal.ensures.crash) in
     joined P.moment P.left_since P.seen_since P.may_leave old synced c.put_back.new.pair _
@@ -28,10 +29,12 @@ returns-in_err-end_journal-clause-any_moment g c honest =
     let ended = c.end_journal.new.self in
     let found = committed P.file P.journal old in
     let sync = c.sync_journal.ensures in
-    let at_sync = first P.moment P.left_since P.seen_since P.may_leave old synced (IsFoundOrLeft found (P.may_leave old))
+    let at_sync = first P.moment P.left_since P.seen_since P.may_leave old synced (IsFoundOrLeft found (P.may_leave
+    old))
     (g.met.P.PagePair.only_now old) (λ f now. inr (f, now, refl)) sync.time
     (was_left P.may_leave old synced found sync.crash) in
-    let at_images = joined P.moment P.left_since P.seen_since P.may_leave old synced mid _ (IsLeftBefore (P.may_leave synced)) _
+    let at_images = joined P.moment P.left_since P.seen_since P.may_leave old synced mid _ (IsLeftBefore (P.may_leave
+    synced)) _
     at_sync (c.put_back.ensures.any_moment honest) (λ f was. was) (was_before P.may_leave old synced found sync.crash)
     in
     let file_is = c.in_ok-put_back.ensures.file honest
@@ -50,10 +53,12 @@ returns-in_err-sync_journal-2-clause-any_moment g c honest =
     let ended = c.end_journal.new.self in
     let found = committed P.file P.journal old in
     let sync = c.sync_journal.ensures in
-    let at_sync = first P.moment P.left_since P.seen_since P.may_leave old synced (IsFoundOrLeft found (P.may_leave old))
+    let at_sync = first P.moment P.left_since P.seen_since P.may_leave old synced (IsFoundOrLeft found (P.may_leave
+    old))
     (g.met.P.PagePair.only_now old) (λ f now. inr (f, now, refl)) sync.time
     (was_left P.may_leave old synced found sync.crash) in
-    let at_images = joined P.moment P.left_since P.seen_since P.may_leave old synced mid _ (IsLeftBefore (P.may_leave synced)) _
+    let at_images = joined P.moment P.left_since P.seen_since P.may_leave old synced mid _ (IsLeftBefore (P.may_leave
+    synced)) _
     at_sync (c.put_back.ensures.any_moment honest) (λ f was. was) (was_before P.may_leave old synced found sync.crash)
     in
     let file_is = c.in_ok-put_back.ensures.file honest
@@ -61,8 +66,10 @@ returns-in_err-sync_journal-2-clause-any_moment g c honest =
     let kept = ended_kept P.may_leave old synced found sync.crash mid ended
     (λ f now. c.in_ok-put_back.ensures.durable f now ∙ file_is) (c.put_back.ensures.restoring honest).pages_kept
     c.end_journal.ensures.crash in
-    let at_end = goes_on P.moment P.left_since P.seen_since P.may_leave old mid ended _ at_images c.end_journal.ensures.time kept in
-    goes_on P.moment P.left_since P.seen_since P.may_leave old ended c.sync_journal-2.new.self _ at_end c.sync_journal-2.ensures.time
+    let at_end = goes_on P.moment P.left_since P.seen_since P.may_leave old mid ended _ at_images
+    c.end_journal.ensures.time kept in
+    goes_on P.moment P.left_since P.seen_since P.may_leave old ended c.sync_journal-2.new.self _ at_end
+    c.sync_journal-2.ensures.time
     (λ f now. kept f (c.sync_journal-2.ensures.crash f now))
 
 pub returns-clause-any_moment : goal.returns-clause-any_moment
@@ -74,10 +81,12 @@ returns-clause-any_moment g c honest =
     let ended = c.end_journal.new.self in
     let found = committed P.file P.journal old in
     let sync = c.sync_journal.ensures in
-    let at_sync = first P.moment P.left_since P.seen_since P.may_leave old synced (IsFoundOrLeft found (P.may_leave old))
+    let at_sync = first P.moment P.left_since P.seen_since P.may_leave old synced (IsFoundOrLeft found (P.may_leave
+    old))
     (g.met.P.PagePair.only_now old) (λ f now. inr (f, now, refl)) sync.time
     (was_left P.may_leave old synced found sync.crash) in
-    let at_images = joined P.moment P.left_since P.seen_since P.may_leave old synced mid _ (IsLeftBefore (P.may_leave synced)) _
+    let at_images = joined P.moment P.left_since P.seen_since P.may_leave old synced mid _ (IsLeftBefore (P.may_leave
+    synced)) _
     at_sync (c.put_back.ensures.any_moment honest) (λ f was. was) (was_before P.may_leave old synced found sync.crash)
     in
     let file_is = c.in_ok-put_back.ensures.file honest
@@ -85,6 +94,8 @@ returns-clause-any_moment g c honest =
     let kept = ended_kept P.may_leave old synced found sync.crash mid ended
     (λ f now. c.in_ok-put_back.ensures.durable f now ∙ file_is) (c.put_back.ensures.restoring honest).pages_kept
     c.end_journal.ensures.crash in
-    let at_end = goes_on P.moment P.left_since P.seen_since P.may_leave old mid ended _ at_images c.end_journal.ensures.time kept in
-    goes_on P.moment P.left_since P.seen_since P.may_leave old ended c.sync_journal-2.new.self _ at_end c.sync_journal-2.ensures.time
+    let at_end = goes_on P.moment P.left_since P.seen_since P.may_leave old mid ended _ at_images
+    c.end_journal.ensures.time kept in
+    goes_on P.moment P.left_since P.seen_since P.may_leave old ended c.sync_journal-2.new.self _ at_end
+    c.sync_journal-2.ensures.time
     (λ f now. kept f (c.sync_journal-2.ensures.crash f now))

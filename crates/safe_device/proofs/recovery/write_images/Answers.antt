@@ -48,6 +48,7 @@ loop-index-preserved g c =
       journal = c.store.ensures.journal ∙ loop.invariant.journal;
       restoring = restoring;
       any_moment = λ honest.
-          goes_on P.moment P.left_since P.seen_since P.may_leave old loop.pair c.store.new.self _ (loop.invariant.any_moment honest)
+          goes_on P.moment P.left_since P.seen_since P.may_leave old loop.pair c.store.new.self _
+          (loop.invariant.any_moment honest)
           c.store.ensures.time (restoring honest).pages_kept;
     }

@@ -20,7 +20,8 @@ invariant_of-self g c =
       told = λ honest.
           goes_on_telling P.file P.journal P.may_leave P.moment P.left_since P.seen_since c.self.inside.made
           c.self.inside.file.pair c.write_all.new.self.pair (c.self.invariant.told honest)
-          (c.write_all.ensures.any_moment honest) (λ t le. g.met.P.PagePair.sees_now c.self.inside.file.pair t honest le);
+          (c.write_all.ensures.any_moment honest) (λ t le. g.met.P.PagePair.sees_now c.self.inside.file.pair t honest
+          le);
     }
 
 pub invariant_of-self-2 : goal.invariant_of-self-2
@@ -37,7 +38,8 @@ invariant_of-self-2 g c =
       told = λ honest.
           goes_on_telling P.file P.journal P.may_leave P.moment P.left_since P.seen_since c.self.inside.made
           c.self.inside.file.pair c.write_all.new.self.pair (c.self.invariant.told honest)
-          (c.write_all.ensures.any_moment honest) (λ t le. g.met.P.PagePair.sees_now c.self.inside.file.pair t honest le);
+          (c.write_all.ensures.any_moment honest) (λ t le. g.met.P.PagePair.sees_now c.self.inside.file.pair t honest
+          le);
     }
 
 -- a crash leaves the pages of the last sync

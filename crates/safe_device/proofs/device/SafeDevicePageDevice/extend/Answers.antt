@@ -33,7 +33,8 @@ returns-in_default-clause-any_moment g c =
           (subst (λ (s : DeviceState g.row.P.Denot). LeavesLastSync s.after_crash
           (after_crash_of P.is_honest d.made (committed P.file P.journal new) (P.seen_since new d.made)))
           c.self-2.view_is
-          (leaves_last P.file P.journal P.may_leave P.moment P.left_since P.seen_since P.is_honest d.made d.file.pair new
+          (leaves_last P.file P.journal P.may_leave P.moment P.left_since P.seen_since P.is_honest d.made d.file.pair
+          new
           (λ honest. (c.self-2.invariant.told honest).earlier) c.extend.ensures.any_moment
           (g.met.P.PagePair.seen_may_stay new) (g.met.P.PagePair.counts_now new)));
     }
@@ -63,7 +64,8 @@ returns-clause-any_moment g c =
           (subst (λ (s : DeviceState g.row.P.Denot). LeavesLastSync s.after_crash
           (after_crash_of P.is_honest d.made (committed P.file P.journal new) (P.seen_since new d.made)))
           c.self-2.view_is
-          (leaves_last P.file P.journal P.may_leave P.moment P.left_since P.seen_since P.is_honest d.made d.file.pair new
+          (leaves_last P.file P.journal P.may_leave P.moment P.left_since P.seen_since P.is_honest d.made d.file.pair
+          new
           (λ honest. (c.self-2.invariant.told honest).earlier) c.extend.ensures.any_moment
           (g.met.P.PagePair.seen_may_stay new) (g.met.P.PagePair.counts_now new)));
     }

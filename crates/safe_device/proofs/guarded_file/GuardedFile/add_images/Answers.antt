@@ -19,10 +19,12 @@ returns-in_err-sync_journal-clause-any_moment g c honest =
     let kept = images_kept P.file P.journal P.may_leave P.moment P.left_since P.seen_since old c.args.images.now _ mid
     (c.requires.safe honest) (c.requires.images honest) (c.first_count-self.ensures honest)
     c.append_images.ensures.crash in
-    let so_far = images_added P.file P.journal P.may_leave P.moment P.left_since P.seen_since old c.args.images.now _ mid
+    let so_far = images_added P.file P.journal P.may_leave P.moment P.left_since P.seen_since old c.args.images.now _
+    mid
     (c.requires.safe honest) (c.requires.images honest) (c.first_count-self.ensures honest)
     c.append_images.ensures.crash (g.met.P.PagePair.only_now old.pair) c.append_images.ensures.time in
-    goes_on P.moment P.left_since P.seen_since P.may_leave old.pair mid c.sync_journal.new.self _ so_far c.sync_journal.ensures.time
+    goes_on P.moment P.left_since P.seen_since P.may_leave old.pair mid c.sync_journal.new.self _ so_far
+    c.sync_journal.ensures.time
     (λ f now. kept f (c.sync_journal.ensures.crash f now))
 
 pub returns-clause-any_moment : goal.returns-clause-any_moment
@@ -33,10 +35,12 @@ returns-clause-any_moment g c honest =
     let kept = images_kept P.file P.journal P.may_leave P.moment P.left_since P.seen_since old c.args.images.now _ mid
     (c.requires.safe honest) (c.requires.images honest) (c.first_count-self.ensures honest)
     c.append_images.ensures.crash in
-    let so_far = images_added P.file P.journal P.may_leave P.moment P.left_since P.seen_since old c.args.images.now _ mid
+    let so_far = images_added P.file P.journal P.may_leave P.moment P.left_since P.seen_since old c.args.images.now _
+    mid
     (c.requires.safe honest) (c.requires.images honest) (c.first_count-self.ensures honest)
     c.append_images.ensures.crash (g.met.P.PagePair.only_now old.pair) c.append_images.ensures.time in
-    goes_on P.moment P.left_since P.seen_since P.may_leave old.pair mid c.sync_journal.new.self _ so_far c.sync_journal.ensures.time
+    goes_on P.moment P.left_since P.seen_since P.may_leave old.pair mid c.sync_journal.new.self _ so_far
+    c.sync_journal.ensures.time
     (λ f now. kept f (c.sync_journal.ensures.crash f now))
 
 -- what a reader finds stands for the same

@@ -10,7 +10,8 @@ returns-in_err-extend-clause-any_moment g c honest =
     let mid = c.begin.new.self in
     let kept = extend_kept P.file P.journal P.may_leave P.moment P.left_since P.seen_since mid c.extend.new.self
     (m.safe honest) m.begun c.extend.ensures.crash in
-    still_only P.file P.journal P.may_leave P.moment P.left_since P.seen_since mid c.extend.new.self kept c.args.self.now.pair _
+    still_only P.file P.journal P.may_leave P.moment P.left_since P.seen_since mid c.extend.new.self kept
+    c.args.self.now.pair _
     (c.begin.ensures.any_moment honest) (m.committed honest) c.extend.ensures.time
 
 pub returns-clause-any_moment : goal.returns-clause-any_moment
@@ -20,7 +21,8 @@ returns-clause-any_moment g c honest =
     let mid = c.begin.new.self in
     let kept = extend_kept P.file P.journal P.may_leave P.moment P.left_since P.seen_since mid c.extend.new.self
     (m.safe honest) m.begun c.extend.ensures.crash in
-    still_only P.file P.journal P.may_leave P.moment P.left_since P.seen_since mid c.extend.new.self kept c.args.self.now.pair _
+    still_only P.file P.journal P.may_leave P.moment P.left_since P.seen_since mid c.extend.new.self kept
+    c.args.self.now.pair _
     (c.begin.ensures.any_moment honest) (m.committed honest) c.extend.ensures.time
 
 pub returns-clause-committed : goal.returns-clause-committed
@@ -41,7 +43,8 @@ returns-clause-safe g c honest =
     let is = c.in_ok-extend.ensures.ok honest in
     let kept = extend_kept P.file P.journal P.may_leave P.moment P.left_since P.seen_since mid new
     (m.safe honest) m.begun c.extend.ensures.crash in
-    still_safe P.file P.journal P.may_leave P.moment P.left_since P.seen_since mid new kept (m.safe honest) c.extend.ensures.journal
+    still_safe P.file P.journal P.may_leave P.moment P.left_since P.seen_since mid new kept (m.safe honest)
+    c.extend.ensures.journal
     (extend_length P.file P.journal P.may_leave P.moment P.left_since P.seen_since mid new (m.safe honest) m.begun
     (c.args.bytes.now ∷ []) is)
     (extend_committed P.file P.journal P.may_leave P.moment P.left_since P.seen_since mid new (m.safe honest) m.begun
