@@ -22,11 +22,11 @@ use std::{fs, io, process, thread};
 const TURN: u64 = 10;
 
 /// So many milliseconds lie between two looks whether FILE was written.
-const TICK: u64 = 50;
+const TICK: u64 = 20;
 
 /// FILE is read again after so many ticks also where nothing tells that it was written: not every
 /// system of files tells the moment of a write exactly.
-const MOST_TICKS: u32 = 100;
+const MOST_TICKS: u32 = 250;
 
 /// So many times FILE is read at most.
 const MOST_LOOKS: u64 = u64::MAX;
