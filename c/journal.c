@@ -97,20 +97,20 @@ struct left {
     const struct opened *file, *journal;
     enum found found;
     uint8_t head[HEAD_BYTES];
+    uint64_t size;   /* of the journal */
     uint32_t count;  /* as many pages the file had */
     uint64_t images; /* as many are right, from the first on */
 };
 
 /* Reads the head. */
 static int read_head(struct left *left) {
-    uint64_t size = 0;
-    int wrong = find_head(left->journal, left->head, &size, &left->found);
+    int wrong = find_head(left->journal, left->head, &left->size, &left->found);
     if (wrong != 0 || left->found == TORN || left->found == IS_ENDED)
         return wrong;
     if (left->found == OTHER_VERSION)
         return why(ENOTSUP, "its journal is of another version");
     left->count = number_at(left->head + COUNT_AT);
-    left->images = (size - HEAD_BYTES) / IMAGE_BYTES;
+    left->images = (left->size - HEAD_BYTES) / IMAGE_BYTES;
     return 0;
 }
 
@@ -198,7 +198,6 @@ static int end_it(const struct opened *journal, uint64_t save, uint64_t length) 
 
 int journal_recover(const struct opened *file, const struct opened *journal) {
     struct left left = {.file = file, .journal = journal};
-    uint64_t size = 0;
     int wrong = read_head(&left);
     if (wrong != 0)
         return wrong;
@@ -210,10 +209,9 @@ int journal_recover(const struct opened *file, const struct opened *journal) {
         return wrong;
     if ((wrong = cut_at(file, (uint64_t)left.count * PAGE_BYTES)) != 0
         || (wrong = put_back(&left)) != 0
-        || (wrong = sync_it(file)) != 0
-        || (wrong = of_journal(size_of(journal, &size))) != 0)
+        || (wrong = sync_it(file)) != 0)
         return wrong;
-    return end_it(journal, save_of(left.head), size);
+    return end_it(journal, save_of(left.head), left.size);
 }
 
 /* ---- a journal is written */
