@@ -16,7 +16,9 @@ struct image {
 /* A journal that is written. */
 struct journal {
     const struct opened *file;
-    uint64_t length;    /* 0 before it is begun */
+    uint64_t size;      /* as many bytes it had, which are on the disk */
+    uint64_t length;    /* up to its last image; 0 before it is begun */
+    uint64_t save;      /* the number of the save */
     struct image image; /* behind its last */
 };
 
@@ -25,18 +27,15 @@ struct journal {
  * both files stay. */
 int journal_recover(const struct opened *file, const struct opened *journal);
 
-/* Empties a journal in which something stands that is no whole one. */
-int journal_clear(const struct opened *journal);
-
-/* Writes the head for a file of so many pages, of which this is page 0. */
-int journal_begin(struct journal *journal, uint32_t pages, const uint8_t *first);
+/* Writes the head for a file of so many pages, whose page 0 ends with this digest. */
+int journal_begin(struct journal *journal, uint32_t pages, const uint8_t *digest);
 
 /* Adds a page as it was. */
 int journal_add(struct journal *journal, uint32_t page, const uint8_t *was);
 
 int journal_sync(const struct journal *journal);
 
-/* Empties it, which ends the save. */
-int journal_end(const struct opened *journal);
+/* Writes over its head, which ends the save. */
+int journal_end(const struct journal *journal);
 
 #endif

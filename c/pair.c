@@ -132,12 +132,13 @@ static int each_changed(const struct pair *pair, struct handle *session,
 }
 
 static int begin_journal(struct journal *journal, const struct pair *pair, struct handle *session) {
-    uint8_t first[PAGE_BYTES];
+    /* Page 0 was checked against it when the session was opened, or was sealed by it. */
+    uint8_t digest[DIGEST_BYTES];
     uint32_t pages;
     if (msgq_session_pages(session, &pages) != DONE)
         return EIO;
-    int wrong = read_at(&pair->file, first, sizeof first, 0);
-    return wrong != 0 ? wrong : journal_begin(journal, pages, first);
+    int wrong = read_at(&pair->file, digest, sizeof digest, PAGE_BYTES - DIGEST_BYTES);
+    return wrong != 0 ? wrong : journal_begin(journal, pages, digest);
 }
 
 /* Brings the page, as the file has it, to the journal, which is begun for the first. */
@@ -168,17 +169,15 @@ static int test_both(const struct pair *pair) {
 int pair_save(const struct pair *pair, struct handle *session) {
     struct journal journal = {.file = &pair->journal};
     int wrong = test_both(pair);
-    /* What stands in the journal, where it was opened so, is no whole one. */
-    if (wrong == 0)
-        wrong = journal_clear(&pair->journal);
     if (wrong == 0)
         wrong = each_changed(pair, session, journal_page, &journal);
     if (wrong != 0 || journal.length == 0)
         return wrong;
     if ((wrong = journal_sync(&journal)) != 0
         || (wrong = each_changed(pair, session, write_page, NULL)) != 0
-        || (wrong = sync_it(&pair->file)) != 0
-        || (wrong = journal_end(&pair->journal)) != 0)
+        /* (it is as long as it was) */
+        || (wrong = sync_bytes(&pair->file)) != 0
+        || (wrong = journal_end(&journal)) != 0)
         return wrong;
     return msgq_session_note_saved(session) == DONE ? 0 : EIO;
 }

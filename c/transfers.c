@@ -90,6 +90,13 @@ int sync_it(const struct opened *it) {
     return 0;
 }
 
+int sync_bytes(const struct opened *it) {
+    while (fdatasync(it->file) != 0)
+        if (errno != EINTR)
+            return errno;
+    return 0;
+}
+
 int sync_folder_of(const char *path) {
     char name[PATH_MAX];
     struct opened folder;

@@ -36,6 +36,9 @@ int size_of(const struct opened *it, uint64_t *size);
 /* Brings it to where it outlasts a crash. */
 int sync_it(const struct opened *it);
 
+/* The same where its length is as it was: the time of its change is not waited for. */
+int sync_bytes(const struct opened *it);
+
 /* The same of the names in the folder of a file. */
 int sync_folder_of(const char *path);
 

@@ -28,12 +28,12 @@ static void is(long long found, long long expected, const char *what) {
 /* ---- calls that fail */
 
 enum call {
-    NONE, PREAD, PWRITE, FSYNC, FTRUNCATE, FSTAT, STAT, LSTAT, OPEN, REALPATH, FLOCK, FOPEN, FCHMOD, MALLOC, CALLOC, CLOCK,
+    NONE, PREAD, PWRITE, FSYNC, FDATASYNC, FTRUNCATE, FSTAT, STAT, LSTAT, OPEN, REALPATH, FLOCK, FOPEN, FCHMOD, MALLOC, CALLOC, CLOCK,
     ATTR_INIT, ATTR_CLOCK, COND_INIT, MUTEX_INIT, CALLS, LINK, RENAME, UNLINK
 };
 
 static const char *const names[] = {
-    "none", "pread", "pwrite", "fsync", "ftruncate", "fstat", "stat", "lstat", "open", "realpath", "flock", "fopen", "fchmod", "malloc",
+    "none", "pread", "pwrite", "fsync", "fdatasync", "ftruncate", "fstat", "stat", "lstat", "open", "realpath", "flock", "fopen", "fchmod", "malloc",
     "calloc", "clock_gettime", "pthread_condattr_init", "pthread_condattr_setclock", "pthread_cond_init", "pthread_mutex_init", "",
     "link", "rename", "unlink",
 };
@@ -77,6 +77,7 @@ static bool disarm(void) {
 WRAP(ssize_t, pread, PREAD, number == 0 ? 0 : -1, (int file, void *to, size_t count, off_t at), (file, to, count, at))
 WRAP(ssize_t, pwrite, PWRITE, number == 0 ? 0 : -1, (int file, const void *from, size_t count, off_t at), (file, from, count, at))
 WRAP(int, fsync, FSYNC, -1, (int file), (file))
+WRAP(int, fdatasync, FDATASYNC, -1, (int file), (file))
 WRAP(int, ftruncate, FTRUNCATE, -1, (int file, off_t size), (file, size))
 WRAP(int, fstat, FSTAT, -1, (int file, struct stat *to), (file, to))
 WRAP(int, stat, STAT, -1, (const char *path, struct stat *to), (path, to))

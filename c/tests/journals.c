@@ -1,6 +1,7 @@
 /* Journals and pages written by hand from docs/FORMAT.md: what is put back, what is refused, and what is said of it (docs/FAULTS.md).
  * Run with the name of a new file, in the folder where it is to be. */
 #include "../msgq.h"
+#include "sha256.h"
 
 #include <errno.h>
 #include <stdio.h>
@@ -20,75 +21,6 @@ static void is(long long found, long long expected, const char *what) {
     }
     failed++;
     fprintf(stderr, "%s: %lld, not %lld\n", what, found, expected);
-}
-
-/* ---- SHA-256 (FIPS 180-4) */
-
-static uint32_t turned(uint32_t word, int by) {
-    return word >> by | word << (32 - by);
-}
-
-/* The first 32 bits of the fractional part of a root of each of the first primes. */
-static void constants(uint32_t *square, uint32_t *cube) {
-    int count = 0;
-    for (unsigned prime = 2; count < 64; prime++) {
-        unsigned divisor = 2;
-        while (divisor < prime && prime % divisor != 0)
-            divisor++;
-        if (divisor < prime)
-            continue;
-        /* The greatest number whose power is at most the prime's, with 32 bits behind the point. */
-        unsigned __int128 root = 0, third = 0;
-        for (int bit = 36; bit >= 0; bit--) {
-            unsigned __int128 more = root | (unsigned __int128)1 << bit;
-            if (more * more <= (unsigned __int128)prime << 64)
-                root = more;
-            more = third | (unsigned __int128)1 << bit;
-            if (more * more * more <= (unsigned __int128)prime << 96)
-                third = more;
-        }
-        if (count < 8)
-            square[count] = (uint32_t)root;
-        cube[count++] = (uint32_t)third;
-    }
-}
-
-static void digest_block(uint32_t *state, const uint32_t *cube, const uint8_t *block) {
-    uint32_t words[64], now[8];
-    for (int n = 0; n < 64; n++)
-        if (n < 16)
-            words[n] = (uint32_t)block[4 * n] << 24 | (uint32_t)block[4 * n + 1] << 16 | (uint32_t)block[4 * n + 2] << 8 | block[4 * n + 3];
-        else
-            words[n] = words[n - 16] + words[n - 7] + (turned(words[n - 15], 7) ^ turned(words[n - 15], 18) ^ words[n - 15] >> 3)
-                + (turned(words[n - 2], 17) ^ turned(words[n - 2], 19) ^ words[n - 2] >> 10);
-    memcpy(now, state, sizeof now);
-    for (int n = 0; n < 64; n++) {
-        uint32_t e = now[4], a = now[0];
-        uint32_t one = now[7] + (turned(e, 6) ^ turned(e, 11) ^ turned(e, 25)) + ((e & now[5]) ^ (~e & now[6])) + cube[n] + words[n];
-        uint32_t two = (turned(a, 2) ^ turned(a, 13) ^ turned(a, 22)) + ((a & now[1]) ^ (a & now[2]) ^ (now[1] & now[2]));
-        memmove(now + 1, now, 7 * sizeof *now);
-        now[4] += one;
-        now[0] = one + two;
-    }
-    for (int n = 0; n < 8; n++)
-        state[n] += now[n];
-}
-
-static void digest(const uint8_t *bytes, size_t count, uint8_t *into) {
-    uint32_t state[8], cube[64];
-    uint8_t end[128] = {0};
-    size_t whole = count / 64 * 64, rest = count - whole, last = rest < 56 ? 64 : 128;
-    constants(state, cube);
-    for (size_t at = 0; at < whole; at += 64)
-        digest_block(state, cube, bytes + at);
-    memcpy(end, bytes + whole, rest);
-    end[rest] = 0x80;
-    for (int n = 0; n < 8; n++)
-        end[last - 1 - n] = (uint8_t)((uint64_t)count * 8 >> (8 * n));
-    for (size_t at = 0; at < last; at += 64)
-        digest_block(state, cube, end + at);
-    for (int n = 0; n < SUM; n++)
-        into[n] = (uint8_t)(state[n / 4] >> (24 - 8 * (n % 4)));
 }
 
 /* ---- files */
@@ -131,14 +63,34 @@ struct left {
     size_t count;
 };
 
-static void begin(struct left *it, uint32_t version, uint32_t pages, const uint8_t *first) {
+/* Spells a head of the save that has a number, which version 1 does not have. */
+static void begin(struct left *it, uint32_t version, uint32_t save, uint32_t pages, const uint8_t *first) {
     memcpy(it->bytes, "msgqundo", 8);
     number(it->bytes + 8, version);
     number(it->bytes + 12, pages);
-    digest(first, PAGE, it->bytes + 16);
+    number(it->bytes + 16, 0);
+    number(it->bytes + 20, save);
+    memcpy(it->bytes + 24, first + PAYLOAD, 24);
+    if (version == 1)
+        digest(first, PAGE, it->bytes + 16);
     digest(it->bytes, 48, it->bytes + 48);
     memcpy(it->sum, it->bytes + 48, SUM);
     it->count = HEAD;
+}
+
+/* Whether the journal says that the save of this number was ended, and has no other number of bytes than before. */
+static int is_ended(uint32_t save, size_t count) {
+    uint8_t head[HEAD] = {0}, found[HEAD];
+    FILE *file = fopen(journal, "r");
+    memcpy(head, "msgqdone", 8);
+    number(head + 8, 2);
+    number(head + 20, save);
+    digest(head, 48, head + 48);
+    if (file == NULL || fread(found, 1, HEAD, file) != HEAD || fseek(file, 0, SEEK_END) != 0)
+        exit(2);
+    int is = memcmp(found, head, HEAD) == 0 && ftell(file) == (long)count;
+    fclose(file);
+    return is;
 }
 
 static void add(struct left *it, uint32_t page, const uint8_t *was) {
@@ -171,27 +123,31 @@ static void is_refused(const struct left *it, int wrong, const char *words) {
     is(holds(journal, it->bytes, it->count), 1, "the journal is as it was");
 }
 
-/* Opens the bytes with a journal, which leads to the good file and is empty then. */
-static void is_put_back(const struct left *it, size_t count, const char *what) {
+/* Opens the bytes with a journal, which leads to the good file and has no head of that save then. */
+static void is_put_back(const struct left *it, size_t count, uint32_t save, const char *what) {
     msgq *queues;
     write_all(path, bytes, count);
     write_all(journal, it->bytes, it->count);
     is(msgq_open(path, &queues), 0, what);
     is(msgq_abandon(queues), 0, "abandon");
     is(holds(path, good, sizeof good), 1, what);
-    is(holds(journal, NULL, 0), 1, "the journal is empty");
+    is(is_ended(save, it->count), 1, "the journal is ended");
 }
 
-/* The same of what is no whole journal: both stay, and the next save empties it. */
-static void is_none(const struct left *it, size_t count, const char *what) {
+/* The same of what is no whole journal: both stay, and the next save that changes something writes over it, and has this number. */
+static void is_none(const struct left *it, size_t count, uint32_t save, const char *what) {
     msgq *queues;
+    uint32_t id;
     write_all(path, good, sizeof good);
     write_all(journal, it->bytes, count);
     is(msgq_open(path, &queues), 0, what);
+    is(msgq_save(queues), 0, "a save of nothing");
     is(holds(path, good, sizeof good), 1, what);
     is(holds(journal, it->bytes, count), 1, what);
+    is(msgq_get(queues, 8, MSGQ_CREATE | 0600, &id), 0, "get");
     is(msgq_save(queues), 0, "save");
-    is(holds(journal, NULL, 0), 1, "the journal is empty");
+    is(holds(path, good, sizeof good), 0, "the file is changed");
+    is(is_ended(save, count < HEAD + IMAGE ? HEAD + IMAGE : count), 1, what);
     is(msgq_close(queues), 0, "close");
 }
 
@@ -202,42 +158,51 @@ static void journals(void) {
     uint8_t *page = bytes + ROOT * PAGE, *first = bytes;
     memcpy(bytes, good, sizeof bytes);
     memset(page, 'x', PAGE);
-    begin(&it, 1, PAGES, good);
-    is_none(&it, 1, "a journal of one byte");
-    is_none(&it, HEAD - 1, "a journal without a head");
-    it.bytes[13]++;
-    is_none(&it, HEAD, "a journal whose head is wrong");
-    it.bytes[13]--;
-    add(&it, ROOT, good + ROOT * PAGE);
-    is_put_back(&it, sizeof bytes, "a page is put back");
-    add(&it, 0, good);
-    memset(first, 'y', PAGE);
-    is_put_back(&it, sizeof bytes, "page 0 is put back");
-    add(&it, 1, page);
-    it.bytes[it.count - 1]++;
-    is_put_back(&it, sizeof bytes, "behind a wrong image there is none");
-    it.count -= 1;
-    is_put_back(&it, sizeof bytes, "nor is one that is cut");
-    memcpy(more, bytes, sizeof bytes);
-    write_all(path, more, sizeof more);
-    write_all(journal, it.bytes, it.count);
-    msgq *queues;
-    is(msgq_open(path, &queues), 0, "a file that had grown");
-    is(msgq_abandon(queues), 0, "abandon");
-    is(holds(path, good, sizeof good), 1, "it is cut");
+    for (uint32_t version = 1; version < 3; version++) {
+        uint32_t save = version == 1 ? 0 : 7;
+        memcpy(first, good, PAGE);
+        begin(&it, version, 7, PAGES, good);
+        add(&it, ROOT, good + ROOT * PAGE);
+        is_put_back(&it, sizeof bytes, save, "a page is put back");
+        add(&it, 0, good);
+        memset(first, 'y', PAGE);
+        is_put_back(&it, sizeof bytes, save, "page 0 is put back");
+        add(&it, 1, page);
+        it.bytes[it.count - 1]++;
+        is_put_back(&it, sizeof bytes, save, "behind a wrong image there is none");
+        it.count -= 1;
+        is_put_back(&it, sizeof bytes, save, "nor is one that is cut");
+        memcpy(more, bytes, sizeof bytes);
+        write_all(path, more, sizeof more);
+        write_all(journal, it.bytes, it.count);
+        msgq *queues;
+        is(msgq_open(path, &queues), 0, "a file that had grown");
+        is(msgq_abandon(queues), 0, "abandon");
+        is(holds(path, good, sizeof good), 1, "it is cut");
 
-    begin(&it, 1, PAGES, good);
-    add(&it, ROOT, good + ROOT * PAGE);
-    is_refused(&it, EBADMSG, FOREIGN);
-    memcpy(first, good, PAGE);
-    begin(&it, 2, PAGES, good);
+        begin(&it, version, 7, PAGES, good);
+        add(&it, ROOT, good + ROOT * PAGE);
+        is_refused(&it, EBADMSG, FOREIGN);
+        memcpy(first, good, PAGE);
+        begin(&it, version, 7, PAGES + 1, good);
+        is_refused(&it, EBADMSG, FOREIGN);
+        begin(&it, version, 7, PAGES, good);
+        add(&it, ROOT, good + ROOT * PAGE);
+        add(&it, PAGES, good);
+        is_refused(&it, EBADMSG, FOREIGN);
+    }
+    begin(&it, 3, 7, PAGES, good);
     is_refused(&it, ENOTSUP, "it can't be opened: its journal is of another version");
-    begin(&it, 1, PAGES + 1, good);
-    is_refused(&it, EBADMSG, FOREIGN);
-    begin(&it, 1, PAGES, good);
-    add(&it, ROOT, good + ROOT * PAGE);
-    add(&it, PAGES, good);
-    is_refused(&it, EBADMSG, FOREIGN);
+    begin(&it, 2, 7, PAGES, good);
+    add(&it, ROOT, page);
+    is_none(&it, 1, 1, "a journal of one byte");
+    is_none(&it, HEAD - 1, 1, "a journal without a head");
+    memcpy(it.bytes, "msgqdone", 8);
+    digest(it.bytes, 48, it.bytes + 48);
+    is_none(&it, it.count, 8, "a journal that was ended");
+    it.bytes[23]++;
+    it.count = HEAD + IMAGE;
+    is_none(&it, it.count, 1, "a journal whose head is wrong");
     is(unlink(journal), 0, "no journal");
 }
 

@@ -19,6 +19,8 @@ mod directories;
 #[cfg(test)]
 mod inquiry_records;
 #[cfg(test)]
+mod kept_journals;
+#[cfg(test)]
 mod kept_pseudokeys;
 #[cfg(test)]
 mod longest_file;

@@ -2,37 +2,75 @@
 ghost use Rattle.std.specs.Prelude.{◌+◌, ◌^◌, ◌<◌, ◌≤◌, length};
 
 use byteorder::{BigEndian, ByteOrder};
-use safe_device::page_device::{DIGEST_BYTES, PAGE_BYTES, Page};
+use safe_device::page_device::{DIGEST_BYTES, PAGE_BYTES, PAYLOAD_BYTES, Page};
 use sha2::{Digest, Sha256};
 
 /// A digest, SHA-256.
 pub type Sum = [u8; DIGEST_BYTES];
 
-/// Bytes of a head: the magic (8), the version (4), the count of pages (4), the digest of page 0 as
-/// it was when the journal began (32), and the digest of all these (32).
+/// Bytes of a head: the magic (8), the version (4), the count of pages (4), the number of the save
+/// (8), the first bytes of the digest in page 0 as it was (24), and the SHA-256 of all these (32).
 pub const HEAD_BYTES: usize = 80;
 
 /// Bytes of an image: its page's number (4), the page (4,096), and the digest (32) of the digest
 /// before and of both.
 pub const IMAGE_BYTES: usize = 4132;
 
-const MAGIC: [u8; 8] = *b"msgqundo";
+/// Begins a journal of which something may have to be put back.
+const UNDER_WAY: [u8; 8] = *b"msgqundo";
 
-const VERSION: u32 = 1;
+/// Begins one that was ended.
+const ENDED: [u8; 8] = *b"msgqdone";
+
+const VERSION: u32 = 2;
+
+/// Its heads have no number, and in the place of that and of a seal the SHA-256 of page 0.
+const FIRST_VERSION: u32 = 1;
+
+const VERSION_AT: usize = 8;
 
 const COUNT_AT: usize = 12;
 
-const PAGE_ZERO_AT: usize = 16;
+/// What says of which save and of which file it is.
+const NAMED_AT: usize = 16;
+
+const SEAL_AT: usize = 24;
 
 const SUM_AT: usize = 48;
+
+const SEAL_BYTES: usize = 24;
+
+/// The first bytes of the digest with which a page ends.
+pub type Seal = [u8; SEAL_BYTES];
+
+/// How a head knows page 0 as it was when the journal began.
+#[derive(Clone, Copy, Debug, PartialEq, Eq)]
+pub enum PageZero {
+    /// By its seal.
+    Seal(Seal),
+    /// By its SHA-256, as version 1 does.
+    Digest(Sum),
+}
+
+impl PageZero {
+    /// Whether it is this page.
+    pub fn is(&self, page: &Page) -> bool {
+        match self {
+            PageZero::Seal(seal) => seal_of(page) == *seal,
+            PageZero::Digest(sum) => digest(page) == *sum,
+        }
+    }
+}
 
 /// What a head says.
 #[derive(Clone, Copy, Debug, PartialEq, Eq)]
 pub struct Head {
     /// How many pages the file had.
     pub count: u32,
-    /// The digest of page 0 as it was.
-    pub page_zero: Sum,
+    /// The number of the save; 0 in version 1, where it has none.
+    pub number: u64,
+    /// Page 0 as it was.
+    pub page_zero: PageZero,
 }
 
 /// What stands where a head is looked for.
@@ -40,32 +78,39 @@ pub struct Head {
 pub enum FoundHead {
     /// No whole head, as where a kill or a crash has cut off its writing.
     Torn,
+    /// The head of a save of this number that was ended.
+    Ended(u64),
     /// A head of another version.
     OtherVersion,
     /// A whole head, and the digest with which it ends.
     Whole(Head, Sum),
 }
 
-/// The bytes of a head, and the digest with which it ends.
-pub fn spell_head(head: &Head) -> ([u8; HEAD_BYTES], Sum) {
+/// The bytes of the head of a save, and the digest with which it ends.
+pub fn spell_head(count: u32, number: u64, seal: &Seal) -> ([u8; HEAD_BYTES], Sum) {
     let mut bytes = [0; HEAD_BYTES];
-    put(&MAGIC, 0, &mut bytes);
-    put(&big_endian(VERSION), MAGIC.len(), &mut bytes);
-    put(&big_endian(head.count), COUNT_AT, &mut bytes);
-    put(&head.page_zero, PAGE_ZERO_AT, &mut bytes);
-    let sum = sum_of(head);
-    put(&sum, SUM_AT, &mut bytes);
+    put(&UNDER_WAY, 0, &mut bytes);
+    put(&big_endian(count), COUNT_AT, &mut bytes);
+    put(seal, SEAL_AT, &mut bytes);
+    let sum = finish(number, &mut bytes);
     (bytes, sum)
 }
 
-/// The digest with which a head ends.
-fn sum_of(head: &Head) -> Sum {
-    let mut hasher = Sha256::new();
-    hasher.update(MAGIC);
-    hasher.update(big_endian(VERSION));
-    hasher.update(big_endian(head.count));
-    hasher.update(head.page_zero);
-    hasher.finalize()
+/// The bytes that take the place of a head where its save is ended.
+pub fn spell_end(number: u64) -> [u8; HEAD_BYTES] {
+    let mut bytes = [0; HEAD_BYTES];
+    put(&ENDED, 0, &mut bytes);
+    let _ = finish(number, &mut bytes);
+    bytes
+}
+
+/// Puts the version and the number in their places, and the digest of all at the end.
+fn finish(number: u64, bytes: &mut [u8; HEAD_BYTES]) -> Sum {
+    put(&big_endian(VERSION), VERSION_AT, bytes);
+    BigEndian::write_u64(&mut bytes[NAMED_AT..SEAL_AT], number);
+    let sum = digest(&bytes[..SUM_AT]);
+    put(&sum, SUM_AT, bytes);
+    sum
 }
 
 /// The bytes of an image that ends with this digest.
@@ -94,23 +139,57 @@ pub fn big_endian(number: u32) -> [u8; 4] {
 /// What the bytes of a head say.
 pub fn read_head(bytes: &[u8; HEAD_BYTES]) -> FoundHead {
     let sum = digest(&bytes[..SUM_AT]);
-    if &bytes[..8] != MAGIC.as_slice() || &bytes[SUM_AT..] != sum.as_slice() {
+    if &bytes[SUM_AT..] != sum.as_slice() {
         return FoundHead::Torn;
     }
-    if BigEndian::read_u32(&bytes[8..COUNT_AT]) != VERSION {
-        return FoundHead::OtherVersion;
+    let version = BigEndian::read_u32(&bytes[VERSION_AT..COUNT_AT]);
+    let number = BigEndian::read_u64(&bytes[NAMED_AT..SEAL_AT]);
+    let magic = &bytes[..VERSION_AT];
+    if magic == ENDED.as_slice() && version == VERSION {
+        return FoundHead::Ended(number);
     }
-    let mut page_zero = [0; DIGEST_BYTES];
-    page_zero.copy_from_slice(&bytes[PAGE_ZERO_AT..SUM_AT]);
+    if magic != UNDER_WAY.as_slice() {
+        return FoundHead::Torn;
+    }
+    let (number, page_zero) = match version {
+        VERSION => (number, PageZero::Seal(seal_at(SEAL_AT, bytes))),
+        FIRST_VERSION => (0, PageZero::Digest(sum_at(NAMED_AT, bytes))),
+        _ => return FoundHead::OtherVersion,
+    };
+    let count = BigEndian::read_u32(&bytes[COUNT_AT..NAMED_AT]);
     let head = Head {
-        count: BigEndian::read_u32(&bytes[COUNT_AT..PAGE_ZERO_AT]),
+        count,
+        number,
         page_zero,
     };
     FoundHead::Whole(head, sum)
 }
 
+/// The digest that stands there.
+fn sum_at(at: usize, bytes: &[u8]) -> Sum
+    requires { at + 32 ≤ length bytes.now }
+{
+    let mut sum = [0; DIGEST_BYTES];
+    sum.copy_from_slice(&bytes[at..at + DIGEST_BYTES]);
+    sum
+}
+
+/// The seal that stands there.
+fn seal_at(at: usize, bytes: &[u8]) -> Seal
+    requires { at + 24 ≤ length bytes.now }
+{
+    let mut seal = [0; SEAL_BYTES];
+    seal.copy_from_slice(&bytes[at..at + SEAL_BYTES]);
+    seal
+}
+
+/// The seal of a page. It was computed when the page was sealed, and is not computed again.
+pub fn seal_of(page: &Page) -> Seal {
+    seal_at(PAYLOAD_BYTES, page)
+}
+
 /// The digest of bytes.
-pub fn digest(bytes: &[u8]) -> Sum {
+fn digest(bytes: &[u8]) -> Sum {
     let mut hasher = Sha256::new();
     hasher.update(bytes);
     hasher.finalize()

@@ -5,13 +5,13 @@
 
 mod holder;
 mod layout;
+mod looking;
 mod opening;
 mod system_file;
 mod system_pair;
 
 pub use holder::Holder;
-pub use opening::{
-    LeftOver, OpenError, Opening, is_left_behind, is_under_way, look, open, open_in_turn,
-};
+pub use looking::{LeftOver, is_left_behind, is_under_way, look};
+pub use opening::{OpenError, Opening, open, open_in_turn};
 pub use safe_device;
 pub use system_pair::{Refused, SystemPair};

@@ -15,7 +15,7 @@ use std::{fs, thread};
 use thiserror::Error;
 
 /// What a journal's name has more than its file's.
-const SUFFIX: &str = ".journal";
+pub const SUFFIX: &str = ".journal";
 
 /// A journal is made with this mode, before it has its file's.
 const OWNER_ALONE: u32 = 0o600;
@@ -182,86 +182,8 @@ where
     Ok(named.dev() == opened.dev() && named.ino() == opened.ino())
 }
 
-/// What a session that was cut off has left beside a file, which the next opening undoes.
-#[derive(Clone, Copy, Debug, PartialEq, Eq)]
-pub struct LeftOver {
-    /// How many pages the file had.
-    pub pages: u32,
-    /// How many of them the next opening puts back.
-    pub images: u32,
-}
-
-/// Whether something stands in the journal of a file that is not there, as where it was moved away.
-pub fn is_left_behind<R>(rt: &R, path: &str) -> io::Result<bool>
-where
-    R: Files + AllocGlobal,
-{
-    let mut name = String::new(rt.alloc());
-    name.push_str(path)?;
-    name.push_str(SUFFIX)?;
-    match fs::symlink_metadata(rt, name.as_str()) {
-        Ok(found) => Ok(found.len() > 0),
-        Err(error) if error.kind() == ErrorKind::NotFound => Ok(false),
-        Err(error) => Err(error),
-    }
-}
-
-/// Looks whether a whole journal stands beside a file. Nothing is written. Where there is none, no
-/// crash brings one back, so what is told of the file from then on is not taken back.
-pub fn look<R>(rt: &R, path: &str) -> io::Result<Option<LeftOver>>
-where
-    R: Files<File = File> + AllocGlobal,
-{
-    let Some(pair) = pair_to_look(rt, path)? else {
-        return Ok(None);
-    };
-    let left = left_in(&pair)?;
-    if left.is_none() {
-        pair.settle_beside()?;
-    }
-    Ok(left)
-}
-
-/// Whether a whole journal stands beside a file now.
-pub fn is_under_way<R>(rt: &R, path: &str) -> io::Result<bool>
-where
-    R: Files<File = File> + AllocGlobal,
-{
-    let Some(pair) = pair_to_look(rt, path)? else {
-        return Ok(false);
-    };
-    Ok(left_in(&pair)?.is_some())
-}
-
-/// A file and its journal, both open to be read alone, where there is a journal.
-fn pair_to_look<R>(rt: &R, path: &str) -> io::Result<Option<SystemPair<File>>>
-where
-    R: Files<File = File> + AllocGlobal,
-{
-    let name = journal_of(rt, path)?;
-    let mut how = OpenOptions::new();
-    how.read(true);
-    let journal = match how.open(rt, name.as_str()) {
-        Ok(journal) => journal,
-        Err(error) if error.kind() == ErrorKind::NotFound => return Ok(None),
-        Err(error) => return Err(error),
-    };
-    Ok(Some(SystemPair::new(how.open(rt, path)?, journal)?))
-}
-
-/// What a session that was cut off has left in a journal.
-fn left_in(pair: &SystemPair<File>) -> io::Result<Option<LeftOver>> {
-    let Some(found) = pair.find_journal()? else {
-        return Ok(None);
-    };
-    Ok(Some(LeftOver {
-        pages: found.count,
-        images: found.images,
-    }))
-}
-
 /// The journal's name: that of the file, where no link leads on, and the suffix.
-fn journal_of<R: Files + AllocGlobal>(rt: &R, path: &str) -> io::Result<String> {
+pub fn journal_of<R: Files + AllocGlobal>(rt: &R, path: &str) -> io::Result<String> {
     let mut name = String::new(rt.alloc());
     let real = fs::canonicalize(rt, path)?;
     let Some(real) = real.to_str() else {

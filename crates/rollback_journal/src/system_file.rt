@@ -11,15 +11,27 @@ use std::time::UNIX_EPOCH;
 pub struct SystemFile<F: Drop> {
     file: F,
     why: Cell<Option<io::Error>>,
+    /// How many bytes it has.
+    len: Cell<u64>,
+    /// Whether a crash may leave another length.
+    is_resized: Cell<bool>,
 }
 
 impl<F: FileExt + OpenFile + Drop> SystemFile<F> {
-    /// An open file.
-    pub fn new(file: F) -> SystemFile<F> {
-        SystemFile {
+    /// An open file, of which it is not known whether a crash leaves its length.
+    pub fn new(file: F) -> io::Result<SystemFile<F>> {
+        let len = file.metadata()?.len();
+        Ok(SystemFile {
             file,
             why: Cell::new(None),
-        }
+            len: Cell::new(len),
+            is_resized: Cell::new(true),
+        })
+    }
+
+    /// Takes it as given that a crash leaves its length.
+    pub fn trust_len(&self) {
+        self.is_resized.set(false);
     }
 
     /// What the system said last, if it refused a transfer.
@@ -39,17 +51,30 @@ impl<F: FileExt + OpenFile + Drop> SystemFile<F> {
 
     /// Writes all these bytes, from there on.
     pub fn write(&self, bytes: &[u8], at: u64) -> io::Result<()> {
+        let end = at.saturating_add(bytes.len() as u64);
+        if end > self.len.get() {
+            self.len.set(end);
+            self.is_resized.set(true);
+        }
         self.heard(self.file.write_all_at(bytes, at))
     }
 
     /// Gives it so many bytes.
     pub fn set_len(&self, bytes: u64) -> io::Result<()> {
+        self.len.set(bytes);
+        self.is_resized.set(true);
         self.heard(self.file.set_len(bytes))
     }
 
-    /// Brings it to where it outlasts a crash.
+    /// Brings it to where it outlasts a crash. Where its length is as it was, its bytes alone are
+    /// waited for, and not the time of their change.
     pub fn sync(&self) -> io::Result<()> {
-        self.heard(self.file.sync_all())
+        if !self.is_resized.get() {
+            return self.heard(self.file.sync_data());
+        }
+        self.heard(self.file.sync_all())?;
+        self.is_resized.set(false);
+        Ok(())
     }
 
     /// Says that it was not written since it was synced: it gets a moment that no write gives it.

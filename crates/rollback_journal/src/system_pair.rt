@@ -1,13 +1,13 @@
 //! A file of the system, and its journal.
 
 use crate::layout::{
-    FoundHead, HEAD_BYTES, Head, IMAGE_BYTES, Sum, big_endian, chained, digest, image_at, page_at,
-    read_head, spell_head, spell_image,
+    FoundHead, HEAD_BYTES, Head, IMAGE_BYTES, PageZero, Sum, big_endian, chained, image_at,
+    page_at, read_head, seal_of, spell_end, spell_head, spell_image,
 };
 use crate::system_file::SystemFile;
 use byteorder::{BigEndian, ByteOrder};
 use safe_device::page_device::{DIGEST_BYTES, MAX_PAGES, PAGE_BYTES, Page};
-use safe_device::{FoundJournal, PageImage, PagePair};
+use safe_device::{FoundJournal, MOST_PENDING, PageImage, PagePair};
 use std::fs::OpenFile;
 use std::io::{self, ErrorKind};
 use std::os::unix::fs::FileExt;
@@ -47,6 +47,10 @@ impl Refused {
     }
 }
 
+/// A journal of no more images keeps its length when it is ended: what is written over costs less than
+/// what is cut and added again.
+const MOST_KEPT: u32 = MOST_PENDING as u32;
+
 /// The journal of this session: how many images it holds, and the digest with which it ends.
 #[derive(Clone, Copy, Debug, Drop)]
 struct Begun {
@@ -57,8 +61,12 @@ struct Begun {
 impl<F: FileExt + OpenFile + Drop> SystemPair<F> {
     /// Two open files. One with more pages than there can be shows one too many.
     pub fn new(file: F, journal: F) -> io::Result<SystemPair<F>> {
-        let file = SystemFile::new(file);
-        let journal = SystemFile::new(journal);
+        let file = SystemFile::new(file)?;
+        let journal = SystemFile::new(journal)?;
+        if journal.is_said_synced() {
+            file.trust_len();
+            journal.trust_len();
+        }
         let len = file.bytes()?;
         let pages = (len / PAGE_BYTES as u64).min(MAX_PAGES as u64 + 1) as u32;
         Ok(SystemPair {
@@ -92,25 +100,40 @@ impl<F: FileExt + OpenFile + Drop> SystemPair<F> {
         }
     }
 
-    /// The digest of page 0, where there is one.
-    fn page_zero(&self) -> io::Result<Sum> {
-        let mut bytes = [0; PAGE_BYTES];
+    /// Page 0; zeros where there is none.
+    fn page_zero(&self) -> io::Result<Page> {
+        let mut page = [0; PAGE_BYTES];
         if self.pages > 0 {
-            self.file.read(&mut bytes, 0)?;
+            self.file.read(&mut page, 0)?;
         }
-        Ok(digest(&bytes))
+        Ok(page)
     }
 
     /// Writes the head of a journal in place of whatever stands there.
     fn begin(&mut self, count: u32) -> io::Result<Begun> {
-        let head = Head {
-            count,
-            page_zero: self.page_zero()?,
-        };
-        let (bytes, sum) = spell_head(&head);
-        self.journal.set_len(0)?;
+        let seal = seal_of(&self.page_zero()?);
+        let (bytes, sum) = spell_head(count, self.next_number()?, &seal);
         self.journal.write(&bytes, 0)?;
         Ok(Begun { images: 0, sum })
+    }
+
+    /// A number that no save had of which images may stand in the journal: one above the last. Where
+    /// no head tells the last, the journal is cut, and that has to outlast a crash before a number
+    /// is used again.
+    fn next_number(&self) -> io::Result<u64> {
+        match find_head(&self.journal)? {
+            FoundHead::Ended(last) | FoundHead::Whole(Head { number: last, .. }, _) => {
+                if last < u64::MAX {
+                    return Ok(last + 1);
+                }
+            }
+            FoundHead::Torn | FoundHead::OtherVersion => {}
+        }
+        if self.journal.bytes()? > 0 {
+            self.journal.set_len(0)?;
+            self.journal.sync()?;
+        }
+        Ok(1)
     }
 
     /// Reads an image with the digest behind it.
@@ -124,9 +147,9 @@ impl<F: FileExt + OpenFile + Drop> SystemPair<F> {
         Ok((number, sum))
     }
 
-    /// How many whole images stand after a head, from the first on, and whether one of them is of
-    /// page 0 with this digest.
-    fn count_images(&self, most: u32, first: Sum, page_zero: &Sum) -> io::Result<(u32, bool)> {
+    /// How many whole images stand after a head, from the first on, and whether one of them is this
+    /// page 0.
+    fn count_images(&self, most: u32, first: Sum, page_zero: &PageZero) -> io::Result<(u32, bool)> {
         let mut before = first;
         let mut has_page_zero = false;
         let mut page = [0; PAGE_BYTES];
@@ -135,11 +158,24 @@ impl<F: FileExt + OpenFile + Drop> SystemPair<F> {
             if chained(&before, &number, &page) != sum {
                 return Ok((index, has_page_zero));
             }
-            has_page_zero |= BigEndian::read_u32(&number) == 0 && digest(&page) == *page_zero;
+            has_page_zero |= BigEndian::read_u32(&number) == 0 && page_zero.is(&page);
             before = sum;
         }
         Ok((most, has_page_zero))
     }
+}
+
+/// What stands in a journal where a head is looked for.
+pub fn find_head<F>(journal: &SystemFile<F>) -> io::Result<FoundHead>
+where
+    F: FileExt + OpenFile + Drop,
+{
+    if journal.bytes()? < HEAD_BYTES as u64 {
+        return Ok(FoundHead::Torn);
+    }
+    let mut bytes = [0; HEAD_BYTES];
+    journal.read(&mut bytes, 0)?;
+    Ok(read_head(&bytes))
 }
 
 impl<F: FileExt + OpenFile + Drop> PagePair for SystemPair<F> {
@@ -195,22 +231,17 @@ impl<F: FileExt + OpenFile + Drop> PagePair for SystemPair<F> {
     }
 
     fn find_journal(&self) -> io::Result<Option<FoundJournal>> {
-        let len = self.journal.bytes()?;
-        if len < HEAD_BYTES as u64 {
-            return Ok(None);
-        }
-        let mut bytes = [0; HEAD_BYTES];
-        self.journal.read(&mut bytes, 0)?;
-        let (head, sum) = match read_head(&bytes) {
-            FoundHead::Torn => return Ok(None),
+        let (head, sum) = match find_head(&self.journal)? {
+            FoundHead::Torn | FoundHead::Ended(_) => return Ok(None),
             FoundHead::OtherVersion => {
                 return Err(ErrorKind::Unsupported.into());
             }
             FoundHead::Whole(head, sum) => (head, sum),
         };
-        let most = ((len - HEAD_BYTES as u64) / IMAGE_BYTES as u64).min(u32::MAX as u64) as u32;
+        let len = self.journal.bytes()?.saturating_sub(HEAD_BYTES as u64);
+        let most = (len / IMAGE_BYTES as u64).min(u32::MAX as u64) as u32;
         let (images, has_page_zero) = self.count_images(most, sum, &head.page_zero)?;
-        if !has_page_zero && self.page_zero()? != head.page_zero {
+        if !has_page_zero && !head.page_zero.is(&self.page_zero()?) {
             return Err(ErrorKind::InvalidData.into());
         }
         Ok(Some(FoundJournal {
@@ -244,13 +275,23 @@ impl<F: FileExt + OpenFile + Drop> PagePair for SystemPair<F> {
 
     fn end_journal(&mut self) -> io::Result<()> {
         self.begun = None;
-        self.journal.set_len(0)
+        match find_head(&self.journal)? {
+            FoundHead::Whole(head, _) if self.journal.bytes()? <= image_at(MOST_KEPT) => {
+                self.journal.write(&spell_end(head.number), 0)
+            }
+            _ => self.journal.set_len(0),
+        }
     }
 
     fn sync_journal(&mut self) -> io::Result<()> {
         self.journal.sync()?;
         // Where it is ended, the file was synced before.
-        if self.begun.is_none() && matches!(self.journal.bytes(), Ok(0)) {
+        if self.begun.is_none()
+            && matches!(
+                find_head(&self.journal),
+                Ok(FoundHead::Torn | FoundHead::Ended(_))
+            )
+        {
             self.journal.say_synced();
         }
         Ok(())

@@ -1,0 +1,98 @@
+//! What is told of a journal by who does not open its file to change it.
+
+use crate::layout::FoundHead;
+use crate::opening::{SUFFIX, journal_of};
+use crate::system_file::SystemFile;
+use crate::system_pair::{SystemPair, find_head};
+use safe_device::PagePair;
+use std::fs::{self, File, OpenOptions};
+use std::io::{self, ErrorKind};
+use std::rt::Files;
+
+/// What a session that was cut off has left beside a file, which the next opening undoes.
+#[derive(Clone, Copy, Debug, PartialEq, Eq)]
+pub struct LeftOver {
+    /// How many pages the file had.
+    pub pages: u32,
+    /// How many of them the next opening puts back.
+    pub images: u32,
+}
+
+/// Whether a whole journal stands at the name of the journal of a file that is not there, as where the
+/// file was moved away.
+pub fn is_left_behind<R>(rt: &R, path: &str) -> io::Result<bool>
+where
+    R: Files<File = File> + AllocGlobal,
+{
+    let mut name = String::new(rt.alloc());
+    name.push_str(path)?;
+    name.push_str(SUFFIX)?;
+    match fs::symlink_metadata(rt, name.as_str()) {
+        // What is no file is no journal, and may be in the way of one.
+        Ok(found) if !found.is_file() => return Ok(found.len() > 0),
+        Ok(_) => {}
+        Err(error) if error.kind() == ErrorKind::NotFound => return Ok(false),
+        Err(error) => return Err(error),
+    }
+    let mut how = OpenOptions::new();
+    how.read(true);
+    let journal = SystemFile::new(how.open(rt, name.as_str())?)?;
+    Ok(matches!(
+        find_head(&journal)?,
+        FoundHead::Whole(..) | FoundHead::OtherVersion
+    ))
+}
+
+/// Looks whether a whole journal stands beside a file. Nothing is written. Where there is none, no
+/// crash brings one back, so what is told of the file from then on is not taken back.
+pub fn look<R>(rt: &R, path: &str) -> io::Result<Option<LeftOver>>
+where
+    R: Files<File = File> + AllocGlobal,
+{
+    let Some(pair) = pair_to_look(rt, path)? else {
+        return Ok(None);
+    };
+    let left = left_in(&pair)?;
+    if left.is_none() {
+        pair.settle_beside()?;
+    }
+    Ok(left)
+}
+
+/// Whether a whole journal stands beside a file now.
+pub fn is_under_way<R>(rt: &R, path: &str) -> io::Result<bool>
+where
+    R: Files<File = File> + AllocGlobal,
+{
+    let Some(pair) = pair_to_look(rt, path)? else {
+        return Ok(false);
+    };
+    Ok(left_in(&pair)?.is_some())
+}
+
+/// A file and its journal, both open to be read alone, where there is a journal.
+fn pair_to_look<R>(rt: &R, path: &str) -> io::Result<Option<SystemPair<File>>>
+where
+    R: Files<File = File> + AllocGlobal,
+{
+    let name = journal_of(rt, path)?;
+    let mut how = OpenOptions::new();
+    how.read(true);
+    let journal = match how.open(rt, name.as_str()) {
+        Ok(journal) => journal,
+        Err(error) if error.kind() == ErrorKind::NotFound => return Ok(None),
+        Err(error) => return Err(error),
+    };
+    Ok(Some(SystemPair::new(how.open(rt, path)?, journal)?))
+}
+
+/// What a session that was cut off has left in a journal.
+fn left_in(pair: &SystemPair<File>) -> io::Result<Option<LeftOver>> {
+    let Some(found) = pair.find_journal()? else {
+        return Ok(None);
+    };
+    Ok(Some(LeftOver {
+        pages: found.count,
+        images: found.images,
+    }))
+}
