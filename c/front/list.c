@@ -150,8 +150,8 @@ static bool print_table(const struct listing *it, FILE *table) {
     char *line = NULL, *cells[CELLS];
     size_t room = 0;
     uint64_t queues = 0, messages = 0, bytes = 0, number;
-    bool is_of_queues = getline(&line, &room, table) >= 0 && strncmp(line, "KEY\t", 4) == 0;
-    if (line != NULL)
+    bool has_head = getline(&line, &room, table) >= 0, is_of_queues = has_head && strncmp(line, "KEY\t", 4) == 0;
+    if (has_head)
         (void)fputs(line, stdout);
     while (getline(&line, &room, table) >= 0) {
         if (!is_of_queues) {
