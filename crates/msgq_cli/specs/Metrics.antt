@@ -54,10 +54,15 @@ abbrev pub samples_text : Metric → List Queue → List ℕ
 samples_text m [] = []
 samples_text m (queue ∷ queues) = sample_text m queue ++ samples_text m queues
 
+abbrev pub help_text : Metric → List ℕ
+help_text m = line_of (codes "# HELP" ∷ name_of m ∷ help_of m ∷ [])
+
+abbrev pub kind_text : Metric → List ℕ
+kind_text m = line_of (codes "# TYPE" ∷ name_of m ∷ kind_of m ∷ [])
+
 -- what it is, and its values
 abbrev pub family_text : Metric → State → List ℕ
-family_text m s = line_of (codes "# HELP" ∷ name_of m ∷ help_of m ∷ [])
-    ++ line_of (codes "# TYPE" ∷ name_of m ∷ kind_of m ∷ []) ++ samples_text m s.queues
+family_text m s = help_text m ++ kind_text m ++ samples_text m s.queues
 
 -- one after the other
 abbrev pub metrics_text : State → List ℕ

@@ -1,7 +1,7 @@
 //! What is told of the queues of a system in the text format of Prometheus.
 
 ghost use Rattle.std.specs.Prelude.{◌≡◌};
-ghost use Rattle.msgq_cli.specs.Metrics.{family_text, help_of, kind_of, metrics_text, name_of, sample_text, samples_text, value_of};
+ghost use Rattle.msgq_cli.specs.Metrics.{family_text, help_of, help_text, kind_of, kind_text, metrics_text, name_of, sample_text, samples_text, value_of};
 ghost use Rattle.msgq_cli.specs.Outputs.{Prints};
 
 use crate::output::Output;
@@ -105,17 +105,31 @@ pub fn print_metrics<W: Write + Drop>(system: &System, output: &mut Output<W>)
 fn print_family<W: Write + Drop>(metric: Metric, system: &System, output: &mut Output<W>)
     ensures { Prints output.old output.new (family_text metric system.now) }
 {
+    print_help(metric, output);
+    print_kind(metric, output);
+    print_samples(metric, system, output);
+}
+
+/// Prints what a metric is.
+fn print_help<W: Write + Drop>(metric: Metric, output: &mut Output<W>)
+    ensures { Prints output.old output.new (help_text metric) }
+{
     output.line(&[
         PrintedWord::Text(b"# HELP"),
         PrintedWord::Text(metric.name()),
         PrintedWord::Text(metric.help()),
     ]);
+}
+
+/// Prints of which kind a metric is.
+fn print_kind<W: Write + Drop>(metric: Metric, output: &mut Output<W>)
+    ensures { Prints output.old output.new (kind_text metric) }
+{
     output.line(&[
         PrintedWord::Text(b"# TYPE"),
         PrintedWord::Text(metric.name()),
         PrintedWord::Text(metric.kind()),
     ]);
-    print_samples(metric, system, output);
 }
 
 /// Prints the value of a metric for each queue.
