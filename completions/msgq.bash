@@ -24,7 +24,15 @@ _msgq() {
     fi
     case $before in
         --wait | -w) [[ $command == run || $command == replay || $command == grow ]] && return ;;
-        --type | -t | --mode | --pages | -p | --size | --serial | --qbytes | --owner | --group | --shared | --pid | --uid | --gid | --since | --older-than | --count | --every) return ;;
+        --group | --shared)
+            COMPREPLY=($(compgen -g -- "$word"))
+            return
+            ;;
+        --owner)
+            COMPREPLY=($(compgen -u -- "$word"))
+            return
+            ;;
+        --type | -t | --mode | --pages | -p | --size | --serial | --qbytes | --pid | --uid | --gid | --since | --older-than | --count | --every) return ;;
     esac
     local options=--help makes='--create -c --mode --qbytes --owner --group --shared --pages -p'
     case $command in

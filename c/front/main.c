@@ -1,6 +1,7 @@
 /* The program `msgq`: the verbs of its table run here, over libmsgq; every other command is handed to the proved
  * program, which takes the place of this process. */
 #include "front.h"
+#include "groups.h"
 #include "proved.h"
 
 #include <stdarg.h>
@@ -91,5 +92,6 @@ int main(int argc, char **argv) {
     /* `help do` is `do --help`. */
     if (argc == 3 && strcmp(argv[1], "help") == 0 && (verb = find_verb(argv[2])) != NULL)
         return verb->run(1, words);
-    return argc < 1 ? MISUSE : proved_become(argv);
+    int status = argc < 1 ? MISUSE : groups_resolve(argv);
+    return status != DONE ? status : proved_become(argv);
 }
