@@ -2,7 +2,7 @@
 
 _msgq() {
     local word=${COMP_WORDS[COMP_CWORD]} before=${COMP_WORDS[COMP_CWORD - 1]} command= at
-    local commands='new run replay check stat migrate copy grow salvage send receive peek do list make remove set help'
+    local commands='new run replay check stat migrate copy grow salvage send receive peek do list top make remove set help'
     local callers='--pid --uid --gid --help'
     for ((at = 1; at < COMP_CWORD; at++)); do
         [[ ${COMP_WORDS[at]} == -* ]] && continue
@@ -24,7 +24,15 @@ _msgq() {
     fi
     case $before in
         --wait | -w) [[ $command == run || $command == replay || $command == grow ]] && return ;;
-        --type | -t | --mode | --pages | -p | --size | --serial | --qbytes | --owner | --group | --shared | --pid | --uid | --gid) return ;;
+        --group | --shared)
+            COMPREPLY=($(compgen -g -- "$word"))
+            return
+            ;;
+        --owner)
+            COMPREPLY=($(compgen -u -- "$word"))
+            return
+            ;;
+        --type | -t | --mode | --pages | -p | --size | --serial | --qbytes | --pid | --uid | --gid | --since | --older-than | --count | --every) return ;;
     esac
     local options=--help makes='--create -c --mode --qbytes --owner --group --shared --pages -p'
     case $command in
@@ -34,12 +42,14 @@ _msgq() {
             ;;
         run | grow) options='--wait -w --help' ;;
         replay) options='--wait -w --trace --help' ;;
-        check | stat) options='--verbose -v --help' ;;
+        check) options='--verbose -v --map --help' ;;
+        stat) options='--verbose -v --metrics --help' ;;
         send) options="--type -t --lines -l $makes --wait -w --nowait --verbose -v $callers" ;;
         receive) options="--type -t --size --noerror --header --all -a --serial $makes --wait -w $callers" ;;
         peek) options="--type -t --header $callers" ;;
         do) options='--type -t --wait -w --recover --help -h' ;;
-        list) options='--json --help' ;;
+        list) options='--json --utc --raw --since --older-than --help -h' ;;
+        top) options='--count --every --help -h' ;;
         make) options="--mode --qbytes --owner --group --shared $callers" ;;
         remove) options=$callers ;;
         set) options="--qbytes --owner --group --mode $callers" ;;

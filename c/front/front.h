@@ -17,7 +17,8 @@ enum status {
 
 /* A verb that this program does itself. */
 struct verb {
-    const char *name, *about;
+    const char *name;
+    const char *about; /* NULL for one that the proved program's help lists */
     /* Takes the words behind the verb, with a NULL behind them. */
     int (*run)(int count, char **words);
 };
@@ -26,6 +27,8 @@ struct verb {
 extern const struct verb VERBS[];
 
 int do_run(int count, char **words);
+int list_run(int count, char **words);
+int top_run(int count, char **words);
 
 /* Prints a line on standard error, behind `msgq: `. */
 void complain(const char *format, ...) __attribute__((format(printf, 1, 2)));

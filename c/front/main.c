@@ -1,19 +1,18 @@
 /* The program `msgq`: the verbs of its table run here, over libmsgq; every other command is handed to the proved
  * program, which takes the place of this process. */
 #include "front.h"
+#include "groups.h"
+#include "proved.h"
 
-#include <errno.h>
-#include <limits.h>
-#include <signal.h>
 #include <stdarg.h>
 #include <stdio.h>
 #include <stdlib.h>
 #include <string.h>
-#include <sys/wait.h>
-#include <unistd.h>
 
 const struct verb VERBS[] = {
     {"do", "Takes a message, and runs a command on it", do_run},
+    {"list", NULL, list_run},
+    {"top", "Shows the queues of a file, renewed each second", top_run},
     {NULL, NULL, NULL},
 };
 
@@ -27,43 +26,6 @@ void complain(const char *format, ...) {
     (void)!fprintf(stderr, "msgq: %s\n", line);
 }
 
-/* ---- the proved program */
-
-/* Its path, from that of this program: PREFIX/libexec/msgq/msgq of PREFIX/bin/msgq. */
-static bool find_program(char *path) {
-    static const char proved[] = "libexec/msgq/msgq";
-    ssize_t length = readlink("/proc/self/exe", path, PATH_MAX);
-    if (length < 0 || length >= PATH_MAX) {
-        complain("the program's own path can't be read: %s", length < 0 ? strerror(errno) : "it is too long");
-        return false;
-    }
-    path[length] = '\0';
-    for (int up = 0; up < 2; up++) {
-        char *slash = strrchr(path, '/');
-        if (slash == NULL)
-            return false;
-        *slash = '\0';
-    }
-    size_t above = strlen(path);
-    if (above + 1 + sizeof proved > PATH_MAX) {
-        complain("the program's own path is too long");
-        return false;
-    }
-    path[above] = '/';
-    memcpy(path + above + 1, proved, sizeof proved);
-    return true;
-}
-
-/* Becomes the proved program; returns where that can't be. */
-static int hand_over(char **argv) {
-    char path[PATH_MAX + 1];
-    if (!find_program(path))
-        return FAULT;
-    (void)execv(path, argv);
-    complain("%s: it can't be run: %s", path, strerror(errno));
-    return FAULT;
-}
-
 /* ---- help */
 
 /* Prints a line of the proved program's help, and what this program adds: its verbs before the last command, which is
@@ -74,7 +36,8 @@ static void print_line(const char *line, bool *is_behind_status) {
     (void)sscanf(line, "  help %n", &column);
     if (column > 0)
         for (const struct verb *it = VERBS; it->name != NULL; it++)
-            printf("  %-*s%s\n", column - 2, it->name, it->about);
+            if (it->about != NULL)
+                printf("  %-*s%s\n", column - 2, it->name, it->about);
     if (*is_behind_status && strncmp(line, "     ", 5) != 0) {
         printf("  %d  of do: its command did not end with 0, and its message was given back\n", FAILED);
         *is_behind_status = false;
@@ -95,33 +58,14 @@ static bool print_with_verbs(FILE *said) {
 
 /* Runs the proved program for its help, which lists the verbs of this one too. */
 static int print_help(char **argv) {
-    int ends[2], status;
-    if (pipe(ends) != 0) {
-        complain("%s", strerror(errno));
+    struct proved proved;
+    if (!proved_begin(&proved, argv, false))
         return FAULT;
-    }
-    pid_t child = fork();
-    if (child == 0) {
-        if (dup2(ends[1], STDOUT_FILENO) < 0)
-            _exit(FAULT);
-        (void)close(ends[0]);
-        (void)close(ends[1]);
-        _exit(hand_over(argv));
-    }
-    (void)close(ends[1]);
-    FILE *said = child < 0 ? NULL : fdopen(ends[0], "r");
-    if (said == NULL) {
-        complain("%s", strerror(errno));
-        return FAULT;
-    }
-    bool is_printed = print_with_verbs(said);
-    (void)fclose(said);
-    while (waitpid(child, &status, 0) < 0)
-        if (errno != EINTR)
-            return FAULT;
+    bool is_printed = print_with_verbs(proved.output);
+    int status = proved_end(&proved);
     if (!is_printed)
         complain("standard output: it can't be written");
-    return is_printed && WIFEXITED(status) ? WEXITSTATUS(status) : FAULT;
+    return is_printed ? status : FAULT;
 }
 
 static bool is_one_of(const char *word, const char *const *words) {
@@ -148,5 +92,6 @@ int main(int argc, char **argv) {
     /* `help do` is `do --help`. */
     if (argc == 3 && strcmp(argv[1], "help") == 0 && (verb = find_verb(argv[2])) != NULL)
         return verb->run(1, words);
-    return argc < 1 ? MISUSE : hand_over(argv);
+    int status = argc < 1 ? MISUSE : groups_resolve(argv);
+    return status != DONE ? status : proved_become(argv);
 }

@@ -7,7 +7,9 @@ use crate::scripts::{run_file, serve};
 use migration::{
     CopyRequest, GrowRequest, SalvageRequest, Size, copy_file, grow_file, salvage_file,
 };
-use msgq_cli::{Ending, Output, Task, advise, complain, complain_of_lines, new_file, report_file};
+use msgq_cli::{
+    Ending, Output, Task, advise, complain, complain_of_lines, map_file, new_file, report_file,
+};
 use replays::{Sources, replay_file};
 use std::fs::File;
 use std::io::{Eprint, IsTerminal, Write};
@@ -82,6 +84,7 @@ where
             (file.path, replay_file(rt, sources, output, errors))
         }
         Task::Report(request) => (request.file, report_file(rt, request, output, errors)),
+        Task::Map { file } => (file, map_file(rt, file, output, errors)),
     };
     advise(rt, file, ending, errors);
     ending

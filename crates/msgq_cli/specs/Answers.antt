@@ -26,6 +26,11 @@ abbrev pub key_text : Option ℕ → List ℕ
 key_text None = codes "private"
 key_text (Some key) = decimal key
 
+-- a name with the id and the key of a queue, as Prometheus labels a value
+abbrev pub labelled_text : List ℕ → ℕ → Option ℕ → List ℕ
+labelled_text name id key =
+    name ++ codes "{id=\"" ++ decimal id ++ codes "\",queue=\"" ++ key_text key ++ codes "\"}"
+
 -- nine bits as three octal digits
 abbrev pub mode_text : ℕ → List ℕ
 mode_text mode = decimal (mode / 64 % 8) ++ decimal (mode / 8 % 8) ++ decimal (mode % 8)

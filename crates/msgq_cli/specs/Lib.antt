@@ -2,6 +2,8 @@ pub mod Answers
 pub mod Checks
 pub mod Commands
 pub mod Lines
+pub mod Maps
+pub mod Metrics
 pub mod Options
 pub mod Outputs
 pub mod Progress

@@ -6,10 +6,11 @@ use Rattle.queue_model.specs.Rules.{info_of, messages_of}
 use Rattle.queue_model.specs.State.{State}
 use Rattle.queue_model.specs.declared.queue.Queue.{Queue}
 use Rattle.msgq_cli.specs.Answers.{info_text, line_of}
+use Rattle.msgq_cli.specs.Metrics.{metrics_text}
 use Rattle.msgq_cli.specs.declared.reports.Deed.{Deed}
 use Rattle.msgq_cli.specs.declared.reports.Deed.TheVariants.{Migrated, Copied, Grown, Salvaged}
 use Rattle.msgq_cli.specs.declared.reports.Report.{Report}
-use Rattle.msgq_cli.specs.declared.reports.Report.TheVariants.{Counts, Queues}
+use Rattle.msgq_cli.specs.declared.reports.Report.TheVariants.{Counts, Queues, Metrics}
 
 -- how many queues a system has, and messages on them
 abbrev pub ok_text : State → List ℕ
@@ -48,3 +49,4 @@ system_text s = infos_text s.queues ++ next_text s.next_id
 abbrev pub report_text : Report → State → List ℕ
 report_text Counts s = ok_text s
 report_text Queues s = system_text s
+report_text Metrics s = metrics_text s

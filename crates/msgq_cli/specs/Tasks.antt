@@ -6,7 +6,7 @@ use Rattle.directory.specs.declared.layout.TheConstants.{LEAST_PAGES}
 use Rattle.schedules.specs.Numbers.{number_of}
 use Rattle.schedules.specs.Reading.{◌>>=◌}
 use Rattle.msgq_cli.specs.declared.command_line.Task.{Task}
-use Rattle.msgq_cli.specs.declared.command_line.Task.TheVariants.{Serve, New, Run, Replay, Migrate, Copy, Grow, Salvage, Report}
+use Rattle.msgq_cli.specs.declared.command_line.Task.TheVariants.{Serve, New, Run, Replay, Migrate, Copy, Grow, Salvage, Report, Map}
 
 -- a file can have so many pages
 pub record IsFileSize (pages : ℕ) : Type 0 where
@@ -31,6 +31,7 @@ HasPages (Copy old new pages) = IsFileSize pages
 HasPages (Grow file pages) = IsFileSize pages
 HasPages (Salvage old new pages) = IsFileSize pages
 HasPages (Report request) = ⊤
+HasPages (Map file) = ⊤
 
 -- this names the text of standard input
 abbrev pub is_input : List ℕ → Bool
@@ -47,3 +48,4 @@ ReadsInputOnce (Copy old new pages) = ⊤
 ReadsInputOnce (Grow file pages) = ⊤
 ReadsInputOnce (Salvage old new pages) = ⊤
 ReadsInputOnce (Report request) = ⊤
+ReadsInputOnce (Map file) = ⊤

@@ -6,12 +6,15 @@ ghost use Rattle.bucket_page.specs.Pseudokeys.{sha_key};
 ghost use Rattle.file_check.specs.Records.{HasCheckCause};
 ghost use Rattle.file_check.specs.Whole.{IsFileOf, IsToldOf};
 ghost use Rattle.msgq_cli.specs.Checks.{IsReportOrFault, found_text};
+ghost use Rattle.msgq_cli.specs.Maps.{IsMapOrFault};
 ghost use Rattle.msgq_cli.specs.Outputs.{Prints};
 
 use crate::complaint::complain_of_fault;
 use crate::ending::{Ending, Failure, Stage};
+use crate::file_map::read_map;
 use crate::files::open_to_read;
 use crate::fullness::read_fullness;
+use crate::map_json::print_map;
 use crate::output::Output;
 use crate::plain::Plain;
 use crate::progress::{Progress, Shown};
@@ -21,7 +24,8 @@ use crate::reports::{Report, ReportRequest};
 use bucket_page::ShaKey;
 use file_check::{CheckFault, Checked, check};
 use numbers::faults;
-use page_device::PageDevice;
+use numbers::faults::NoMemory;
+use page_device::{FileDevice, PageDevice, SystemFile};
 use queue_model::System;
 use rollback_journal::look;
 use std::alloc::Global;
@@ -65,17 +69,10 @@ where
         report,
         is_verbose,
     } = request;
-    warn_of_journal(rt, file, errors);
-    let before = trace_of(rt, file);
-    let device = match open_to_read(rt, file, errors) {
-        Ok(device) => device,
-        Err(fault) => return fail(Stage::Opening, fault.number(), output),
+    let (mut device, found) = match check_file(rt, file, errors) {
+        Ok(checked) => checked,
+        Err(Failure { stage, fault }) => return fail(stage, fault, output),
     };
-    let (mut device, found) = check_on(rt.alloc(), device, errors);
-    if found.is_err() && trace_of(rt, file) != before {
-        complain_of_fault(file, CANT, faults::DEVICE, CHANGED, errors);
-        return fail(Stage::Checking, faults::DEVICE, output);
-    }
     print_found(report, &found, output);
     let Err(fault) = found else {
         if is_verbose || errors.is_terminal() {
@@ -91,6 +88,74 @@ where
         stage: Stage::Checking,
         fault: number,
     })
+}
+
+/// `check --map FILE`: checks a file, as `report_file` does, and prints its map as one JSON object.
+///
+/// `fault N` alone where that does, and where there is no memory for the map (60).
+pub fn map_file<R, W, E>(rt: &R, file: &str, output: &mut Output<W>, errors: &mut E) -> Ending
+where
+    R: Files<File = File> + AllocGlobal,
+    W: Write + Drop,
+    E: Write + IsTerminal,
+    ensures { IsMapOrFault output.old output.new result }
+{
+    let (mut device, found) = match check_file(rt, file, errors) {
+        Ok(checked) => checked,
+        Err(Failure { stage, fault }) => return fail(stage, fault, output),
+    };
+    let mapped = match found {
+        Ok(system) => read_map(rt.alloc(), &mut device, &system).map_err(CheckFault::Structure),
+        Err(fault) => Err(fault),
+    };
+    let map = match mapped {
+        Ok(map) => map,
+        Err(fault) => {
+            complain_of_fault(file, what(fault), fault.number(), fault, errors);
+            return fail(Stage::Checking, fault.number(), output);
+        }
+    };
+    match print_map(rt.alloc(), &map, output) {
+        Ok(()) => Ending::Done,
+        Err(NoMemory) => {
+            let why = "there is no memory for its map";
+            complain_of_fault(file, CANT, faults::NO_MEMORY, why, errors);
+            fail(Stage::Checking, faults::NO_MEMORY, output)
+        }
+    }
+}
+
+/// Opens a file to read it alone, and checks it: its device, and what was found. Where it is not
+/// opened, or was changed while it was checked, this is said, and the fault is told.
+fn check_file<R, E>(
+    rt: &R,
+    file: &str,
+    errors: &mut E,
+) -> Result<(FileDevice<SystemFile<File>>, Result<System, CheckFault>), Failure>
+where
+    R: Files<File = File> + AllocGlobal,
+    E: Write + IsTerminal,
+{
+    warn_of_journal(rt, file, errors);
+    let before = trace_of(rt, file);
+    let device = match open_to_read(rt, file, errors) {
+        Ok(device) => device,
+        Err(fault) => {
+            return Err(Failure {
+                stage: Stage::Opening,
+                fault: fault.number(),
+            });
+        }
+    };
+    let (device, found) = check_on(rt.alloc(), device, errors);
+    if found.is_err() && trace_of(rt, file) != before {
+        complain_of_fault(file, CANT, faults::DEVICE, CHANGED, errors);
+        return Err(Failure {
+            stage: Stage::Checking,
+            fault: faults::DEVICE,
+        });
+    }
+    Ok((device, found))
 }
 
 /// What each change of a file changes: where it stands, its length, and when it was written last.

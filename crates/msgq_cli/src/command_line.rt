@@ -4,15 +4,15 @@ ghost use Rattle.std.specs.Prelude.{◌≡◌, IfOk, IfSome};
 ghost use Rattle.msgq_cli.specs.Tasks.{HasPages, IsFileSize, ReadsInputOnce, pages_of};
 
 use crate::files::STANDARD_INPUT;
-use crate::help::{
-    CHECK_PRINTS, COPY_PRINTS, ENDING, GROW_PRINTS, MIGRATE_PRINTS, NEW_PRINTS, REPLAY_PRINTS,
-    RUN_PRINTS, SALVAGE_PRINTS, STAT_PRINTS,
+use crate::parser::{
+    FILE, MAP, METRICS, NEW, OLD, PAGES, SCHEDULE, SCRIPT, TRACE, VERBOSE, WAIT, copy_command,
+    grow_command, new_command, program, replay_command, run_command, salvage_command,
 };
 use crate::plain::Plain;
 use crate::reports::{Report, ReportRequest};
 use crate::waiting::{WRONG_SECONDS, wait_of};
 use clap::error::ErrorKind;
-use clap::{Arg, ArgAction, ArgMatches, Command, Error};
+use clap::{ArgMatches, Error};
 use directory::LEAST_PAGES;
 use page_device::MAX_PAGES;
 use rollback_journal::Opening;
@@ -84,35 +84,15 @@ pub enum Task<'a> {
     },
     /// A report of the system that a file holds.
     Report(ReportRequest<'a>),
+    /// The map of a file.
+    Map {
+        /// The file, which is only read.
+        file: &'a str,
+    },
 }
 
 /// So many pages has a file where it is not said.
 pub const USUAL_PAGES: u32 = 1000;
-
-/// The version of the program, which its manual page and the changelog have too.
-const VERSION: &str = "0.2.0";
-
-/// Names of arguments.
-const FILE: &str = "FILE";
-
-const OLD: &str = "OLD";
-
-const NEW: &str = "NEW";
-
-const PAGES: &str = "PAGES";
-
-const SCRIPT: &str = "SCRIPT";
-
-const SCHEDULE: &str = "SCHEDULE";
-
-const VERBOSE: &str = "verbose";
-
-const WAIT: &str = "wait";
-
-const TRACE: &str = "trace";
-
-/// What is said of PAGES.
-const SIZE: &str = "How many pages of 4,096 bytes it has: 258 to 65,536";
 
 /// What is wrong with two texts that would both be that of standard input.
 const ONE_INPUT: &str = "SCRIPT and SCHEDULE can't both be standard input";
@@ -178,6 +158,9 @@ fn read_task<'a>(name: &str, arguments: &ArgMatches<'a>) -> Result<Task<'a>, Wro
             new: arguments.get_str(NEW).unwrap_or(""),
         });
     }
+    if name == "check" && arguments.get_flag(MAP) {
+        return Ok(Task::Map { file });
+    }
     if name == "check" {
         return Ok(Task::Report(ReportRequest {
             file,
@@ -188,7 +171,7 @@ fn read_task<'a>(name: &str, arguments: &ArgMatches<'a>) -> Result<Task<'a>, Wro
     if name == "stat" {
         return Ok(Task::Report(ReportRequest {
             file,
-            report: Report::Queues,
+            report: queues_of(arguments),
             is_verbose: arguments.get_flag(VERBOSE),
         }));
     }
@@ -204,6 +187,15 @@ fn read_task<'a>(name: &str, arguments: &ArgMatches<'a>) -> Result<Task<'a>, Wro
         "salvage" => Task::Salvage { old, new, pages },
         _ => Task::New { file, pages },
     })
+}
+
+/// In which form the queues of a file are shown.
+fn queues_of(arguments: &ArgMatches<'_>) -> Report {
+    if arguments.get_flag(METRICS) {
+        Report::Metrics
+    } else {
+        Report::Queues
+    }
 }
 
 /// What is said of two texts that would both be that of standard input.
@@ -276,141 +268,4 @@ pub fn pages(word: &[u8]) -> Option<u32>
     } else {
         None
     }
-}
-
-/// What the command line may say, to which more commands can be added. One subcommand at a time is made
-/// and added, so that a growth that is refused leaves one of them at most to be dropped.
-pub fn program<'a>(alloc: Global) -> Result<Command<'a>, AllocError> {
-    let program = Command::new(alloc, "msgq")
-        .version(VERSION)
-        .about("Message queues (XSI, POSIX.1-2017) kept in one file")
-        .after_help(ENDING);
-    let program = program.subcommand(new_command(alloc)?)?;
-    let program = program.subcommand(run_command(alloc)?)?;
-    let program = program.subcommand(replay_command(alloc)?)?;
-    let check = "Checks a file of message queues";
-    let program = program.subcommand(report_command(alloc, "check", check, CHECK_PRINTS)?)?;
-    let stat = "Shows the queues of a file";
-    let program = program.subcommand(report_command(alloc, "stat", stat, STAT_PRINTS)?)?;
-    let program = program.subcommand(migrate_command(alloc)?)?;
-    let program = program.subcommand(copy_command(alloc)?)?;
-    let program = program.subcommand(grow_command(alloc)?)?;
-    program.subcommand(salvage_command(alloc)?)
-}
-
-/// `new FILE PAGES`.
-fn new_command<'a>(alloc: Global) -> Result<Command<'a>, AllocError> {
-    let pages = Arg::new(alloc, PAGES).action(ArgAction::Set).help(
-        "How many pages of 4,096 bytes it has: 258 to 65,536; 1,000 where none is given",
-    );
-    Command::new(alloc, "new")
-        .about("Makes a file of message queues")
-        .after_help(NEW_PRINTS)
-        .arg(argument(alloc, FILE).help("Where it is made; there may be nothing"))?
-        .arg(pages)
-}
-
-/// `run FILE SCRIPT`.
-fn run_command<'a>(alloc: Global) -> Result<Command<'a>, AllocError> {
-    let script = argument(alloc, SCRIPT).help("The script, or - for that of standard input");
-    Command::new(alloc, "run")
-        .about("Runs a script on a file of message queues")
-        .after_help(RUN_PRINTS)
-        .arg(argument(alloc, FILE).help("The file"))?
-        .arg(script)?
-        .arg(wait_argument(alloc))
-}
-
-/// `replay FILE SCRIPT SCHEDULE`.
-fn replay_command<'a>(alloc: Global) -> Result<Command<'a>, AllocError> {
-    let script = argument(alloc, SCRIPT).help("The script, or - for that of standard input");
-    let schedule = argument(alloc, SCHEDULE).help("The schedule, or - for that of standard input");
-    let trace = Arg::new(alloc, TRACE)
-        .long(TRACE)
-        .action(ArgAction::SetTrue)
-        .help("Tells on standard error each step as it is made, and who blocks whom");
-    Command::new(alloc, "replay")
-        .about("Runs the lines of several seats beside one another, by a schedule")
-        .after_help(REPLAY_PRINTS)
-        .arg(argument(alloc, FILE).help("The file"))?
-        .arg(script)?
-        .arg(schedule)?
-        .arg(wait_argument(alloc))?
-        .arg(trace)
-}
-
-/// The option of a command that changes a file.
-fn wait_argument<'a>(alloc: Global) -> Arg<'a> {
-    Arg::new(alloc, WAIT)
-        .long(WAIT)
-        .short('w')
-        .value_name("SECONDS")
-        .action(ArgAction::Set)
-        .help("Waits so long where another process uses the file; else that is fault 20 at once")
-}
-
-/// `migrate OLD NEW`.
-fn migrate_command<'a>(alloc: Global) -> Result<Command<'a>, AllocError> {
-    let new = argument(alloc, NEW).help("Where the new file is made; there may be nothing");
-    Command::new(alloc, "migrate")
-        .about("Makes a file of today's version of one of version 1")
-        .after_help(MIGRATE_PRINTS)
-        .arg(argument(alloc, OLD).help("The file of version 1, which is not written"))?
-        .arg(new)
-}
-
-/// `copy OLD NEW PAGES`.
-fn copy_command<'a>(alloc: Global) -> Result<Command<'a>, AllocError> {
-    let new = argument(alloc, NEW).help("Where the new file is made; there may be nothing");
-    Command::new(alloc, "copy")
-        .about("Makes a file of another size with the same queues")
-        .after_help(COPY_PRINTS)
-        .arg(argument(alloc, OLD).help("The file, which is not written"))?
-        .arg(new)?
-        .arg(argument(alloc, PAGES).help(SIZE))
-}
-
-/// `grow FILE PAGES`.
-fn grow_command<'a>(alloc: Global) -> Result<Command<'a>, AllocError> {
-    Command::new(alloc, "grow")
-        .about("Gives a file another size, in its place")
-        .after_help(GROW_PRINTS)
-        .arg(argument(alloc, FILE).help("The file"))?
-        .arg(argument(alloc, PAGES).help(SIZE))?
-        .arg(wait_argument(alloc))
-}
-
-/// `salvage OLD NEW PAGES`.
-fn salvage_command<'a>(alloc: Global) -> Result<Command<'a>, AllocError> {
-    let new = argument(alloc, NEW).help("Where the new file is made; there may be nothing");
-    Command::new(alloc, "salvage")
-        .about("Makes a file of what can be read of one that is wrong")
-        .after_help(SALVAGE_PRINTS)
-        .arg(argument(alloc, OLD).help("The file, which is not written"))?
-        .arg(new)?
-        .arg(argument(alloc, PAGES).help(SIZE))
-}
-
-/// A subcommand with the argument FILE, and the flag of a report.
-fn report_command<'a>(
-    alloc: Global,
-    name: &'a str,
-    about: &'a str,
-    prints: &'a str,
-) -> Result<Command<'a>, AllocError> {
-    let verbose = Arg::new(alloc, VERBOSE)
-        .short('v')
-        .long(VERBOSE)
-        .action(ArgAction::SetTrue)
-        .help("Says on standard error how full the file is, as on a terminal");
-    Command::new(alloc, name)
-        .about(about)
-        .after_help(prints)
-        .arg(argument(alloc, FILE).help("The file, which is not written"))?
-        .arg(verbose)
-}
-
-/// An argument that has to be given.
-fn argument<'a>(alloc: Global, name: &'a str) -> Arg<'a> {
-    Arg::new(alloc, name).required(true).action(ArgAction::Set)
 }

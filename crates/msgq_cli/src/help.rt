@@ -58,6 +58,8 @@ Reads all of FILE and tests each page, each record, and that all records are tho
 of queues.
 Prints 'ok QUEUES MESSAGES', or 'fault N' for the first thing that is wrong; standard error says
 what and where, and on a terminal or with --verbose how full a file is that is right.
+With --map one JSON object is printed in the place of 'ok': the depth of the directory and its
+entries, the buckets in the order of their chain, the free pages in that of their list.
 Exit status 0, 1 where a fault was printed or standard output refused a write, 2 where the
 command line is wrong.";
 
@@ -66,6 +68,8 @@ pub(crate) const STAT_PRINTS: &str = "\
 Checks FILE as 'check' does, and prints for each queue, in order of id,
   info ID KEY QNUM CBYTES QBYTES LSPID LRPID STIME RTIME CTIME UID GID CUID CGID MODE
 and behind them 'next ID', the id of the next queue; or 'fault N' alone.
+With --metrics the same in the text format of Prometheus, with how many messages were sent to each
+queue and received from it.
 Exit status 0, 1 where a fault was printed or standard output refused a write, 2 where the
 command line is wrong.";
 

@@ -9,16 +9,20 @@ mod command;
 mod command_line;
 mod complaint;
 mod ending;
+mod file_map;
 mod files;
 mod fullness;
 mod heard;
 mod help;
 mod line;
 mod line_faults;
+mod map_json;
+mod metrics;
 mod mistake;
 mod new_files;
 mod options;
 mod output;
+mod parser;
 mod plain;
 mod printed_word;
 mod progress;
@@ -30,23 +34,27 @@ mod spelling;
 mod waiting;
 
 pub use advice::advise;
-pub use checks::{check_on, print_found, report_file, warn_of_journal};
+pub use checks::{check_on, map_file, print_found, report_file, warn_of_journal};
 pub use command::{Command, DEFAULT_MODE};
-pub use command_line::{Task, USUAL_PAGES, pages, program, read_command_line};
+pub use command_line::{Task, USUAL_PAGES, pages, read_command_line};
 pub use complaint::{
     complain, complain_of, complain_of_fault, complain_of_lines, complain_of_refused, print_word,
 };
 pub use ending::{Ending, Failure, Stage};
 pub use file_check;
+pub use file_map::{FileMap, MappedBucket, read_map};
 pub use files::{
     STANDARD_INPUT, fill_file, leave_unopened, new_file, new_on, open_to_read, read_file,
 };
 pub use fullness::{Fullness, read_fullness};
 pub use heard::{Heard, Refusal};
 pub use line::{Line, SeatIds};
+pub use map_json::print_map;
+pub use metrics::{Metric, print_metrics};
 pub use mistake::{Expected, Mistake, Optional};
 pub use new_files::{CANT_BE_MADE, Unmade, Unnamed, create_file};
 pub use output::Output;
+pub use parser::program;
 pub use plain::Plain;
 pub use progress::{Progress, Shown};
 pub use record_file;

@@ -3,7 +3,7 @@
 ghost use Rattle.std.specs.Prelude.{◌≡◌, ℕ, List, map};
 ghost use Rattle.std.specs.Fmt.{decimal};
 ghost use Rattle.hex.specs.Hex.{encode_lower};
-ghost use Rattle.msgq_cli.specs.Answers.{line_of, body_text, mode_text};
+ghost use Rattle.msgq_cli.specs.Answers.{line_of, body_text, key_text, labelled_text, mode_text};
 ghost use Rattle.msgq_cli.specs.Outputs.{Prints};
 ghost use Rattle.msgq_cli.specs.Texts.{text_of};
 
@@ -29,6 +29,8 @@ pub(crate) enum PrintedWord<'a> {
     Body(&'a [u8]),
     /// Nine bits as three octal digits.
     Mode(u16),
+    /// A name with the id and the key of a queue, as Prometheus labels a value.
+    Labelled(&'a [u8], u32, Option<u32>),
 }
 
 impl<W: Write + Drop> Output<W> {
@@ -55,10 +57,32 @@ impl<W: Write + Drop> Output<W> {
             PrintedWord::Text(text) => self.put(text),
             PrintedWord::Number(number) => self.number(*number),
             PrintedWord::Signed(number) => self.put(Buffer::new().format(*number).as_bytes()),
-            PrintedWord::Key(Some(key)) => self.number(u64::from(*key)),
-            PrintedWord::Key(None) => self.put(b"private"),
+            PrintedWord::Key(key) => self.key(*key),
             PrintedWord::Body(body) => self.body(body),
             PrintedWord::Mode(mode) => self.mode(*mode),
+            PrintedWord::Labelled(name, id, key) => self.labelled(name, *id, *key),
+        }
+    }
+
+    /// Prints a name with the id and the key of a queue.
+    fn labelled(&mut self, name: &[u8], id: u32, key: Option<u32>)
+        ensures { Prints self.old self.new (labelled_text name.now id key) }
+    {
+        self.put(name);
+        self.put(b"{id=\"");
+        self.number(u64::from(id));
+        self.put(b"\",queue=\"");
+        self.key(key);
+        self.put(b"\"}");
+    }
+
+    /// Prints a key.
+    fn key(&mut self, key: Option<u32>)
+        ensures { Prints self.old self.new (key_text key) }
+    {
+        match key {
+            Some(key) => self.number(u64::from(key)),
+            None => self.put(b"private"),
         }
     }
 

@@ -4,6 +4,7 @@ ghost use Rattle.std.specs.Prelude.{◌≡◌};
 ghost use Rattle.msgq_cli.specs.Outputs.{Prints};
 ghost use Rattle.msgq_cli.specs.Reports.{deed_text, ok_text, report_text, system_text, unread_text, word_of};
 
+use crate::metrics::print_metrics;
 use crate::output::Output;
 use crate::printed_word::PrintedWord;
 use crate::reply::print_info;
@@ -17,6 +18,8 @@ pub enum Report {
     Counts,
     /// The state of each queue, and the next id.
     Queues,
+    /// What is told of each queue in the text format of Prometheus.
+    Metrics,
 }
 
 /// What was done with a file to make a new one.
@@ -65,6 +68,7 @@ impl Report {
         match self {
             Report::Counts => print_ok(system, output),
             Report::Queues => print_system(system, output),
+            Report::Metrics => print_metrics(system, output),
         }
     }
 }

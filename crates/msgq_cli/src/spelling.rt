@@ -58,6 +58,7 @@ fn spell(word: &PrintedWord<'_>, room: &mut [u8], end: usize) -> Option<usize>
         PrintedWord::Signed(number) => spell_signed(*number, room, end),
         PrintedWord::Body(body) => spell_body(body, room, end),
         PrintedWord::Key(_) | PrintedWord::Mode(_) => None,
+        PrintedWord::Labelled(..) => None,
     }
 }
 

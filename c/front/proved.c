@@ -1,0 +1,89 @@
+/* The proved program is found, becomes this one, or runs beside it. */
+#include "proved.h"
+#include "front.h"
+
+#include <errno.h>
+#include <fcntl.h>
+#include <limits.h>
+#include <string.h>
+#include <sys/wait.h>
+#include <unistd.h>
+
+/* Its path, from that of this program: PREFIX/libexec/msgq/msgq of PREFIX/bin/msgq. */
+static bool find_program(char *path) {
+    static const char proved[] = "libexec/msgq/msgq";
+    ssize_t length = readlink("/proc/self/exe", path, PATH_MAX);
+    if (length < 0 || length >= PATH_MAX) {
+        complain("the program's own path can't be read: %s", length < 0 ? strerror(errno) : "it is too long");
+        return false;
+    }
+    path[length] = '\0';
+    for (int up = 0; up < 2; up++) {
+        char *slash = strrchr(path, '/');
+        if (slash == NULL)
+            return false;
+        *slash = '\0';
+    }
+    size_t above = strlen(path);
+    if (above + 1 + sizeof proved > PATH_MAX) {
+        complain("the program's own path is too long");
+        return false;
+    }
+    path[above] = '/';
+    memcpy(path + above + 1, proved, sizeof proved);
+    return true;
+}
+
+int proved_become(char **words) {
+    char path[PATH_MAX + 1];
+    if (!find_program(path))
+        return FAULT;
+    (void)execv(path, words);
+    complain("%s: it can't be run: %s", path, strerror(errno));
+    return FAULT;
+}
+
+static void close_all(const int *files) {
+    for (int at = 0; at < 4; at++)
+        if (files[at] >= 0)
+            (void)close(files[at]);
+}
+
+bool proved_begin(struct proved *it, char **words, bool hears) {
+    int files[4] = {-1, -1, -1, -1}; /* of its output, and of its errors: where each is read and written */
+    *it = (struct proved){-1, NULL, NULL};
+    int wrong = pipe2(files, O_CLOEXEC) == 0 && (!hears || pipe2(files + 2, O_CLOEXEC) == 0) ? 0 : errno;
+    if (wrong == 0 && (it->child = fork()) < 0)
+        wrong = errno;
+    if (it->child == 0) {
+        if (dup2(files[1], STDOUT_FILENO) < 0 || (hears && dup2(files[3], STDERR_FILENO) < 0))
+            _exit(FAULT);
+        _exit(proved_become(words));
+    }
+    if (wrong == 0 && (it->output = fdopen(files[0], "r")) != NULL)
+        files[0] = -1;
+    if (wrong == 0 && hears && (it->errors = fdopen(files[2], "r")) != NULL)
+        files[2] = -1;
+    if (wrong == 0 && (it->output == NULL || (hears && it->errors == NULL)))
+        wrong = errno;
+    close_all(files);
+    if (wrong != 0) {
+        complain("the program can't be run: %s", strerror(wrong));
+        (void)proved_end(it);
+    }
+    return wrong == 0;
+}
+
+int proved_end(struct proved *it) {
+    int status;
+    if (it->output != NULL)
+        (void)fclose(it->output);
+    if (it->errors != NULL)
+        (void)fclose(it->errors);
+    if (it->child < 0)
+        return FAULT;
+    while (waitpid(it->child, &status, 0) < 0)
+        if (errno != EINTR)
+            return FAULT;
+    return WIFEXITED(status) ? WEXITSTATUS(status) : FAULT;
+}

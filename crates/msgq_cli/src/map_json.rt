@@ -1,0 +1,90 @@
+//! The map of a file as JSON.
+
+ghost use Rattle.std.specs.Prelude.{◌≡◌, IfOk, OnErr, OnOk, map};
+ghost use Rattle.msgq_cli.specs.Maps.{bucket_data, count, map_data, map_text};
+ghost use Rattle.msgq_cli.specs.Outputs.{Prints};
+ghost use Rattle.serde_json.specs.View.{view};
+
+use crate::file_map::{FileMap, MappedBucket};
+use crate::output::Output;
+use numbers::faults::NoMemory;
+use serde_json::{Value, json};
+use std::alloc::Global;
+use std::io::Write;
+
+/// Prints the map of a file as one JSON object and a line end.
+///
+/// # Errors
+///
+/// `NoMemory` where there is none for the object or for its text. Then nothing is printed.
+pub fn print_map<W: Write + Drop>(
+    alloc: Global,
+    map: &FileMap,
+    output: &mut Output<W>,
+) -> Result<(), NoMemory>
+    ensures ok { OnOk result (Prints output.old output.new (map_text map.now)) }
+    ensures err { OnErr result (output.new ≡ output.old) }
+{
+    let value = map_object(alloc, map)?;
+    let text = value.to_string(alloc)?;
+    output.put(text.as_bytes());
+    output.put(b"\n");
+    Ok(())
+}
+
+/// The object of a map.
+fn map_object(alloc: Global, map: &FileMap) -> Result<Value, NoMemory>
+    ensures { IfOk result (λ value. view value ≡ map_data map.now) }
+{
+    let buckets = bucket_objects(alloc, map.buckets.as_slice())?;
+    let entries = numbers_of(alloc, map.entries.as_slice())?;
+    let free = numbers_of(alloc, map.free.as_slice())?;
+    let value = json!(in alloc; {
+        "buckets": buckets,
+        "depth": map.depth,
+        "entries": entries,
+        "free": free,
+        "messages": map.messages,
+        "pages": map.pages,
+        "queues": map.queues
+    })?;
+    Ok(value)
+}
+
+/// An object for each bucket.
+fn bucket_objects(alloc: Global, buckets: &[MappedBucket]) -> Result<Vec<Value>, NoMemory>
+    ensures { IfOk result (λ values. map view values.items ≡ map bucket_data buckets.now) }
+{
+    let mut values = Vec::with_capacity(alloc, buckets.len())?;
+    for bucket in buckets {
+        let value = bucket_object(alloc, *bucket)?;
+        values.push(value)?;
+    }
+    Ok(values)
+}
+
+/// The object of a bucket.
+fn bucket_object(alloc: Global, bucket: MappedBucket) -> Result<Value, NoMemory>
+    ensures { IfOk result (λ value. view value ≡ bucket_data bucket) }
+{
+    let value = json!(in alloc; {
+        "bytes": bucket.bytes,
+        "depth": bucket.depth,
+        "next": bucket.next,
+        "page": bucket.page,
+        "pattern": bucket.pattern,
+        "records": bucket.records
+    })?;
+    Ok(value)
+}
+
+/// A value for each number.
+fn numbers_of(alloc: Global, numbers: &[u32]) -> Result<Vec<Value>, NoMemory>
+    ensures { IfOk result (λ values. map view values.items ≡ map count numbers.now) }
+{
+    let mut values = Vec::with_capacity(alloc, numbers.len())?;
+    for number in numbers {
+        values.push(Value::from(*number))?;
+    }
+    Ok(values)
+}
