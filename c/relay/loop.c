@@ -74,7 +74,7 @@ static bool change(struct relay *it, struct watch *watch, uint32_t events) {
 bool relay_begin(struct relay *it) {
     it->spare = open("/dev/null", O_RDONLY | O_CLOEXEC);
     it->epoll = epoll_create1(EPOLL_CLOEXEC);
-    bool has_table = clients_begin(&it->clients, it->options->clients, it->options->requests);
+    bool has_table = clients_begin(&it->clients, it->options->clients);
     it->clients.epoll = it->epoll;
     it->clients.core = &it->core;
     write_greeting(it);
