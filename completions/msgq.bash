@@ -2,7 +2,7 @@
 
 _msgq() {
     local word=${COMP_WORDS[COMP_CWORD]} before=${COMP_WORDS[COMP_CWORD - 1]} command= at
-    local commands='new run replay check stat migrate copy grow salvage send receive peek do list top make remove set help'
+    local commands='new run replay check stat migrate copy grow salvage send receive peek do serve list top make remove set help'
     local callers='--pid --uid --gid --help'
     for ((at = 1; at < COMP_CWORD; at++)); do
         [[ ${COMP_WORDS[at]} == -* ]] && continue
@@ -32,7 +32,7 @@ _msgq() {
             COMPREPLY=($(compgen -u -- "$word"))
             return
             ;;
-        --type | -t | --mode | --pages | -p | --size | --serial | --qbytes | --pid | --uid | --gid | --since | --older-than | --count | --every) return ;;
+        --type | -t | --mode | --pages | -p | --size | --serial | --qbytes | --pid | --uid | --gid | --since | --older-than | --count | --every | --clients | --waits) return ;;
     esac
     local options=--help makes='--create -c --mode --qbytes --owner --group --shared --pages -p'
     case $command in
@@ -50,6 +50,8 @@ _msgq() {
         do) options='--type -t --wait -w --recover --help -h' ;;
         list) options='--json --utc --raw --since --older-than --help -h' ;;
         top) options='--count --every --help -h' ;;
+        serve)
+            options='--socket -s --mode --group --durable --every --in-memory --create -c --pages -p --clients --waits --help -h' ;;
         make) options="--mode --qbytes --owner --group --shared $callers" ;;
         remove) options=$callers ;;
         set) options="--qbytes --owner --group --mode $callers" ;;

@@ -1,42 +1,17 @@
 /* The proved program is found, becomes this one, or runs beside it. */
 #include "proved.h"
 #include "front.h"
+#include "programs.h"
 
 #include <errno.h>
 #include <fcntl.h>
-#include <limits.h>
 #include <string.h>
 #include <sys/wait.h>
 #include <unistd.h>
 
-/* Its path, from that of this program: PREFIX/libexec/msgq/msgq of PREFIX/bin/msgq. */
-static bool find_program(char *path) {
-    static const char proved[] = "libexec/msgq/msgq";
-    ssize_t length = readlink("/proc/self/exe", path, PATH_MAX);
-    if (length < 0 || length >= PATH_MAX) {
-        complain("the program's own path can't be read: %s", length < 0 ? strerror(errno) : "it is too long");
-        return false;
-    }
-    path[length] = '\0';
-    for (int up = 0; up < 2; up++) {
-        char *slash = strrchr(path, '/');
-        if (slash == NULL)
-            return false;
-        *slash = '\0';
-    }
-    size_t above = strlen(path);
-    if (above + 1 + sizeof proved > PATH_MAX) {
-        complain("the program's own path is too long");
-        return false;
-    }
-    path[above] = '/';
-    memcpy(path + above + 1, proved, sizeof proved);
-    return true;
-}
-
 int proved_become(char **words) {
-    char path[PATH_MAX + 1];
-    if (!find_program(path))
+    char path[PROGRAM_BYTES];
+    if (!find_program("msgq", path))
         return FAULT;
     (void)execv(path, words);
     complain("%s: it can't be run: %s", path, strerror(errno));
