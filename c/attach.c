@@ -55,3 +55,7 @@ int msgq_attach(const char *path, msgq **queues) {
     }
     return wrong;
 }
+
+int msgq_is_served(const msgq *queues) {
+    return queues != NULL && queues->calls->is_served;
+}

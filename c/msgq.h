@@ -105,6 +105,9 @@ int msgq_connect(const char *socket, msgq **queues);
  * opened. */
 int msgq_attach(const char *path, msgq **queues);
 
+/* 1 where a handle is of a server, 0 where this process has the file open. */
+int msgq_is_served(const msgq *queues);
+
 /* A limit of so many milliseconds; NULL, which is none, for a number below 0. It is the thread's, and stands until the thread
  * calls this again: msgq_receive(queues, id, 0, room, sizeof room, 0, msgq_within(50), &got). */
 const struct timespec *msgq_within(int64_t milliseconds);

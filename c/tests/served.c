@@ -92,6 +92,8 @@ static void without_server(void) {
     is(msgq_acknowledge(queues, 1), ENOTSUP, "acknowledge");
     is(msgq_release(queues, 1), ENOTSUP, "release");
     is(msgq_receive(queues, 9, 0, room, sizeof room, MSGQ_NOWAIT | MSGQ_AGAIN, NULL, NULL), EINVAL, "a flag that says nothing here");
+    is(msgq_is_served(queues), 0, "a file that is opened");
+    is(msgq_is_served(NULL), 0, "no file");
     is(msgq_abandon(queues), 0, "abandon");
 }
 
@@ -99,6 +101,7 @@ static void handles(const char *other) {
     msgq *queues;
     is(symlink(path, other), 0, "a link");
     is(msgq_attach(other, &queues), 0, "a file by its link");
+    is(msgq_is_served(queues), 1, "a file that is served");
     says(msgq_stop(queues), ENOTSUP, other, "it can't be stopped: a server is stopped by who has started it");
     is(msgq_save(queues), 0, "save");
     is(msgq_close(queues), 0, "close");
@@ -193,6 +196,39 @@ static void reservations(msgq *queues, uint32_t id) {
     is(msgq_reserve(queues, id, 0, room, sizeof room, 0, &SOON, &got, &holding), ETIMEDOUT, "a wait that ends");
 }
 
+static msgq *shared;
+static uint32_t queue;
+
+static void *reserves(void *with) {
+    char room[MSGQ_MAX_BODY];
+    uint32_t holding;
+    *(int *)with = msgq_reserve(shared, queue, 0, room, sizeof room, 0, NULL, NULL, &holding);
+    return NULL;
+}
+
+/* What is held goes back where a thread or a process ends. */
+static void hands(msgq *queues, uint32_t id) {
+    pthread_t thread;
+    int told, status;
+    char room[MSGQ_MAX_BODY];
+    uint32_t holding;
+    shared = queues;
+    queue = id;
+    is(msgq_send(queues, id, 6, "a job", 5, 0, NULL), 0, "send");
+    pthread_create(&thread, NULL, reserves, &told);
+    pthread_join(thread, NULL);
+    is(told, 0, "a thread reserves, and ends");
+    pid_t child = fork();
+    if (child == 0) {
+        (void)reserves(&told);
+        _exit(told);
+    }
+    waitpid(child, &status, 0);
+    is(status, 0, "a child reserves, and ends");
+    is(msgq_reserve(queues, id, 0, room, sizeof room, 0, NULL, NULL, &holding), 0, "reserve");
+    is(msgq_acknowledge(queues, holding), 0, "acknowledge");
+}
+
 /* ---- waits, threads and processes */
 
 static void on_alarm(int number) {
@@ -208,9 +244,6 @@ static void signals(msgq *queues, uint32_t id) {
     is(msgq_receive(queues, id, 0, NULL, 0, 0, msgq_within(10000), NULL), EINTR, "a wait with a limit");
     setitimer(ITIMER_REAL, &never, NULL);
 }
-
-static msgq *shared;
-static uint32_t queue;
 
 /* What one thread or process does: its messages go and come by a type of its own. */
 static int works(int self) {
@@ -232,12 +265,10 @@ static void *thread_works(void *with) {
     return NULL;
 }
 
-static void many(msgq *queues, uint32_t id) {
+static void many(void) {
     pthread_t threads[8];
     pid_t children[4];
     int told[8], status;
-    shared = queues;
-    queue = id;
     for (int n = 0; n < 8; n++) {
         told[n] = n;
         pthread_create(&threads[n], NULL, thread_works, &told[n]);
@@ -326,7 +357,8 @@ int main(int argc, char **argv) {
     queues_and_limits(queues, id);
     reservations(queues, id);
     signals(queues, id);
-    many(queues, id);
+    hands(queues, id);
+    many();
     busy(queues, id);
     servers(queues, id);
     is(msgq_close(queues), 0, "close");
