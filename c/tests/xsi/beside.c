@@ -110,7 +110,7 @@ static int choose(struct pair *it, bool *is_gone) {
     return -1;
 }
 
-/* Of a removed one the system says EINVAL. */
+/* Of a removed one the system says EINVAL, unless something else is wrong before that. */
 static void judge_id(bool is_gone, long ours, int our_errno, long theirs, int their_errno) {
     if (is_gone && theirs < 0 && their_errno == EINVAL)
         judge(REMOVED, ours, our_errno, -1, EIDRM);
@@ -192,7 +192,7 @@ static void try_send(void) {
     /* What does not wait there is not to wait here either. */
     bool waits = (theirs == 0 || their_errno != EAGAIN) && one_in(2);
     long ours = msgsnd(it.ours, from, size, waits ? 0 : IPC_NOWAIT);
-    judge_id(is_gone, ours, errno, theirs, their_errno);
+    judge_id(is_gone && message.type > 0, ours, errno, theirs, their_errno);
     if (ours == 0)
         alive[at].count++;
 }
@@ -224,7 +224,7 @@ static void try_receive(void) {
     int their_errno = errno;
     bool waits = (theirs >= 0 || their_errno != ENOMSG) && one_in(2);
     long ours = msgrcv(it.ours, is_bad ? NULL : (void *)&one, size, type, flags | (waits ? 0 : IPC_NOWAIT));
-    judge_id(is_gone, ours, errno, theirs, their_errno);
+    judge_id(is_gone && size <= LONG_MAX, ours, errno, theirs, their_errno);
     if (memcmp(&one, &two, sizeof one) != 0)
         fail("type %ld and %ld, or bytes that differ", one.type, two.type);
     /* (as it is lost where it can't be told) */
