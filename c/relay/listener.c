@@ -33,11 +33,11 @@ static bool find_path(struct listener *it, const struct options *options) {
             return fails(options->file, "it can't be opened");
         path = strcat(whole, ".socket");
     }
-    if (strlen(path) < sizeof it->path) {
+    if (strlen(path) < SOCKET_BYTES) {
         strcpy(it->path, path);
         return true;
     }
-    complain("%s: the path of a socket has at most %zu bytes: --socket names a shorter one", path, sizeof it->path - 1);
+    complain("%s: the path of a socket has at most %zu bytes: --socket names a shorter one", path, SOCKET_BYTES - 1);
     return false;
 }
 

@@ -8,10 +8,13 @@
 #include <sys/types.h>
 #include <sys/un.h>
 
+/* As many bytes has the path of a socket, with the zero behind it. */
+#define SOCKET_BYTES sizeof((struct sockaddr_un *)NULL)->sun_path
+
 struct listener {
-    char path[sizeof((struct sockaddr_un *)NULL)->sun_path]; /* empty where it has none */
-    int file;                                                /* -1 where no more clients are taken */
-    int lock;                                                /* of PATH.lock; -1 for a socket that was handed over */
+    char path[SOCKET_BYTES + 1]; /* behind @ where it is no file's */
+    int file;                    /* -1 where no more clients are taken */
+    int lock;                    /* of PATH.lock; -1 for a socket that was handed over */
     dev_t device;
     ino_t inode; /* of the socket that was bound; 0 for none */
 };
