@@ -94,7 +94,12 @@ void server_leave(struct server *server) {
 /* What becomes of a request, beside the numbers that it gives. */
 enum { NOT_READ = -10001, LOST = -10002 };
 
-enum { CANCELLED = 200, ENDS = 201, WRONG_FRAME = 203, HEAD_BYTES = 16 };
+enum { DONE = 0, FAULTS_END = 100, CANCELLED = 200, ENDS = 201, HEAD_BYTES = 16 };
+
+/* Whether it is one that a request can be answered. */
+static bool is_code(uint32_t code) {
+    return code < FAULTS_END || code == CANCELLED || code == ENDS;
+}
 
 static void put_head(uint8_t *head, uint32_t number, const struct request *it, size_t length) {
     put_number(head, HEAD_BYTES - 4 + length, 4);
@@ -203,11 +208,11 @@ static int listen_to(struct line *line, const struct request *asked, struct answ
             return wrong;
     }
     uint32_t code = (uint32_t)number_at(it.head + 8, 4);
-    bool is_one = it.whole == it.got && it.whole >= HEAD_BYTES && number_at(it.head + 4, 4) == it.number;
-    if (!is_one || code > WRONG_FRAME || code == WRONG_FRAME || (code == CANCELLED && it.why == 0))
+    told->length = it.whole - HEAD_BYTES;
+    if (it.whole != it.got || it.whole < HEAD_BYTES || number_at(it.head + 4, 4) != it.number
+        || (code == DONE && told->length < told->least) || !is_code(code) || (code == CANCELLED && it.why == 0))
         return -EPROTO;
     told->value = (uint32_t)number_at(it.head + 12, 4);
-    told->length = it.whole - HEAD_BYTES;
     return code == CANCELLED ? -it.why : code == ENDS ? NOT_READ : (int)code;
 }
 

@@ -5,7 +5,7 @@
  * user's or this socket's: behind fork, setuid, and where the program has closed it. A handler of a signal may ask while its thread
  * does: it has a connection for that request alone.
  *
- * What is asked gives one of these numbers: 0 where it is done; the code of a refusal or a fault, 1 to 199; or below 0 that of an
+ * What is asked gives one of these numbers: 0 where it is done; the code of a refusal or a fault, 1 to 99; or below 0 that of an
  * error of the system:
  *   -EINTR, -ETIMEDOUT   a wait ended by a signal or its end, and nothing was done
  *   -ECONNRESET          the server was lost, and it is not known whether it was done
@@ -50,8 +50,9 @@ struct request {
 struct answer {
     uint32_t value;
     size_t length;            /* as many bytes its fields have */
-    const struct iovec *room; /* where they go: so many parts. Of a refusal something else may go there */
+    const struct iovec *room; /* where they go: so many parts */
     size_t parts;
+    size_t least;             /* as many bytes they have where it is done */
 };
 
 /* A server that a process asks. */

@@ -2,7 +2,7 @@
 #include "lines.h"
 
 #include <signal.h>
-#include <stdlib.h>
+#include <sys/mman.h>
 
 /* All lines, also those that are free: a thread that ends while a server does finds its own still there. */
 static _Atomic(struct line *) first;
@@ -26,6 +26,24 @@ static void give_back(struct line *line, const void *owner) {
     atomic_store(&line->owner, NULL);
 }
 
+/* Adds lines of new memory, by a call that a handler may make; gives one of them, which the thread has. */
+static struct line *add_page(void) {
+    enum { PAGE = 4096, LINES = PAGE / sizeof(struct line) };
+    struct line *made = mmap(NULL, PAGE, PROT_READ | PROT_WRITE, MAP_PRIVATE | MAP_ANONYMOUS, -1, 0);
+    if (made == MAP_FAILED)
+        return NULL;
+    for (int n = 0; n < LINES; n++) {
+        made[n].wire = NO_WIRE;
+        made[n].next = &made[n + 1];
+    }
+    atomic_store(&made->owner, &self);
+    struct line **last = &made[LINES - 1].next;
+    *last = atomic_load(&first);
+    while (!atomic_compare_exchange_weak(&first, last, made))
+        ;
+    return made;
+}
+
 /* A line that no thread has; NULL where there is no memory. */
 static struct line *take(void) {
     for (struct line *it = atomic_load(&first); it != NULL; it = it->next) {
@@ -33,15 +51,7 @@ static struct line *take(void) {
         if (atomic_compare_exchange_strong(&it->owner, &none, &self))
             return it;
     }
-    struct line *made = calloc(1, sizeof *made);
-    if (made == NULL)
-        return NULL;
-    made->wire = NO_WIRE;
-    atomic_store(&made->owner, &self);
-    made->next = atomic_load(&first);
-    while (!atomic_compare_exchange_weak(&first, &made->next, made))
-        ;
-    return made;
+    return add_page();
 }
 
 /* Takes a line for the thread, inside of one that is busy, where there is one. */

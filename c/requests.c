@@ -1,8 +1,6 @@
 /* Each request of a client by its fields. */
 #include "requests.h"
 
-#include <errno.h>
-
 static const struct waiting SOON = {.waits = false};
 
 /* Makes a request whose answer has no fields but its value. */
@@ -17,9 +15,8 @@ static int ask_value(struct server *server, const struct request *asked, uint32_
 /* Makes a request whose answer has so many bytes of fields. */
 static int ask_fields(struct server *server, const struct request *asked, uint8_t *fields, size_t count) {
     const struct iovec room = {fields, count};
-    struct answer told = {.room = &room, .parts = 1};
-    int done = server_ask(server, asked, &told);
-    return done == 0 && told.length != count ? -EPROTO : done;
+    struct answer told = {.room = &room, .parts = 1, .least = count};
+    return server_ask(server, asked, &told);
 }
 
 int request_get(struct server *server, uint32_t key, uint8_t flags, uint16_t mode, uint32_t *id) {
@@ -39,26 +36,22 @@ int request_send(struct server *server, uint32_t id, uint8_t flags, const struct
 }
 
 /* Takes a message, by a request with so many bytes of fields. */
-static int take(struct server *server, struct request *asked, const struct selection *it, struct taken *told) {
+static int take(struct server *server, const struct request *asked, const struct selection *it, struct taken *told) {
     enum { BEFORE = 16, TYPE = 8 };
     uint8_t before[BEFORE];
     struct iovec room[MOST_PARTS] = {{before, BEFORE}};
     for (size_t n = 0; n < it->parts; n++)
         room[1 + n] = it->message[n];
-    struct answer answer = {.room = room, .parts = 1 + it->parts};
+    struct answer answer = {.room = room, .parts = 1 + it->parts, .least = BEFORE + TYPE};
     int done = server_ask(server, asked, &answer);
-    if (done != 0)
-        return done;
-    bool is_reserved = asked->operation == RESERVE;
-    if (answer.length < BEFORE + TYPE || (!is_reserved && answer.value != answer.length - BEFORE - TYPE))
-        return -EPROTO;
-    *told = (struct taken){
-        .serial = number_at(before, 8),
-        .sender = (uint32_t)number_at(before + 8, 4),
-        .holding = is_reserved ? answer.value : 0,
-        .length = answer.length - BEFORE - TYPE,
-    };
-    return 0;
+    if (done == 0)
+        *told = (struct taken){
+            .serial = number_at(before, 8),
+            .sender = (uint32_t)number_at(before + 8, 4),
+            .holding = asked->operation == RESERVE ? answer.value : 0,
+            .length = answer.length - BEFORE - TYPE,
+        };
+    return done;
 }
 
 int request_receive(struct server *server, const struct selection *it, const struct waiting *how, struct taken *told) {
@@ -66,7 +59,7 @@ int request_receive(struct server *server, const struct selection *it, const str
     const struct iovec part = {fields, sizeof fields};
     put_number(fields, (uint64_t)it->type, 8);
     put_number(fields + 8, it->size, 4);
-    struct request asked = {
+    const struct request asked = {
         .operation = RECEIVE, .flags = it->flags, .id = it->id, .fields = &part, .parts = 1, .how = *how};
     return take(server, &asked, it, told);
 }
@@ -75,7 +68,7 @@ int request_reserve(struct server *server, const struct selection *it, const str
     uint8_t fields[8];
     const struct iovec part = {fields, sizeof fields};
     put_number(fields, (uint64_t)it->type, 8);
-    struct request asked = {
+    const struct request asked = {
         .operation = RESERVE, .flags = it->flags, .id = it->id, .fields = &part, .parts = 1, .how = *how};
     return take(server, &asked, it, told);
 }
