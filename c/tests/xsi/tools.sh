@@ -11,7 +11,6 @@ line "$two"
 ipcs -q | sed -n 2,3p
 perl -e 'msgsnd($ARGV[0], pack("l! a*", 4, "four"), 0) or die $!' "$one"
 line "$one"
-ipcs -q -i "$one" | sed -n '/^uid/,/^qnum/p' X
 ipcs -q -i "$one" | grep -o 'mode=[0-9]*\|cbytes=[0-9]*\|qbytes=[0-9]*\|qnum=[0-9]*' | tr '\n' ' '
 echo
 ipcs -q -p | awk -v id="$one" '$1 == id { print NF, ($3 > 0), $4 }'
