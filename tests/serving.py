@@ -133,6 +133,14 @@ def bodies_of(client, id):
         found.append(f.read_message(answer.fields).body)
 
 
+def hangs_up(client):
+    """Whether the server has nothing to say but its end."""
+    try:
+        return client.socket.recv(1) == b""
+    except ConnectionError:
+        return True
+
+
 def in_child(act):
     """Does something in a child of this process, whose number is told."""
     child = os.fork()

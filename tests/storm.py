@@ -9,8 +9,9 @@ import frames as f
 from serving import PATIENCE, Server, bodies_of, in_child, is_alive, wait_for
 
 WORKERS, ROUNDS = 6, 10
-# What a worker writes down: a body that was sent, for sure or perhaps, that it has got, that it has done with; a receive whose answer was lost.
-SENT, PERHAPS, GOT, DONE_WITH, LOST = "sent", "perhaps", "got", "done", "lost"
+# What a worker writes down: a body that was sent, for sure or perhaps; that it has received or acknowledged; a receive whose answer was lost, or the
+# body whose acknowledgement was not answered.
+SENT, PERHAPS, GOT, LOST = "sent", "perhaps", "got", "lost"
 
 
 class Worker:
@@ -72,9 +73,12 @@ class Worker:
         if answer.code != f.DONE:
             return
         body = f.read_message(answer.fields).body
-        self.note(GOT, body)
-        if client.call(f.acknowledge, answer.value).code == f.DONE:
-            self.note(DONE_WITH, body)
+        try:
+            answer = client.call(f.acknowledge, answer.value)
+        except OSError:
+            self.note(LOST, body)
+            raise
+        self.note(GOT if answer.code == f.DONE else f"code {answer.code}", body)
 
 
 def read_logs(room, numbers):
@@ -88,7 +92,7 @@ def read_logs(room, numbers):
 
 
 def left_of(client):
-    """What the file has: of the queue of each key, and of those that hold a message."""
+    """What the file has in the queues of keys 7 and 8, and what else."""
     found, id = {7: [], 8: [], None: []}, 0
     while True:
         answer = client.call(f.next_above, id)
@@ -127,15 +131,17 @@ def rows(room):
         left = left_of(client)
     room.judge("storm: the server that reads the file", 0, server.end())
     taken, kept = read_logs(room, range(1, WORKERS, 2)), read_logs(room, range(0, WORKERS, 2))
-    for name, log, there in (("received", taken, left[7]), ("reserved", kept, left[8] + left[None])):
-        sent, perhaps, got = log.get(SENT, []), log.get(PERHAPS, []), log.get(GOT, [])
-        gone = log.get(DONE_WITH, []) if name == "reserved" else got
+    room.judge("storm: nothing is in hand any more", [], left[None])
+    for name, log, there in (("received", taken, left[7]), ("reserved", kept, left[8])):
+        sent, perhaps, got, lost = (log.get(it, []) for it in (SENT, PERHAPS, GOT, LOST))
         room.judge(f"storm, {name}: enough was done", True, len(sent) > 50 and len(got) > 20)
         room.judge(f"storm, {name}: only what was sent", [], [it for it in got + there if it not in {*sent, *perhaps}])
         room.judge(f"storm, {name}: nothing twice", (len(set(got)), len(set(there))), (len(got), len(there)))
-        room.judge(f"storm, {name}: what is gone is not there", [], [it for it in gone if it in there])
+        room.judge(f"storm, {name}: what is gone is not there", [], [it for it in got if it in there])
         lacks = [it for it in sent if it not in {*got, *there}]
-        # A receive that was not answered may have taken one.
-        room.judge(f"storm, {name}: nothing is lost", True, len(lacks) <= len(log.get(LOST, [])))
+        # A receive that was not answered may have taken one; of an acknowledgement it is known which.
+        room.judge(f"storm, {name}: nothing is lost", True, len(lacks) <= len(lost))
+        if name == "reserved":
+            room.judge("storm: nothing is lost but what was done with", [], [it for it in lacks if it not in lost])
         room.judge(f"storm, {name}: no other refusal", [], [it for it in log if it.startswith("code")])
     print(f"storm: {sum(len(log.get(SENT, [])) for log in (taken, kept))} sends were answered, {len(taken.get(LOST, []))} receives were not")

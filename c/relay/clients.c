@@ -15,8 +15,8 @@
 #define SO_PEERPIDFD 77
 #endif
 
-bool clients_begin(struct clients *it, uint32_t most, uint32_t most_under_way) {
-    *it = (struct clients){.most = most, .most_under_way = most_under_way, .places_count = 1};
+bool clients_begin(struct clients *it, uint32_t most) {
+    *it = (struct clients){.most = most, .places_count = 1};
     while (it->places_count < most)
         it->places_count *= 2;
     it->places = calloc(it->places_count, sizeof *it->places);

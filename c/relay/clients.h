@@ -21,8 +21,9 @@ enum {
      * answers a client that rests has less than 16 KiB. */
     IN_BYTES = 8192,
     OUT_BYTES = 4096,
-    /* No more is read from a client while so many bytes of its answers wait. */
+    /* No more is read from a client while so many bytes of its answers wait, or so many of its calls are under way. */
     MOST_OUT = 1 << 18,
+    MOST_UNDER_WAY = 64,
     GREETING_BYTES = 36,
 };
 
@@ -50,7 +51,7 @@ struct clients {
     struct client **places; /* by their numbers, as many as a power of two */
     uint32_t places_count;
     struct client *due, *gone;
-    uint32_t count, most, most_under_way;
+    uint32_t count, most;
     uint32_t last_number;
     bool is_stopped;  /* no more is read */
     bool has_paused;  /* somebody, since that was cleared */
@@ -60,7 +61,7 @@ struct clients {
 };
 
 /* Begins without clients. False where there is no memory. */
-bool clients_begin(struct clients *it, uint32_t most, uint32_t most_under_way);
+bool clients_begin(struct clients *it, uint32_t most);
 
 /* Takes a new connection, which is greeted, or closed where it can't be had. False where the numbers of connections
  * are used up. */

@@ -26,7 +26,7 @@ enum {
 
 /* Becomes the core, in the child. What ends the relay, or a whole terminal, is not to end the core: it has decided
  * what is not yet on the disk, and ends as its input does. */
-static void become(const char *program, const char *file, const char *how, const int *files) {
+static void become(const char *program, const char *const *words, const int *files) {
     static const int ignored[] = {SIGHUP, SIGINT, SIGQUIT, SIGTERM, SIGPIPE};
     sigset_t none;
     for (size_t at = 0; at < sizeof ignored / sizeof *ignored; at++)
@@ -34,7 +34,7 @@ static void become(const char *program, const char *file, const char *how, const
     (void)sigemptyset(&none);
     (void)sigprocmask(SIG_SETMASK, &none, NULL);
     if (dup2(files[0], STDIN_FILENO) >= 0 && dup2(files[3], STDOUT_FILENO) >= 0)
-        (void)execl(program, "msgqd", file, how, (char *)NULL);
+        (void)execv(program, (char *const *)(uintptr_t)words);
     complain("%s: it can't be run: %s", program, strerror(errno));
     _exit(127);
 }
@@ -46,7 +46,7 @@ static void close_all(const int *files) {
 }
 
 /* Makes the pipes and the process. 0 or the number of an error. */
-static int begin(struct core *it, const char *program, const char *file, const char *how) {
+static int begin(struct core *it, const char *program, const char *const *words) {
     int files[4] = {-1, -1, -1, -1}; /* of what it is told, and of what it answers: where each is read and written */
     int wrong = pipe2(files, O_CLOEXEC) == 0 && pipe2(files + 2, O_CLOEXEC) == 0 ? 0 : errno;
     if (wrong == 0) {
@@ -57,7 +57,7 @@ static int begin(struct core *it, const char *program, const char *file, const c
         wrong = it->process < 0 ? errno : 0;
     }
     if (wrong == 0 && it->process == 0)
-        become(program, file, how, files);
+        become(program, words, files);
     if (wrong != 0) {
         it->process = 0;
         close_all(files);
@@ -133,14 +133,14 @@ static bool wait_for_file(struct core *it, const char *file) {
     return false;
 }
 
-bool core_start(struct core *it, const char *program, const char *file, const char *how, uint32_t clients) {
+bool core_start(struct core *it, const char *program, const char *const *words, uint32_t clients) {
     *it = (struct core){.in = -1, .out = -1};
     /* Behind the most that is waited for: a request, and a record for each client that goes. */
     size_t most = MOST_TOLD + 2 * (HEAD + MOST_FRAME) + (size_t)clients * HEAD;
-    int wrong = make_room(&it->told, most) && make_room(&it->heard, HEARD_BYTES) ? begin(it, program, file, how) : ENOMEM;
+    int wrong = make_room(&it->told, most) && make_room(&it->heard, HEARD_BYTES) ? begin(it, program, words) : ENOMEM;
     if (wrong == 0)
-        return wait_for_file(it, file);
-    complain("%s: the core can't be started: %s", file, strerror(wrong));
+        return wait_for_file(it, words[1]);
+    complain("%s: the core can't be started: %s", words[1], strerror(wrong));
     (void)reap(it);
     return false;
 }

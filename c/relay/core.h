@@ -39,9 +39,10 @@ struct core_answer {
     size_t count;
 };
 
-/* Starts the program at this path on a file, and waits until that is open. The most clients that there are say how
- * much room is taken for what it is told. False where it can't be, which was said. */
-bool core_start(struct core *it, const char *program, const char *file, const char *how, uint32_t clients);
+/* Starts the program at this path with these words, of which the second is the file, and waits until that is open. The
+ * most clients that there are say how much room is taken for what it is told. False where it can't be, which was said.
+ * */
+bool core_start(struct core *it, const char *program, const char *const *words, uint32_t clients);
 
 /* Whether so much waits to be told that no request may be added. */
 bool core_is_busy(const struct core *it);

@@ -146,8 +146,13 @@ static bool bind_it(struct listener *it, const struct sockaddr_un *name, const s
     int wrong = bind(it->file, (const struct sockaddr *)name, sizeof *name) == 0 ? 0 : errno;
     (void)umask(before);
     errno = wrong;
-    if (wrong != 0 || lstat(it->path, &found) != 0)
+    if (wrong != 0)
         return fails(it->path, "it can't be bound");
+    if (lstat(it->path, &found) != 0) {
+        (void)fails(it->path, "it can't be looked at");
+        (void)unlink(it->path);
+        return false;
+    }
     it->device = found.st_dev;
     it->inode = found.st_ino;
     if (!options->has_group)

@@ -74,7 +74,7 @@ static bool change(struct relay *it, struct watch *watch, uint32_t events) {
 bool relay_begin(struct relay *it) {
     it->spare = open("/dev/null", O_RDONLY | O_CLOEXEC);
     it->epoll = epoll_create1(EPOLL_CLOEXEC);
-    bool has_table = clients_begin(&it->clients, it->options->clients, it->options->requests);
+    bool has_table = clients_begin(&it->clients, it->options->clients);
     it->clients.epoll = it->epoll;
     it->clients.core = &it->core;
     write_greeting(it);
@@ -223,12 +223,17 @@ static void hear_core(struct relay *it) {
         lose_core(it, heard == CORE_ENDED ? "the core has ended" : "the core answers what is none");
 }
 
+/* Whether something waits to be told to the core. */
+static bool has_told(const struct relay *it) {
+    return it->core.told.begin < it->core.told.end;
+}
+
 /* Writes to the core, and reads the clients again that were not read for its sake. */
 static void tell_core(struct relay *it) {
     bool is_there = it->phase != DRAINING && core_flush(&it->core);
     if (is_there && it->clients.has_paused && core_is_free(&it->core))
         clients_resume(&it->clients);
-    bool is_writing = is_there && it->core.told.begin < it->core.told.end;
+    bool is_writing = is_there && has_told(it);
     if (it->is_writing != is_writing && change(it, &it->core_in, is_writing ? EPOLLOUT : 0))
         it->is_writing = is_writing;
 }
@@ -277,6 +282,9 @@ static int patience(const struct relay *it) {
 static void go_on(struct relay *it) {
     tell_core(it);
     clients_flush(&it->clients);
+    /* Somebody may have gone meanwhile. */
+    if (has_told(it) && !it->is_writing)
+        tell_core(it);
     arm(it);
     if (it->muted_until != 0 && milliseconds() >= it->muted_until && change(it, &it->listens, EPOLLIN))
         it->muted_until = 0;

@@ -11,7 +11,7 @@
 
 #define CALL "msgq serve [OPTIONS] <FILE>"
 
-enum { PAGES = 4096, CLIENTS = 4096, MOST_CLIENTS = 1 << 20, REQUESTS = 64, MOST_REQUESTS = 1 << 16, MOST_EVERY = 86400000 };
+enum { PAGES = 4096, CLIENTS = 4096, MOST_CLIENTS = 1 << 20, WAITS = 4096, MOST_WAITS = 1 << 16, MOST_EVERY = 86400000 };
 
 static const char USAGE[] =
     "Serves a file to other processes, through a socket\n"
@@ -31,7 +31,7 @@ static const char USAGE[] =
     "  -c, --create         Make FILE where there is none\n"
     "  -p, --pages <N>      Make it of so many pages [default: 4096]\n"
     "      --clients <N>    As many may be connected at once [default: 4096]\n"
-    "      --waits <N>      As many calls of one client may be under way at once [default: 64]\n"
+    "      --waits <N>      As many calls may wait at once [default: 4096]\n"
     "  -h, --help           Print help\n"
     "\n"
     "It stays in the foreground, and says on standard output once it serves. TERM and INT end it: the file is saved, and a call\n"
@@ -150,8 +150,8 @@ static int read_other(struct options *it, struct words *words) {
     }
     if (take_option(words, "--waits", '\0', &value)) {
         value = take_value(words, value);
-        return read_count(value, MOST_REQUESTS, &it->requests) ? DONE
-                                                               : misuse("'%s' is no number of calls, from 1 to 65536", value);
+        return read_count(value, MOST_WAITS, &it->waits) ? DONE
+                                                         : misuse("'%s' is no number of calls, from 1 to 65536", value);
     }
     return -1;
 }
@@ -175,7 +175,7 @@ int read_options(struct options *it, int count, char **at) {
     struct words words = {count, at};
     bool is_chosen = false;
     int status = DONE;
-    *it = (struct options){.mode = 0600, .pages = PAGES, .clients = CLIENTS, .requests = REQUESTS};
+    *it = (struct options){.mode = 0600, .pages = PAGES, .clients = CLIENTS, .waits = WAITS};
     while (status == DONE && words.count > 0)
         status = read_next(it, &words, &is_chosen);
     if (status != DONE)

@@ -20,7 +20,7 @@ struct options {
     bool creates;      /* the file, where there is none */
     uint32_t pages;    /* of a file that is made */
     uint32_t clients;  /* at most, at once */
-    uint32_t requests; /* of one client under way at most */
+    uint32_t waits;    /* calls that wait at most, of all clients */
 };
 
 /* Reads the words behind the verb. DONE or MISUSE, which was said; below 0 where help was asked for and given. */

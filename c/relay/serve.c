@@ -6,7 +6,6 @@
 #include "loop.h"
 #include "options.h"
 #include "service.h"
-#include "turn.h"
 
 #include <errno.h>
 #include <fcntl.h>
@@ -83,11 +82,11 @@ static bool see_to_file(const struct options *options) {
 
 static bool start_core(struct relay *it) {
     static const char *const hows[] = {"--durable", "--every", "--in-memory"};
-    char program[PROGRAM_BYTES];
-    if (!find_program("msgqd", program))
-        return false;
-    turn_wait(it->options->file);
-    return core_start(&it->core, program, it->options->file, hows[it->options->durability], it->options->clients);
+    const struct options *options = it->options;
+    char program[PROGRAM_BYTES], waits[16];
+    const char *words[] = {"msgqd", options->file, hows[options->durability], "--waits", waits, NULL};
+    (void)snprintf(waits, sizeof waits, "%u", options->waits);
+    return find_program("msgqd", program) && core_start(&it->core, program, words, options->clients);
 }
 
 /* Says that it serves, on standard output and to a service manager. */

@@ -36,7 +36,7 @@ void client_hand_over(struct clients *it, struct client *client) {
         bool is_cancel = at[AT_OPERATION] == CANCEL;
         client->is_paused = core_is_busy(it->core);
         it->has_paused |= client->is_paused;
-        client->is_held = !is_cancel && client->under_way >= it->most_under_way;
+        client->is_held = !is_cancel && client->under_way >= MOST_UNDER_WAY;
         if (client->is_paused || client->is_held)
             return;
         core_tell(it->core, client->number, REQUEST, &client->caller, at + 4, length);
