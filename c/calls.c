@@ -176,7 +176,7 @@ int msgq_reserve(msgq *queues, uint32_t id, int64_t type, void *room, size_t siz
                  const struct timespec *limit, struct msgq_message *got, uint32_t *holding) {
     struct timespec end;
     nothing_is_wrong();
-    if ((flags & ~(MSGQ_NOWAIT | MSGQ_AGAIN)) != 0)
+    if ((flags & ~MSGQ_NOWAIT) != 0)
         return no_argument(queues, of_id(id), why(EINVAL, "0%o has flags that are none", (unsigned)flags));
     if (size < MSGQ_MAX_BODY)
         return no_argument(queues, of_id(id), why(EINVAL, "there is room for %zu bytes, and a message may have 1024", size));
@@ -191,7 +191,6 @@ int msgq_reserve(msgq *queues, uint32_t id, int64_t type, void *room, size_t siz
         .call = {.mtype = type, .id = id, .nowait = (flags & MSGQ_NOWAIT) != 0},
         .room = room,
         .size = MSGQ_MAX_BODY,
-        .asks_again = (flags & MSGQ_AGAIN) != 0,
     };
     wrong = queues->calls->reserve(queues, &it, limit == NULL ? NULL : &end);
     if (wrong == 0) {

@@ -19,6 +19,7 @@ struct server {
 
 static const long SECOND = 1000000000; /* in nanoseconds */
 
+/* (This clock can always be read.) */
 static struct timespec now(void) {
     struct timespec it = {0, 0};
     (void)clock_gettime(CLOCK_MONOTONIC, &it);
@@ -227,6 +228,9 @@ static int dial(struct server *server, struct line *line, const struct waiting *
     struct timespec until = later(now(), server->patience);
     for (;;) {
         int wrong = wire_dial(&line->wire, server->socket);
+        if (wrong == ETIMEDOUT)
+            /* (a limit has not ended: who has the socket does not greet) */
+            return -ENOTCONN;
         if (wrong != ENOENT && wrong != ECONNREFUSED && wrong != ECONNRESET)
             return -wrong;
         if (left_until(&until) == 0)

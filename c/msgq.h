@@ -1,5 +1,5 @@
 /* XSI message queues in one file: msgget, msgsnd, msgrcv and msgctl between the threads of a process, kept in a file from
- * one process to the next.
+ * one process to the next; or between any number of processes, where a server has the file (msgq serve).
  *
  * What each call is answered is proved: it is what the rules of queues say (docs/QUEUES.md), one call at a time, in the order in
  * which they come to the lock. What is proved speaks of memory: the file is read into it when it is opened, and written from it
@@ -8,11 +8,13 @@
  * Each function gives 0 or the number of an error, as those of POSIX threads do; errno is not used. msgq_reason has a sentence
  * for it. Any thread may call at any time, but not a signal handler, and msgq_close is the last call.
  *
- * Calls are made as the process, and its effective user and group, of the moment of msgq_open: by them the modes of queues are
- * tested (docs/QUEUES.md, "Owners and modes"). Who may read or write the file may read or change all of it.
+ * Calls on a file that is opened are made as the process, and its effective user and group, of the moment of msgq_open: by them
+ * the modes of queues are tested (docs/QUEUES.md, "Owners and modes"). Who may read or write the file may read or change all of it.
+ * Of who calls a server the system tells it the same, at each thread's first call and anew where it has changed.
  *
  * The child of a fork has none of its parent's files: each call on one is refused ENOTSUP. What it does, and its end, changes
- * nothing for its parent. It may open the file itself once its parent has closed it, and any other file at once.
+ * nothing for its parent. It may open the file itself once its parent has closed it, and any other file at once. A handle of a
+ * server it may use as its parent does.
  */
 #ifndef MSGQ_H
 #define MSGQ_H
@@ -28,7 +30,7 @@ struct timespec;
 extern "C" {
 #endif
 
-/* A file of queues that is open. */
+/* A file of queues that is open, or a server of one: the calls are the same. */
 typedef struct msgq msgq;
 
 /* The key of a queue that no key leads to (IPC_PRIVATE). Other keys are 0 to 4,294,967,295. */
@@ -41,6 +43,9 @@ typedef struct msgq msgq;
 /* Flags of msgq_send and msgq_receive: IPC_NOWAIT and MSG_NOERROR. */
 #define MSGQ_NOWAIT 04000
 #define MSGQ_NOERROR 010000
+
+/* One more: where a server is lost while the call waits, it is made again of the next one, and not told ECONNRESET. What the lost
+ * one had done all the same is then not known: a message that it had taken is lost, and one that it had put stands twice. */
 #define MSGQ_AGAIN 0100000
 
 /* No message has more bytes: send the name of a file in the place of what is longer. */
@@ -87,7 +92,17 @@ int msgq_open(const char *path, msgq **queues);
  * process sends to it or receives from it: who waits for another process closes it meanwhile. */
 int msgq_open_wait(const char *path, const struct timespec *limit, msgq **queues);
 
+/* Connects to a server, by the path of its socket. ENOENT or ECONNREFUSED where nobody serves; ETIMEDOUT or EPROTO where who has the
+ * socket does not greet as a server does; or what the system says.
+ *
+ * Each thread has a connection of its own, which is made at its first call and ends with it. A signal whose handler returns ends a
+ * wait: EINTR, also where it restarts calls. Where the server ends in order, calls that wait are made again of the next one, and so
+ * is any call that the server has not read: for five seconds, and then ENOTCONN. Where it was killed a call that it had read is told
+ * ECONNRESET, and it is not known whether it was made. */
 int msgq_connect(const char *socket, msgq **queues);
+
+/* Connects to the server of a file, where it has one: its socket stands beside the file, with .socket behind its name. Else the file is
+ * opened. */
 int msgq_attach(const char *path, msgq **queues);
 
 /* A limit of so many milliseconds; NULL, which is none, for a number below 0. It is the thread's, and stands until the thread
@@ -107,8 +122,14 @@ int msgq_send(msgq *queues, uint32_t id, int64_t type, const void *body, size_t 
 int msgq_receive(msgq *queues, uint32_t id, int64_t type, void *room, size_t size, int flags,
                  const struct timespec *limit, struct msgq_message *got);
 
+/* Takes a message as msgq_receive does, and keeps it safe until it is dealt with: a server holds it in a queue of its own, whose id is
+ * told. msgq_acknowledge ends that, and the message; msgq_release sends it to its queue again, last. It is released where the thread
+ * ends that has reserved it, its process, or the server, and so is what a server has left that was killed. So a message is dealt with
+ * once or more often, and never lost. There has to be room for MSGQ_MAX_BODY bytes. ENOTSUP on a file that is opened. */
 int msgq_reserve(msgq *queues, uint32_t id, int64_t type, void *room, size_t size, int flags,
                  const struct timespec *limit, struct msgq_message *got, uint32_t *holding);
+
+/* EINVAL for an id that no message is held by, EIDRM where it was dealt with. */
 int msgq_acknowledge(msgq *queues, uint32_t holding);
 int msgq_release(msgq *queues, uint32_t holding);
 
@@ -116,18 +137,20 @@ int msgq_stat(msgq *queues, uint32_t id, struct msgq_info *info);
 int msgq_set(msgq *queues, uint32_t id, const struct msgq_change *change);
 int msgq_remove(msgq *queues, uint32_t id);
 
-/* The least id above this one whose queue is alive; ENOENT where there is none. It looks at each id in between. */
+/* The least id above this one whose queue is alive; ENOENT where there is none. On a file that is opened it looks at each id in
+ * between. */
 int msgq_list(msgq *queues, uint32_t after, uint32_t *id);
 
 /* Writes what has changed to the file. What was answered before it then outlasts the process and the machine; one that is
  * killed meanwhile leaves the file as it was or as it is now. Where it fails the file is to be opened anew: each further
- * msgq_save is told EIO. */
+ * msgq_save is told EIO. A server that is durable has saved all that it has answered; of another it is asked for here. */
 int msgq_save(msgq *queues);
 
-/* From here on a call that would wait is told EINTR, also one that waits now. The mark is not saved. */
+/* From here on a call that would wait is told EINTR, also one that waits now. The mark is not saved. ENOTSUP of a server. */
 int msgq_stop(msgq *queues);
 
-/* Saves, and lets go of the file. EBUSY while a call waits, or what msgq_save says: then the file stays open. */
+/* Saves, and lets go of the file. EBUSY while a call waits, or what msgq_save says: then the file stays open. Of a server it lets go
+ * without a save. */
 int msgq_close(msgq *queues);
 
 /* Lets go of the file without a save. EBUSY while a call waits. */

@@ -104,6 +104,8 @@ static int receive(msgq *queues, struct receiving *it, const struct timespec *en
 }
 
 static int reserve(msgq *queues, struct receiving *it, const struct timespec *end) {
+    /* What is held for a connection that has ended goes back. So nothing is lost by asking again. */
+    it->asks_again = true;
     return take(queues, it, end, request_reserve);
 }
 
@@ -135,7 +137,9 @@ static int remove_queue(msgq *queues, uint32_t id) {
 }
 
 static int list(msgq *queues, uint32_t after, uint32_t *id) {
-    return error_of_request(queues, request_next(server_of(queues), after, id));
+    int wrong = error_of_request(queues, request_next(server_of(queues), after, id));
+    /* (a server says so of an id behind which there is none) */
+    return wrong == EINVAL ? ENOENT : wrong;
 }
 
 /* ---- the handle */

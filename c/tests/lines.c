@@ -8,6 +8,21 @@
 #include <sys/time.h>
 #include <time.h>
 
+static const struct waiting NOW = {.waits = false}, AGAIN = {.waits = true, .asks_again = true};
+
+static int sends(struct server *server, const struct waiting *how) {
+    uint8_t type[8] = {5};
+    const struct iovec message[] = {{type, sizeof type}, {"body", 4}};
+    return request_send(server, 3, 0, message, 2, how);
+}
+
+/* A message of type 5 with serial 9 from process 77. */
+static void tell_message(int fd, uint32_t number, uint32_t value, const char *body) {
+    uint8_t fields[24 + 1024] = {9, 0, 0, 0, 0, 0, 0, 0, 77, 0, 0, 0, 0, 0, 0, 0, 5};
+    memcpy(fields + 24, body, strlen(body));
+    tell(fd, number, 0, value, fields, 24 + strlen(body));
+}
+
 static struct timespec in_a_moment(void) {
     struct timespec it;
     clock_gettime(CLOCK_MONOTONIC, &it);

@@ -16,7 +16,7 @@
 
 static int passed, failed;
 
-static void is(long long found, long long expected, const char *what) {
+static inline void is(long long found, long long expected, const char *what) {
     if (found == expected) {
         passed++;
         return;
@@ -38,19 +38,19 @@ struct heard {
     uint8_t fields[2048];
 };
 
-static void must(bool holds, const char *what) {
+static inline void must(bool holds, const char *what) {
     if (!holds) {
         fprintf(stderr, "the server: %s\n", what);
         _exit(1);
     }
 }
 
-static void give(int fd, const void *bytes, size_t count) {
+static inline void give(int fd, const void *bytes, size_t count) {
     must(send(fd, bytes, count, MSG_NOSIGNAL) == (ssize_t)count, "send");
 }
 
 /* The next client, which is greeted. */
-static int taken(uint32_t version) {
+static inline int taken(uint32_t version) {
     uint8_t greeting[36] = {32};
     int fd = accept(listener, NULL, NULL);
     must(fd >= 0, "accept");
@@ -62,12 +62,12 @@ static int taken(uint32_t version) {
     return fd;
 }
 
-static int client(void) {
+static inline int client(void) {
     return taken(1);
 }
 
 /* Hears a request of this operation. */
-static struct heard hear(int fd, unsigned operation) {
+static inline struct heard hear(int fd, unsigned operation) {
     uint8_t head[16];
     struct heard it = {0};
     must(recv(fd, head, sizeof head, MSG_WAITALL) == sizeof head, "a request");
@@ -85,13 +85,13 @@ static struct heard hear(int fd, unsigned operation) {
 }
 
 /* Waits until something is there to read, or the client has hung up. */
-static void await(int fd) {
+static inline void await(int fd) {
     struct pollfd at = {.fd = fd, .events = POLLIN};
     must(poll(&at, 1, 10000) == 1, "nothing came");
 }
 
 /* Awaits the end of a connection. */
-static void gone(int fd) {
+static inline void gone(int fd) {
     char byte;
     await(fd);
     /* (-1 where it has not read all) */
@@ -99,7 +99,7 @@ static void gone(int fd) {
     close(fd);
 }
 
-static size_t answer(uint8_t *frame, uint32_t number, uint32_t code, uint32_t value, const void *fields, size_t count) {
+static inline size_t answer(uint8_t *frame, uint32_t number, uint32_t code, uint32_t value, const void *fields, size_t count) {
     put_number(frame, 12 + count, 4);
     put_number(frame + 4, number, 4);
     put_number(frame + 8, code, 4);
@@ -109,16 +109,9 @@ static size_t answer(uint8_t *frame, uint32_t number, uint32_t code, uint32_t va
     return 16 + count;
 }
 
-static void tell(int fd, uint32_t number, uint32_t code, uint32_t value, const void *fields, size_t count) {
+static inline void tell(int fd, uint32_t number, uint32_t code, uint32_t value, const void *fields, size_t count) {
     uint8_t frame[2048];
     give(fd, frame, answer(frame, number, code, value, fields, count));
-}
-
-/* A message of type 5 with serial 9 from process 77. */
-static void tell_message(int fd, uint32_t number, uint32_t value, const char *body) {
-    uint8_t fields[24 + 1024] = {9, 0, 0, 0, 0, 0, 0, 0, 77, 0, 0, 0, 0, 0, 0, 0, 5};
-    memcpy(fields + 24, body, strlen(body));
-    tell(fd, number, 0, value, fields, 24 + strlen(body));
 }
 
 /* ---- the client's side */
@@ -126,7 +119,7 @@ static void tell_message(int fd, uint32_t number, uint32_t value, const char *bo
 static pid_t process;
 
 /* Begins a server that does this. */
-static void serves(void (*act)(void)) {
+static inline void serves(void (*act)(void)) {
     struct sockaddr_un address = {.sun_family = AF_UNIX};
     (void)unlink(path);
     if (strlen(path) >= sizeof address.sun_path)
@@ -145,33 +138,76 @@ static void serves(void (*act)(void)) {
 }
 
 /* The server has said all of it. */
-static void has_ended(const char *what) {
+static inline void has_ended(const char *what) {
     int status = -1;
     waitpid(process, &status, 0);
     is(status, 0, what);
 }
 
-static struct server *begun(int patience) {
+static inline struct server *begun(int patience) {
     struct server *server = NULL;
     if (server_begin(path, patience, &server) != 0)
         exit(2);
     return server;
 }
 
-static const struct waiting NOW = {.waits = false}, WAITS = {.waits = true}, AGAIN = {.waits = true, .asks_again = true};
+static const struct waiting WAITS = {.waits = true};
 
 static struct taken got;
 static uint8_t room[8 + 1024];
 
 /* Receives into `room`. */
-static int receives(struct server *server, const struct waiting *how) {
+static inline int receives(struct server *server, const struct waiting *how) {
     const struct iovec message = {room, sizeof room};
     const struct selection it = {.id = 3, .type = -4, .size = 1024, .message = &message, .parts = 1};
     return request_receive(server, &it, how, &got);
 }
 
-static int sends(struct server *server, const struct waiting *how) {
-    uint8_t type[8] = {5};
-    const struct iovec message[] = {{type, sizeof type}, {"body", 4}};
-    return request_send(server, 3, 0, message, 2, how);
+/* ---- one server, and one request of no matter what */
+
+static struct server *server;
+
+/* Answers requests of each client, as many as it makes, one client after the other: what is expected of the descriptor's number is not
+ * the server's to know. */
+static inline void answers(int fd, int requests) {
+    for (int n = 0; n < requests; n++)
+        tell(fd, hear(fd, 7).number, 0, 1, NULL, 0);
+}
+
+static inline int asks(void) {
+    uint32_t id;
+    return request_next(server, 0, &id);
+}
+
+/* The descriptor of the last connection that was dialled. */
+static inline int descriptor(void) {
+    char name[40], what[8];
+    for (int fd = 1023; fd >= 0; fd--) {
+        snprintf(name, sizeof name, "/proc/self/fd/%d", fd);
+        if (readlink(name, what, sizeof what) > 6 && memcmp(what, "socket:", 7) == 0)
+            return fd;
+    }
+    return -1;
+}
+
+static inline void begin(void (*act)(void)) {
+    serves(act);
+    server = begun(1000);
+}
+
+static inline void end(const char *what) {
+    server_end(server);
+    has_ended(what);
+}
+
+static inline int child_ends(pid_t child) {
+    int status = -1;
+    waitpid(child, &status, 0);
+    return status;
+}
+
+static inline void one(void) {
+    int fd = client();
+    answers(fd, 1);
+    gone(fd);
 }

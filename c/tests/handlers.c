@@ -1,0 +1,161 @@
+/* What becomes of a wait upon which the handler of a signal asks, forks or jumps, as line.h has it. Run with the path of a new socket. */
+#include "scripted.h"
+
+#include <setjmp.h>
+
+static int told_handler;
+static sigjmp_buf place;
+static pid_t child_of_handler;
+
+static void handler_asks(int number) {
+    int was = errno;
+    (void)number;
+    told_handler = asks();
+    errno = was;
+}
+
+static void handler_forks(int number) {
+    int was = errno;
+    (void)number;
+    child_of_handler = fork();
+    errno = was;
+}
+
+static void handler_jumps(int number) {
+    (void)number;
+    siglongjmp(place, 1);
+}
+
+static void handler_leaves(int number) {
+    (void)number;
+    server_leave(server);
+    siglongjmp(place, 1);
+}
+
+static void on_signal(void (*handler)(int), int flags) {
+    struct sigaction act = {.sa_handler = handler, .sa_flags = flags};
+    sigaction(SIGUSR1, &act, NULL);
+}
+
+/* Hears a receive, and interrupts it until the client says more: a signal that comes before it waits is none of the wait's. Where a
+ * handler asks, that is a connection of its own, which ends with it. */
+static uint32_t interrupted(int fd) {
+    uint32_t number = hear(fd, 3).number;
+    struct pollfd at[] = {{.fd = fd, .events = POLLIN}, {.fd = listener, .events = POLLIN}};
+    for (int n = 0; n < 100 && (at[0].revents & POLLIN) == 0; n++)
+        if (poll(at, 2, 50) == 0)
+            kill(getppid(), SIGUSR1);
+        else if (at[1].revents != 0) {
+            int other = client();
+            answers(other, 1);
+            gone(other);
+        }
+    return number;
+}
+
+static void interrupts(int times) {
+    for (int n = 0; n < times; n++) {
+        int fd = client();
+        uint32_t number = interrupted(fd);
+        must(hear(fd, 11).id == number, "what is cancelled");
+        tell(fd, number, 200, 0, NULL, 0);
+        gone(fd);
+    }
+}
+
+static void interrupts_two(void) {
+    interrupts(2);
+}
+
+static void handlers(void) {
+    static char stack[1 << 16];
+    const stack_t other = {.ss_sp = stack, .ss_size = sizeof stack}, none = {.ss_flags = SS_DISABLE};
+    serves(interrupts_two);
+    for (int n = 0; n < 2; n++) {
+        server = begun(1000);
+        told_handler = -1;
+        /* (a stack of its own, which may stand above or below) */
+        is(sigaltstack(n == 0 ? &none : &other, NULL), 0, "a stack");
+        on_signal(handler_asks, n == 0 ? 0 : SA_ONSTACK);
+        is(receives(server, &WAITS), -EINTR, "a wait upon which a handler asks");
+        is(told_handler, 0, "what the handler asks");
+        server_end(server);
+    }
+    is(sigaltstack(&none, NULL), 0, "no stack");
+    has_ended("handlers");
+}
+
+static void interrupts_one(void) {
+    interrupts(1);
+}
+
+static void fork_in_a_handler(void) {
+    begin(interrupts_one);
+    on_signal(handler_forks, 0);
+    int done = receives(server, &WAITS);
+    if (child_of_handler == 0)
+        _exit(done != -EINTR);
+    is(done, -EINTR, "a wait upon which a handler forks");
+    is(child_ends(child_of_handler), 0, "the same wait in the child");
+    end("a fork in a handler");
+}
+
+static void is_left(void) {
+    int fd = client();
+    (void)hear(fd, 3);
+    usleep(50000);
+    kill(getppid(), SIGUSR1);
+    /* By a jump that is told of at once, else at the next request. */
+    gone(fd);
+    answers(fd = client(), 1);
+    gone(fd);
+}
+
+static void jumps(void (*handler)(int), const char *what) {
+    begin(is_left);
+    on_signal(handler, 0);
+    if (sigsetjmp(place, 1) == 0)
+        is(receives(server, &WAITS), 1, "a jump goes on");
+    if (handler == handler_leaves) {
+        is(server_under_way(server), 0, "requests under way");
+        is(descriptor(), -1, "the connection of what was left");
+    }
+    is(asks(), 0, what);
+    end(what);
+}
+
+static void handler_jumps_within(int number) {
+    static sigjmp_buf within;
+    (void)number;
+    if (sigsetjmp(within, 1) == 0) {
+        server_leave(server);
+        siglongjmp(within, 1);
+    }
+}
+
+static void is_not_left(void) {
+    int fd = client();
+    (void)interrupted(fd);
+    gone(fd);
+}
+
+static void jumps_within(void) {
+    begin(is_not_left);
+    on_signal(handler_jumps_within, 0);
+    is(receives(server, &WAITS), -ECONNRESET, "a wait that a jump did not leave after all");
+    end("a jump within a handler");
+}
+
+int main(int argc, char **argv) {
+    if (argc != 2)
+        return 2;
+    snprintf(path, sizeof path, "%s", argv[1]);
+    handlers();
+    fork_in_a_handler();
+    jumps(handler_leaves, "a jump that is told of");
+    jumps(handler_jumps, "a jump that is not told of");
+    jumps_within();
+    unlink(path);
+    printf("%d passed, %d failed\n", passed, failed);
+    return failed > 0;
+}
