@@ -82,6 +82,11 @@ static bool read_interpreter(const char *head, size_t length, char *path) {
     return count > 0;
 }
 
+static bool changes_user(const struct stat *found) {
+    return ((found->st_mode & S_ISUID) != 0 && found->st_uid != getuid())
+        || ((found->st_mode & S_ISGID) != 0 && found->st_gid != getgid());
+}
+
 static const char *look(const char *path, char *interpreter) {
     union {
         Elf64_Ehdr elf;
@@ -95,7 +100,7 @@ static const char *look(const char *path, char *interpreter) {
         return NULL;
     ssize_t length = pread(file, &head, sizeof head, 0);
     bool is_elf = length >= (ssize_t)sizeof head.elf && memcmp(head.text, ELFMAG, SELFMAG) == 0;
-    if (is_elf && fstat(file, &found) == 0 && (found.st_mode & (S_ISUID | S_ISGID)) != 0 && geteuid() != 0)
+    if (is_elf && fstat(file, &found) == 0 && changes_user(&found))
         why = "it runs as another user or group";
     else if (is_elf)
         why = why_not_elf(file, &head.elf);
