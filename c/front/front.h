@@ -30,6 +30,7 @@ int do_run(int count, char **words);
 int list_run(int count, char **words);
 int top_run(int count, char **words);
 int serve_run(int count, char **words);
+int with_run(int count, char **words);
 
 /* Prints a line on standard error, behind `msgq: `. */
 void complain(const char *format, ...) __attribute__((format(printf, 1, 2)));

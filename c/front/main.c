@@ -12,6 +12,7 @@
 const struct verb VERBS[] = {
     {"do", "Takes a message, and runs a command on it", do_run},
     {"serve", "Serves a file to other processes, through a socket", serve_run},
+    {"with", "Runs a command whose message queues are those of a file", with_run},
     {"list", NULL, list_run},
     {"top", "Shows the queues of a file, renewed each second", top_run},
     {NULL, NULL, NULL},

@@ -7,7 +7,7 @@
 #include <string.h>
 #include <unistd.h>
 
-bool find_program(const char *name, char *path) {
+bool find_installed(const char *name, char *path) {
     ssize_t length = readlink("/proc/self/exe", path, PATH_MAX);
     if (length < 0 || length >= PATH_MAX) {
         complain("the program's own path can't be read: %s", length < 0 ? strerror(errno) : "it is too long");
@@ -21,8 +21,14 @@ bool find_program(const char *name, char *path) {
         *slash = '\0';
     }
     size_t above = strlen(path), room = PROGRAM_BYTES - above;
-    if ((size_t)snprintf(path + above, room, "/libexec/msgq/%s", name) < room)
+    if ((size_t)snprintf(path + above, room, "/%s", name) < room)
         return true;
     complain("the program's own path is too long");
     return false;
+}
+
+bool find_program(const char *name, char *path) {
+    char below[64];
+    int length = snprintf(below, sizeof below, "libexec/msgq/%s", name);
+    return length > 0 && (size_t)length < sizeof below && find_installed(below, path);
 }

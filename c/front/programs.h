@@ -12,4 +12,7 @@
  * Whether it is there is not looked at. */
 bool find_program(const char *name, char *path);
 
+/* The same of anything that is installed: PREFIX/NAME. */
+bool find_installed(const char *name, char *path);
+
 #endif
