@@ -1,0 +1,37 @@
+//! Why a server does not go on.
+
+use durable_desk::Uncommitted;
+use durable_desk::desk::session::queue_model::NoMemory;
+use thiserror::Error;
+
+/// Why a record is not heard to its end. The server is to end.
+#[derive(Clone, Copy, Debug, PartialEq, Eq, Error)]
+pub enum Unheard {
+    /// The relay broke the rules of its records.
+    #[error("the relay sent what is no record")]
+    Broken,
+    /// The file has failed, and this client has not been told so.
+    #[error("the file has failed")]
+    Failed {
+        /// The client.
+        client: u64,
+    },
+    /// There was no memory to keep an answer until it may be told.
+    #[error("out of memory")]
+    NoMemory,
+    /// What was decided could not be saved.
+    #[error("{0}")]
+    Uncommitted(Uncommitted),
+}
+
+impl From<NoMemory> for Unheard {
+    fn from(_: NoMemory) -> Unheard {
+        Unheard::NoMemory
+    }
+}
+
+impl From<Uncommitted> for Unheard {
+    fn from(why: Uncommitted) -> Unheard {
+        Unheard::Uncommitted(why)
+    }
+}
