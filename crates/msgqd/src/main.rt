@@ -27,7 +27,7 @@ fn main(rt: HostRuntime) -> ExitCode {
             return ExitCode::from(2);
         }
     };
-    let words = match words.collect(rt.alloc()) {
+    let words: Vec<String> = match words.collect(rt.alloc()) {
         Ok(words) => words,
         Err(_) => {
             let _ = writeln!(errors, "msgqd: out of memory");

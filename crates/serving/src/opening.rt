@@ -41,7 +41,7 @@ impl<P: PagePair> Server<P> {
         P: Drop,
     {
         let outbox = Outbox::new(Vec::with_capacity(alloc, HELD_BYTES)?);
-        let mut queues = LiveQueues::new(alloc, MAX_QUEUES)?;
+        let mut queues = LiveQueues::new(alloc, MAX_QUEUES as usize)?;
         let mut desk = DurableDesk::open(alloc, device, most)?;
         find_queues(&mut desk, &mut queues)?;
         Ok(Server {
@@ -64,7 +64,11 @@ fn find_queues<P: PagePair>(
     for id in 1..END_OF_IDS {
         match desk.ask(NOBODY, READER, Call::Stat { id }) {
             Ok(Answer::Refused(Errno::EINVAL)) => break,
-            Ok(Answer::Info(_)) => queues.insert(id)?,
+            Ok(Answer::Info(_)) => {
+                let Ok(()) = queues.insert(id) else {
+                    return Err(Unopened::NoMemory);
+                };
+            }
             Ok(_) => {}
             Err(_) => return Err(Unopened::Failed),
         }

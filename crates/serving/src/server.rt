@@ -64,7 +64,9 @@ impl<P: PagePair> Server<P> {
         };
         match kind {
             Kind::Request(request) => self.serve(connection, caller, request)?,
-            Kind::Gone => self.desk.leave(connection),
+            Kind::Gone => {
+                self.desk.leave(connection);
+            }
             Kind::Tick => {
                 if self.durability == Durability::NowAndThen {
                     self.save()?;

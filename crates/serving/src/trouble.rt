@@ -1,7 +1,10 @@
 //! Why a server does not go on.
 
 use durable_desk::Uncommitted;
+use durable_desk::desk::session::OpenFault;
 use durable_desk::desk::session::queue_model::NoMemory;
+use numbers::faults;
+use std::alloc::AllocError;
 use thiserror::Error;
 
 /// Why a record is not heard to its end. The server is to end.
@@ -33,5 +36,42 @@ impl From<NoMemory> for Unheard {
 impl From<Uncommitted> for Unheard {
     fn from(why: Uncommitted) -> Unheard {
         Unheard::Uncommitted(why)
+    }
+}
+
+/// Why a server is not opened.
+#[derive(Clone, Copy, Debug, PartialEq, Eq, Error)]
+pub enum Unopened {
+    /// There is no memory.
+    #[error("out of memory")]
+    NoMemory,
+    /// The first thing that is wrong with the file, or what is lacking.
+    #[error("{0}")]
+    Wrong(OpenFault),
+    /// The file has failed while its queues were looked for.
+    #[error("the file has failed")]
+    Failed,
+}
+
+impl Unopened {
+    /// The number of this fault (docs/FAULTS.md).
+    pub fn number(self) -> u8 {
+        match self {
+            Unopened::NoMemory => faults::NO_MEMORY,
+            Unopened::Wrong(fault) => fault.number(),
+            Unopened::Failed => faults::FAILED,
+        }
+    }
+}
+
+impl From<OpenFault> for Unopened {
+    fn from(fault: OpenFault) -> Unopened {
+        Unopened::Wrong(fault)
+    }
+}
+
+impl From<AllocError> for Unopened {
+    fn from(_: AllocError) -> Unopened {
+        Unopened::NoMemory
     }
 }
