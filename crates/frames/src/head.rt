@@ -1,0 +1,45 @@
+//! The relay's own part of a record, by its offsets (docs/PROTOCOL.md, "Between the relay and the
+//! core").
+
+use crate::bytes::Bytes;
+use crate::frame::behind;
+use crate::little::four_at;
+use queue_model::Caller;
+
+/// The bytes of a record before the frame of a client, with its length.
+pub const HEAD_BYTES: usize = 24;
+
+/// A record whose kind is not read yet.
+#[derive(Debug, Drop)]
+pub struct Head<'a> {
+    /// The relay's number of the connection.
+    pub connection: u32,
+    /// The number of its kind.
+    pub kind: u32,
+    /// The process at the other end of the connection.
+    pub caller: Caller,
+    /// What stands behind.
+    pub rest: Bytes<'a>,
+}
+
+impl<'a> Head<'a> {
+    /// The record that has these bytes, where they are as many as its length says.
+    pub fn read(record: &'a [u8]) -> Option<Head<'a>> {
+        if record.len() < HEAD_BYTES {
+            return None;
+        }
+        if four_at(record, 0) as usize != record.len() - 4 {
+            return None;
+        }
+        Some(Head {
+            connection: four_at(record, 4),
+            kind: four_at(record, 8),
+            caller: Caller {
+                pid: four_at(record, 12),
+                uid: four_at(record, 16),
+                gid: four_at(record, 20),
+            },
+            rest: behind(record, HEAD_BYTES),
+        })
+    }
+}
