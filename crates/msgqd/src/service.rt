@@ -53,7 +53,8 @@ fn open(rt: &HostRuntime, task: &Task<'_>) -> Result<FileServer, Trouble> {
         wait: Duration::from_secs(TURN),
     };
     let device = open_in_turn(rt, opening).map_err(Trouble::NotFound)?;
-    Server::open(rt.alloc(), device, task.waits, task.durability).map_err(Trouble::Unopened)
+    let now = moment(rt)?;
+    Server::open(rt.alloc(), device, task.waits, task.durability, now).map_err(Trouble::Unopened)
 }
 
 /// Tells the relay that the file is open, with its pages; or the number of a fault.
@@ -62,12 +63,17 @@ fn greet(rt: &HostRuntime, code: u32, value: u32) -> Result<(), Trouble> {
     let Ok(()) = put(&mut record, 0, 0, &Reply::Number { code, value }) else {
         return Err(Trouble::NoMemory);
     };
-    tell(rt, &record)
+    let mut output = io::writer(rt);
+    let written = output.write_all(&record);
+    written
+        .and_then(|()| output.flush())
+        .map_err(Trouble::Output)
 }
 
 /// Hears what the relay says, group by group, and tells it what may be told behind each.
 fn attend(rt: &HostRuntime, mut server: FileServer, mut inbox: Inbox) -> Result<(), Trouble> {
     let mut input = rt.stdin();
+    let mut output = io::writer(rt);
     for _ in 0..u64::MAX {
         match inbox.fill(&mut input) {
             Ok(0) => return server.save().map_err(Trouble::Uncommitted),
@@ -78,13 +84,12 @@ fn attend(rt: &HostRuntime, mut server: FileServer, mut inbox: Inbox) -> Result<
         let heard = match hear_all(&mut server, &mut inbox, moment(rt)?) {
             Ok(heard) => heard,
             Err(Unheard::Failed { client }) => {
-                tell(rt, server.give_up(client)?)?;
+                server.give_up(client, &mut output)?;
                 return Err(Trouble::Failed);
             }
             Err(why) => return Err(Trouble::Unheard(why)),
         };
-        tell(rt, server.release().map_err(Trouble::Uncommitted)?)?;
-        server.clear();
+        server.release(&mut output)?;
         if heard == Heard::Ending {
             return Ok(());
         }
@@ -108,17 +113,11 @@ fn hear_all(server: &mut FileServer, inbox: &mut Inbox, moment: u64) -> Result<H
     Ok(Heard::Going)
 }
 
-/// Hands records to the relay.
-fn tell(rt: &HostRuntime, records: &[u8]) -> Result<(), Trouble> {
-    let mut output = io::writer(rt);
-    let written = output.write_all(records);
-    written.and_then(|()| output.flush()).map_err(Trouble::Output)
-}
-
 /// The seconds of the clock since the beginning of 1970.
 fn moment(rt: &HostRuntime) -> Result<u64, Trouble> {
     let now = SystemTime::now(rt).map_err(Trouble::Clock)?;
-    Ok(now
-        .duration_since(UNIX_EPOCH)
-        .map_or(0, |since| since.as_secs()))
+    Ok(
+        now.duration_since(UNIX_EPOCH)
+            .map_or(0, |since| since.as_secs()),
+    )
 }

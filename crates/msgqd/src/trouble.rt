@@ -3,7 +3,7 @@
 use numbers::faults;
 use rollback_journal::OpenError;
 use serving::durable_desk::Uncommitted;
-use serving::{Unheard, Unopened};
+use serving::{Unheard, Unopened, Unreleased};
 use std::io;
 use thiserror::Error;
 
@@ -42,6 +42,16 @@ pub enum Trouble {
 impl From<Unheard> for Trouble {
     fn from(why: Unheard) -> Trouble {
         Trouble::Unheard(why)
+    }
+}
+
+impl From<Unreleased> for Trouble {
+    fn from(why: Unreleased) -> Trouble {
+        match why {
+            Unreleased::Uncommitted(why) => Trouble::Uncommitted(why),
+            Unreleased::Refused(error) => Trouble::Output(error),
+            Unreleased::NoMemory => Trouble::NoMemory,
+        }
     }
 }
 

@@ -1,57 +1,77 @@
-//! What clients are told, and is held back.
+//! What clients are told, as records that the relay may not have yet.
 
+use crate::client::{connection_of, number_of};
+use crate::note::Note;
+use durable_desk::desk::session::Unanswered;
 use durable_desk::desk::session::queue_model::{Answer, NoMemory};
-use frames::{Counts, Reply, put};
+use frames::{NO_MEMORY, NO_ROOM, Reply, put};
 
-/// Every client is a connection and the number of one of its requests, in one number.
-const NUMBERS: u64 = 4_294_967_296;
-
-/// The client that a request of a connection is.
-pub fn client_of(connection: u32, number: u32) -> u64 {
-    connection as u64 * NUMBERS + number as u64
-}
-
-/// Records for the relay that it may not have yet.
+/// Records, one behind the other.
 #[derive(Drop)]
 pub struct Outbox {
     held: Vec<u8>,
 }
 
 impl Outbox {
-    /// None.
+    /// Those that these bytes are.
     pub fn new(held: Vec<u8>) -> Outbox {
         Outbox { held }
     }
 
-    /// A client is answered by the rules.
-    pub fn answer(&mut self, client: u64, answer: &Answer) -> Result<(), NoMemory> {
-        self.put(client, &Reply::Answer(answer))
-    }
-
-    /// A client is told a code, and a value where that is 0.
-    pub fn number(&mut self, client: u64, code: u32, value: u32) -> Result<(), NoMemory> {
-        self.put(client, &Reply::Number { code, value })
-    }
-
-    /// A client is told about the server.
-    pub fn info(&mut self, client: u64, counts: &Counts) -> Result<(), NoMemory> {
-        self.put(client, &Reply::Info(counts))
-    }
-
-    /// What is held.
+    /// The bytes in order.
     pub fn as_slice(&self) -> &[u8] {
         &self.held
     }
 
-    /// Nothing is held.
+    /// There are none from here on.
     pub fn clear(&mut self) {
         self.held.clear();
     }
 
+    /// A client is told what came of its call. One that waits is told nothing yet, and of a file
+    /// that has failed the server tells when it gives up.
+    pub fn tell(
+        &mut self,
+        client: u64,
+        reply: &Result<Answer, Unanswered>,
+    ) -> Result<(), NoMemory> {
+        match reply {
+            Ok(answer) => self.put(client, &Reply::Answer(answer)),
+            Err(Unanswered::NoRoom) => self.put_code(client, NO_ROOM, 0),
+            Err(Unanswered::NoMemory) => self.put_code(client, NO_MEMORY, 0),
+            Err(Unanswered::Waits) | Err(Unanswered::Failed) => Ok(()),
+        }
+    }
+
+    /// A client is told what the server says of its own.
+    pub fn note(&mut self, client: u64, note: &Note) -> Result<(), NoMemory> {
+        match note {
+            Note::Code { code, value } => self.put_code(client, *code, *value),
+            Note::Held { queue, message } => {
+                self.put(
+                    client,
+                    &Reply::Held {
+                        id: *queue,
+                        message,
+                    },
+                )
+            }
+            Note::Counts(counts) => self.put(client, &Reply::Info(counts)),
+        }
+    }
+
+    /// A client is told a code, and a value where that is 0.
+    fn put_code(&mut self, client: u64, code: u32, value: u32) -> Result<(), NoMemory> {
+        self.put(client, &Reply::Number { code, value })
+    }
+
     /// A client is told this.
     fn put(&mut self, client: u64, reply: &Reply<'_>) -> Result<(), NoMemory> {
-        let connection = (client / NUMBERS) as u32;
-        let number = (client % NUMBERS) as u32;
-        put(&mut self.held, connection, number, reply)
+        put(
+            &mut self.held,
+            connection_of(client),
+            number_of(client),
+            reply,
+        )
     }
 }
