@@ -1,5 +1,8 @@
 //! The records of the relay are heard.
 
+ghost use Rattle.std.specs.Prelude.{OnOk};
+ghost use Rattle.serving.specs.Serving.{GoesOn};
+
 use crate::client::{client_of, connection_of, is_own};
 use crate::durability::Durability;
 use crate::note::Note;
@@ -28,7 +31,10 @@ impl<P: PagePair> Server<P> {
     /// # Errors
     ///
     /// Why the server is to end. Nothing that was held back is lost.
-    pub fn hear(&mut self, record: &[u8], moment: u64) -> Result<Heard, Unheard> {
+    pub fn hear(&mut self, record: &[u8], moment: u64) -> Result<Heard, Unheard>
+        ensures { OnOk result (GoesOn P.is_honest P.moment P.left_since P.may_leave
+            self.old self.new) }
+    {
         match read(self.alloc, record, moment) {
             Ok(incoming) => self.attend(incoming, moment),
             Err(Unread::Broken) => Err(Unheard::Broken),
@@ -44,7 +50,10 @@ impl<P: PagePair> Server<P> {
     }
 
     /// What the relay tells.
-    fn attend(&mut self, incoming: Incoming, moment: u64) -> Result<Heard, Unheard> {
+    fn attend(&mut self, incoming: Incoming, moment: u64) -> Result<Heard, Unheard>
+        ensures { OnOk result (GoesOn P.is_honest P.moment P.left_since P.may_leave
+            self.old self.new) }
+    {
         let Incoming {
             connection,
             caller,
@@ -74,11 +83,14 @@ impl<P: PagePair> Server<P> {
         caller: Caller,
         request: Request,
         moment: u64,
-    ) -> Result<(), Unheard> {
+    ) -> Result<(), Unheard>
+        ensures { OnOk result (GoesOn P.is_honest P.moment P.left_since P.may_leave
+            self.old self.new) }
+    {
         let client = client_of(connection, request.number);
         match request.operation {
             Operation::Call(call) => {
-                self.make(client, caller, call)?;
+                let _ = self.make(client, caller, call)?;
                 self.settle(moment)
             }
             Operation::Next { after } => self.say(client, &found(self.queues.behind(after))),
@@ -103,7 +115,10 @@ impl<P: PagePair> Server<P> {
         client: u64,
         caller: Caller,
         call: Call,
-    ) -> Result<Result<Answer, Unanswered>, Unheard> {
+    ) -> Result<Result<Answer, Unanswered>, Unheard>
+        ensures { OnOk result (GoesOn P.is_honest P.moment P.left_since P.may_leave
+            self.old self.new) }
+    {
         let removed = match &call {
             Call::Remove { id } => Some(*id),
             _ => None,
@@ -123,7 +138,10 @@ impl<P: PagePair> Server<P> {
 
     /// Those are told who waited and have an answer now; and messages go back to their queues for
     /// which there is room now.
-    pub(crate) fn settle(&mut self, moment: u64) -> Result<(), Unheard> {
+    pub(crate) fn settle(&mut self, moment: u64) -> Result<(), Unheard>
+        ensures { OnOk result (GoesOn P.is_honest P.moment P.left_since P.may_leave
+            self.old self.new) }
+    {
         self.tell_those_let_go(moment)?;
         if self.give_back_all(moment)? {
             self.tell_those_let_go(moment)?;
@@ -132,7 +150,10 @@ impl<P: PagePair> Server<P> {
     }
 
     /// Those are told who waited and have an answer now.
-    fn tell_those_let_go(&mut self, moment: u64) -> Result<(), Unheard> {
+    fn tell_those_let_go(&mut self, moment: u64) -> Result<(), Unheard>
+        ensures { OnOk result (GoesOn P.is_honest P.moment P.left_since P.may_leave
+            self.old self.new) }
+    {
         for _ in 0..=self.desk.waiting() {
             let Some(told) = self.next()? else {
                 break;
@@ -145,22 +166,28 @@ impl<P: PagePair> Server<P> {
     }
 
     /// A client waits no longer.
-    fn cancel(&mut self, client: u64, moment: u64) -> Result<(), Unheard> {
+    fn cancel(&mut self, client: u64, moment: u64) -> Result<(), Unheard>
+        ensures { OnOk result (GoesOn P.is_honest P.moment P.left_since P.may_leave
+            self.old self.new) }
+    {
         if let Some(holding) = self.holdings.awaited_by(client) {
-            self.desk.cancel(holding.queue as u64);
+            self.withdraw(holding.queue as u64);
             self.undo(holding.queue)?;
             self.say(client, &Note::code(CANCELLED))?;
             return self.settle(moment);
         }
-        if self.desk.cancel(client) {
+        if self.withdraw(client) {
             self.say(client, &Note::code(CANCELLED))?;
         }
         Ok(())
     }
 
     /// A connection is gone: its calls wait no longer, and its messages in hand go back.
-    fn leave(&mut self, connection: u32, moment: u64) -> Result<(), Unheard> {
-        self.desk.leave(connection);
+    fn leave(&mut self, connection: u32, moment: u64) -> Result<(), Unheard>
+        ensures { OnOk result (GoesOn P.is_honest P.moment P.left_since P.may_leave
+            self.old self.new) }
+    {
+        self.withdraw_all(connection);
         if self.let_go(Some(connection))? {
             self.settle(moment)?;
         }
@@ -169,10 +196,13 @@ impl<P: PagePair> Server<P> {
 
     /// The server ends: messages in hand go back, who waits is told to ask the next server, and all
     /// is saved.
-    fn end(&mut self, moment: u64) -> Result<(), Unheard> {
+    fn end(&mut self, moment: u64) -> Result<(), Unheard>
+        ensures { OnOk result (GoesOn P.is_honest P.moment P.left_since P.may_leave
+            self.old self.new) }
+    {
         self.let_go(None)?;
         self.settle(moment)?;
-        self.desk.stop();
+        self.stop();
         self.tell_those_let_go(moment)?;
         self.save()?;
         Ok(())

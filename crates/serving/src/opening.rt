@@ -1,5 +1,8 @@
 //! A server is opened.
 
+ghost use Rattle.std.specs.Prelude.{OnOk};
+ghost use Rattle.serving.specs.Serving.{GoesOn};
+
 use crate::durability::Durability;
 use crate::holding::{HOLDING_MODE, Holding, Holdings, KEEPER, ORIGIN_TYPE, Stage, carrier};
 use crate::live_queues::LiveQueues;
@@ -56,7 +59,10 @@ impl<P: PagePair> Server<P> {
     }
 
     /// Finds the queues that are alive, by asking for each id that was ever given out.
-    fn find_queues(&mut self, moment: u64) -> Result<(), Unheard> {
+    fn find_queues(&mut self, moment: u64) -> Result<(), Unheard>
+        ensures { OnOk result (GoesOn P.is_honest P.moment P.left_since P.may_leave
+            self.old self.new) }
+    {
         for id in 1..END_OF_IDS {
             match self.ask(ITSELF, carrier(0), Call::Stat { id })? {
                 Ok(Answer::Info(info)) => {
@@ -74,7 +80,10 @@ impl<P: PagePair> Server<P> {
     }
 
     /// Notes that a message is to go back, where this is the holding queue of a server that ended.
-    fn find_holding(&mut self, info: &QueueInfo, moment: u64) -> Result<(), Unheard> {
+    fn find_holding(&mut self, info: &QueueInfo, moment: u64) -> Result<(), Unheard>
+        ensures { OnOk result (GoesOn P.is_honest P.moment P.left_since P.may_leave
+            self.old self.new) }
+    {
         if info.key.is_some() || info.permissions.mode != HOLDING_MODE {
             return Ok(());
         }

@@ -1,6 +1,9 @@
 //! Messages in hand: taken from their queue into a holding queue, until they are acknowledged or go
 //! back.
 
+ghost use Rattle.std.specs.Prelude.{OnOk};
+ghost use Rattle.serving.specs.Serving.{GoesOn};
+
 use crate::client::{connection_of, number_of};
 use crate::holding::{HOLDING_MODE, Holding, KEEPER, ORIGIN_BYTES, ORIGIN_TYPE, Stage, carrier};
 use crate::note::Note;
@@ -37,7 +40,10 @@ impl<P: PagePair> Server<P> {
         caller: Caller,
         operation: Operation,
         moment: u64,
-    ) -> Result<(), Unheard> {
+    ) -> Result<(), Unheard>
+        ensures { OnOk result (GoesOn P.is_honest P.moment P.left_since P.may_leave
+            self.old self.new) }
+    {
         match operation {
             Operation::Reserve { id, mtype, nowait } => {
                 self.reserve(Wanted {
@@ -57,7 +63,10 @@ impl<P: PagePair> Server<P> {
 
     /// A message is reserved: a holding queue is made, which tells where the message comes from, and
     /// then the message is taken.
-    fn reserve(&mut self, wanted: Wanted) -> Result<(), Unheard> {
+    fn reserve(&mut self, wanted: Wanted) -> Result<(), Unheard>
+        ensures { OnOk result (GoesOn P.is_honest P.moment P.left_since P.may_leave
+            self.old self.new) }
+    {
         let get = Call::Get(GetArguments {
             key: None,
             create: true,
@@ -93,7 +102,10 @@ impl<P: PagePair> Server<P> {
         &mut self,
         holding: Holding,
         moment: u64,
-    ) -> Result<Result<Answer, Unanswered>, Unheard> {
+    ) -> Result<Result<Answer, Unanswered>, Unheard>
+        ensures { OnOk result (GoesOn P.is_honest P.moment P.left_since P.may_leave
+            self.old self.new) }
+    {
         let Ok(bytes) = Vec::from_slice(self.alloc, &holding.origin.to_le_bytes()) else {
             return Err(Unheard::NoMemory);
         };
@@ -108,7 +120,10 @@ impl<P: PagePair> Server<P> {
     }
 
     /// The message is taken, or waited for.
-    fn take(&mut self, wanted: Wanted, queue: u32) -> Result<(), Unheard> {
+    fn take(&mut self, wanted: Wanted, queue: u32) -> Result<(), Unheard>
+        ensures { OnOk result (GoesOn P.is_honest P.moment P.left_since P.may_leave
+            self.old self.new) }
+    {
         let receive = Call::Receive(ReceiveArguments {
             id: wanted.origin,
             size: MAX_BODY as u32,
@@ -125,7 +140,10 @@ impl<P: PagePair> Server<P> {
     }
 
     /// The receive of a reservation is over that waited.
-    pub(crate) fn go_on_with(&mut self, told: Told, moment: u64) -> Result<(), Unheard> {
+    pub(crate) fn go_on_with(&mut self, told: Told, moment: u64) -> Result<(), Unheard>
+        ensures { OnOk result (GoesOn P.is_honest P.moment P.left_since P.may_leave
+            self.old self.new) }
+    {
         self.keep(number_of(told.client), told.reply, moment)
     }
 
@@ -136,7 +154,10 @@ impl<P: PagePair> Server<P> {
         queue: u32,
         reply: Result<Answer, Unanswered>,
         moment: u64,
-    ) -> Result<(), Unheard> {
+    ) -> Result<(), Unheard>
+        ensures { OnOk result (GoesOn P.is_honest P.moment P.left_since P.may_leave
+            self.old self.new) }
+    {
         let Some(holding) = self.holdings.of(queue) else {
             return Ok(());
         };
@@ -166,7 +187,10 @@ impl<P: PagePair> Server<P> {
         queue: u32,
         message: &Message,
         moment: u64,
-    ) -> Result<Result<Answer, Unanswered>, Unheard> {
+    ) -> Result<Result<Answer, Unanswered>, Unheard>
+        ensures { OnOk result (GoesOn P.is_honest P.moment P.left_since P.may_leave
+            self.old self.new) }
+    {
         let body = message.bytes.try_copy()?;
         let send = Call::Send(SendArguments {
             id: queue,
@@ -184,7 +208,10 @@ impl<P: PagePair> Server<P> {
         queue: u32,
         message: &Message,
         moment: u64,
-    ) -> Result<(), Unheard> {
+    ) -> Result<(), Unheard>
+        ensures { OnOk result (GoesOn P.is_honest P.moment P.left_since P.may_leave
+            self.old self.new) }
+    {
         match self.put(queue, message, moment)? {
             Ok(Answer::Sent(_)) => Ok(()),
             _ => Err(Unheard::Homeless),
@@ -192,7 +219,10 @@ impl<P: PagePair> Server<P> {
     }
 
     /// A message in hand is done: its holding queue is removed.
-    fn acknowledge(&mut self, client: u64, caller: Caller, queue: u32) -> Result<(), Unheard> {
+    fn acknowledge(&mut self, client: u64, caller: Caller, queue: u32) -> Result<(), Unheard>
+        ensures { OnOk result (GoesOn P.is_honest P.moment P.left_since P.may_leave
+            self.old self.new) }
+    {
         if !self.is_held(queue) {
             return self.say(client, &Note::refused(Errno::EINVAL));
         }
@@ -206,7 +236,10 @@ impl<P: PagePair> Server<P> {
     }
 
     /// A message in hand goes back, now or once there is room for it.
-    fn give_up_hold(&mut self, client: u64, caller: Caller, queue: u32) -> Result<(), Unheard> {
+    fn give_up_hold(&mut self, client: u64, caller: Caller, queue: u32) -> Result<(), Unheard>
+        ensures { OnOk result (GoesOn P.is_honest P.moment P.left_since P.may_leave
+            self.old self.new) }
+    {
         let Some(holding) = self.holdings.of(queue) else {
             return self.say(client, &Note::refused(Errno::EINVAL));
         };
@@ -226,7 +259,10 @@ impl<P: PagePair> Server<P> {
     }
 
     /// The reservations of a connection, or all, are given up. Whether there was one.
-    pub(crate) fn let_go(&mut self, connection: Option<u32>) -> Result<bool, Unheard> {
+    pub(crate) fn let_go(&mut self, connection: Option<u32>) -> Result<bool, Unheard>
+        ensures { OnOk result (GoesOn P.is_honest P.moment P.left_since P.may_leave
+            self.old self.new) }
+    {
         let mut some = false;
         let mut place = 0;
         for _ in 0..self.holdings.len() {
@@ -238,7 +274,7 @@ impl<P: PagePair> Server<P> {
                 None => holding.stage == Stage::Held,
             };
             if is_its && holding.stage == Stage::Waits {
-                self.desk.cancel(holding.queue as u64);
+                self.withdraw(holding.queue as u64);
                 self.undo(holding.queue)?;
                 some = true;
                 continue;
@@ -253,7 +289,10 @@ impl<P: PagePair> Server<P> {
     }
 
     /// Messages that are to go back go, for which there is room. Whether one went.
-    pub(crate) fn give_back_all(&mut self, moment: u64) -> Result<bool, Unheard> {
+    pub(crate) fn give_back_all(&mut self, moment: u64) -> Result<bool, Unheard>
+        ensures { OnOk result (GoesOn P.is_honest P.moment P.left_since P.may_leave
+            self.old self.new) }
+    {
         let mut some = false;
         let mut place = 0;
         for _ in 0..self.holdings.len() {
@@ -271,7 +310,10 @@ impl<P: PagePair> Server<P> {
 
     /// A message goes back to its queue, last, where there is room; where that queue is gone, so is
     /// its message. Whether it went.
-    fn give_back(&mut self, holding: Holding, moment: u64) -> Result<bool, Unheard> {
+    fn give_back(&mut self, holding: Holding, moment: u64) -> Result<bool, Unheard>
+        ensures { OnOk result (GoesOn P.is_honest P.moment P.left_since P.may_leave
+            self.old self.new) }
+    {
         let Some(held) = self.look_at(holding.queue)? else {
             self.holdings.remove(holding.queue);
             return Ok(true);
@@ -296,7 +338,10 @@ impl<P: PagePair> Server<P> {
 
     /// The message of a holding queue is taken out of it, and put back on its own. Where the file has
     /// no room for it there, it stays.
-    fn carry_back(&mut self, holding: Holding, moment: u64) -> Result<bool, Unheard> {
+    fn carry_back(&mut self, holding: Holding, moment: u64) -> Result<bool, Unheard>
+        ensures { OnOk result (GoesOn P.is_honest P.moment P.left_since P.may_leave
+            self.old self.new) }
+    {
         self.take_out(holding.queue, ORIGIN_TYPE, moment)?;
         let Some(message) = self.take_out(holding.queue, 0, moment)? else {
             return Ok(true);
@@ -317,7 +362,10 @@ impl<P: PagePair> Server<P> {
         queue: u32,
         mtype: i64,
         moment: u64,
-    ) -> Result<Option<Message>, Unheard> {
+    ) -> Result<Option<Message>, Unheard>
+        ensures { OnOk result (GoesOn P.is_honest P.moment P.left_since P.may_leave
+            self.old self.new) }
+    {
         let receive = Call::Receive(ReceiveArguments {
             id: queue,
             size: MAX_BODY as u32,
@@ -334,7 +382,10 @@ impl<P: PagePair> Server<P> {
     }
 
     /// What Stat tells of a queue, where it is alive.
-    fn look_at(&mut self, queue: u32) -> Result<Option<QueueInfo>, Unheard> {
+    fn look_at(&mut self, queue: u32) -> Result<Option<QueueInfo>, Unheard>
+        ensures { OnOk result (GoesOn P.is_honest P.moment P.left_since P.may_leave
+            self.old self.new) }
+    {
         match self.ask(ITSELF, carrier(0), Call::Stat { id: queue })? {
             Ok(Answer::Info(info)) => Ok(Some(info)),
             Ok(_) => Ok(None),
@@ -343,7 +394,10 @@ impl<P: PagePair> Server<P> {
     }
 
     /// A reservation is over: its holding queue is removed.
-    pub(crate) fn undo(&mut self, queue: u32) -> Result<(), Unheard> {
+    pub(crate) fn undo(&mut self, queue: u32) -> Result<(), Unheard>
+        ensures { OnOk result (GoesOn P.is_honest P.moment P.left_since P.may_leave
+            self.old self.new) }
+    {
         self.holdings.remove(queue);
         let _ = self.make(ITSELF, carrier(0), Call::Remove { id: queue })?;
         Ok(())

@@ -1,5 +1,12 @@
 //! The server, and the steps of which all is made that it does.
 
+ghost use Rattle.std.specs.Prelude.{◌≡◌, ◌++◌, OnOk, false};
+ghost use Rattle.desk.specs.History.{is_failure};
+ghost use Rattle.serving.specs.Releasing.{Releases};
+ghost use Rattle.durable_desk.specs.Durable.{Commits};
+ghost use Rattle.serving.specs.Serving.{GoesOn};
+ghost use Rattle.serving.specs.Told.{told_to};
+
 use crate::client::is_own;
 use crate::durability::Durability;
 use crate::holding::Holdings;
@@ -15,6 +22,7 @@ use durable_desk::{DurableDesk, Uncommitted};
 use frames::FAILED;
 use std::alloc::Global;
 use std::io::Write;
+use std::marker::Model;
 
 /// The core of a server: a desk whose pages are saved, and what may not be told yet.
 #[derive(Drop)]
@@ -29,6 +37,14 @@ pub struct Server<P: PagePair> {
     pub(crate) saves: u64,
 }
 
+impl<P: PagePair> Model for Server<P> {
+    ghost use Rattle.serving.specs.Serving.{ServerState};
+
+    ghost Value = { ServerState P };
+
+    ghost view = { λ s. record { desk = s.desk; held = s.outbox; durability = s.durability } };
+}
+
 impl<P: PagePair> Server<P> {
     /// How many pages the file has.
     pub fn pages(&self) -> u32 {
@@ -41,7 +57,10 @@ impl<P: PagePair> Server<P> {
     /// # Errors
     ///
     /// Why it could not be saved: then nothing is handed out. Or what the output said.
-    pub fn release<W: Write>(&mut self, output: &mut W) -> Result<(), Unreleased> {
+    pub fn release<W: Write>(&mut self, output: &mut W) -> Result<(), Unreleased>
+        ensures { Releases P.is_honest P.may_leave result self.old self.new
+            (W.contents output.old) (W.contents output.new) }
+    {
         if self.durability == Durability::EachGroup {
             self.save()?;
         }
@@ -52,7 +71,13 @@ impl<P: PagePair> Server<P> {
     }
 
     /// All that was decided is brought to where it outlasts a crash.
-    pub fn save(&mut self) -> Result<(), Uncommitted> {
+    pub fn save(&mut self) -> Result<(), Uncommitted>
+        ensures commits { Commits P.is_honest P.may_leave result self.old.desk self.new.desk }
+        ensures goes { OnOk result (GoesOn P.is_honest P.moment P.left_since P.may_leave
+            self.old self.new) }
+        ensures held { self.new.held ≡ self.old.held }
+        ensures same { self.new.durability ≡ self.old.durability }
+    {
         self.desk.commit()?;
         self.saves = self.saves.saturating_add(1);
         Ok(())
@@ -99,14 +124,20 @@ impl<P: PagePair> Server<P> {
         client: u64,
         caller: Caller,
         call: Call,
-    ) -> Result<Result<Answer, Unanswered>, Unheard> {
+    ) -> Result<Result<Answer, Unanswered>, Unheard>
+        ensures { OnOk result (GoesOn P.is_honest P.moment P.left_since P.may_leave
+            self.old self.new) }
+    {
         let reply = self.desk.ask(client, caller, call);
         self.tell(client, &reply)?;
         Ok(reply)
     }
 
     /// The first is told of those who waited and have an answer now.
-    pub(crate) fn next(&mut self) -> Result<Option<Told>, Unheard> {
+    pub(crate) fn next(&mut self) -> Result<Option<Told>, Unheard>
+        ensures { OnOk result (GoesOn P.is_honest P.moment P.left_since P.may_leave
+            self.old self.new) }
+    {
         let Some(told) = self.desk.next() else {
             return Ok(None);
         };
@@ -114,14 +145,43 @@ impl<P: PagePair> Server<P> {
         Ok(Some(told))
     }
 
+    /// The calls of a client that wait are withdrawn. Whether there was one.
+    pub(crate) fn withdraw(&mut self, client: u64) -> bool
+        ensures { GoesOn P.is_honest P.moment P.left_since P.may_leave self.old self.new }
+    {
+        self.desk.cancel(client)
+    }
+
+    /// The same for those of all clients of a connection.
+    pub(crate) fn withdraw_all(&mut self, connection: u32)
+        ensures { GoesOn P.is_honest P.moment P.left_since P.may_leave self.old self.new }
+    {
+        self.desk.leave(connection);
+    }
+
+    /// The system is stopped: from here on a call that would wait is refused.
+    pub(crate) fn stop(&mut self)
+        ensures { GoesOn P.is_honest P.moment P.left_since P.may_leave self.old self.new }
+    {
+        self.desk.stop();
+    }
+
     /// A client is told this by the server.
-    pub(crate) fn say(&mut self, client: u64, note: &Note) -> Result<(), Unheard> {
+    pub(crate) fn say(&mut self, client: u64, note: &Note) -> Result<(), Unheard>
+        ensures { OnOk result (GoesOn P.is_honest P.moment P.left_since P.may_leave
+            self.old self.new) }
+    {
         self.outbox.note(client, note)?;
         Ok(())
     }
 
     /// A client is told what came of its call, where it is not the server itself.
-    fn tell(&mut self, client: u64, reply: &Result<Answer, Unanswered>) -> Result<(), Unheard> {
+    fn tell(&mut self, client: u64, reply: &Result<Answer, Unanswered>) -> Result<(), Unheard>
+        ensures told { OnOk result (self.new.held ≡ self.old.held ++ told_to client reply.now) }
+        ensures sound { OnOk result (is_failure reply.now ≡ false) }
+        ensures desk { self.new.desk ≡ self.old.desk }
+        ensures same { self.new.durability ≡ self.old.durability }
+    {
         if *reply == Err(Unanswered::Failed) {
             return Err(Unheard::Failed { client });
         }
