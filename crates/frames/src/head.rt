@@ -1,6 +1,9 @@
 //! The relay's own part of a record, by its offsets (docs/PROTOCOL.md, "Between the relay and the
 //! core").
 
+ghost use Rattle.std.specs.Prelude.{◌≡◌, ◌≤◌, length};
+ghost use Rattle.frames.specs.Reading.{head_at, is_head, kept};
+
 use crate::bytes::Bytes;
 use crate::frame::behind;
 use crate::little::four_at;
@@ -24,22 +27,32 @@ pub struct Head<'a> {
 
 impl<'a> Head<'a> {
     /// The record that has these bytes, where they are as many as its length says.
-    pub fn read(record: &'a [u8]) -> Option<Head<'a>> {
+    pub fn read(record: &'a [u8]) -> Option<Head<'a>>
+        ensures { result ≡ kept (is_head record.now) (head_at record.now) }
+    {
         if record.len() < HEAD_BYTES {
             return None;
         }
         if four_at(record, 0) as usize != record.len() - 4 {
             return None;
         }
-        Some(Head {
-            connection: four_at(record, 4),
-            kind: four_at(record, 8),
-            caller: Caller {
-                pid: four_at(record, 12),
-                uid: four_at(record, 16),
-                gid: four_at(record, 20),
-            },
-            rest: behind(record, HEAD_BYTES),
-        })
+        Some(head_at(record))
+    }
+}
+
+/// The record that has these bytes.
+fn head_at<'a>(record: &'a [u8]) -> Head<'a>
+    requires { HEAD_BYTES ≤ length record.now }
+    ensures { result ≡ head_at record.now }
+{
+    Head {
+        connection: four_at(record, 4),
+        kind: four_at(record, 8),
+        caller: Caller {
+            pid: four_at(record, 12),
+            uid: four_at(record, 16),
+            gid: four_at(record, 20),
+        },
+        rest: behind(record, HEAD_BYTES),
     }
 }
