@@ -9,21 +9,24 @@ use Rattle.frames.specs.Little.{two, four}
 abbrev pub FitsFour : ℕ → Type 0
 FitsFour n = n < 2 ^ 32
 
+-- the parts of a record, one after the other
+abbrev pub joined : List (List ℕ) → List ℕ
+joined [] = []
+joined (part ∷ parts) = part ++ joined parts
+
 -- bytes behind their length
 abbrev pub counted : List ℕ → List ℕ
 counted bytes = four (length bytes) ++ bytes
 
 -- a frame from its number on (docs/PROTOCOL.md, "Requests")
 abbrev pub frame_bytes : Frame → List ℕ
-frame_bytes f = four f.number ++ (f.code ∷ f.flags ∷ []) ++ two f.mode ++ four f.id ++ f.fields
+frame_bytes f =
+    joined (four f.number ∷ (f.code ∷ f.flags ∷ []) ∷ two f.mode ∷ four f.id ∷ f.fields ∷ [])
 
 pub record FitsFrame (f : Frame) : Type 0 where
   pub number : FitsFour f.number
   pub mode : f.mode < 2 ^ 16
   pub id : FitsFour f.id
-
-abbrev pub caller_bytes : Caller → List ℕ
-caller_bytes c = four c.pid ++ four c.uid ++ four c.gid
 
 pub record FitsCaller (c : Caller) : Type 0 where
   pub pid : FitsFour c.pid
@@ -32,7 +35,10 @@ pub record FitsCaller (c : Caller) : Type 0 where
 
 -- a record (docs/PROTOCOL.md, "Between the relay and the core")
 abbrev pub head_bytes : Head → List ℕ
-head_bytes h = counted (four h.connection ++ four h.kind ++ caller_bytes h.caller ++ h.rest)
+head_bytes h =
+    counted (joined (
+    four h.connection ∷ four h.kind ∷
+    four h.caller.pid ∷ four h.caller.uid ∷ four h.caller.gid ∷ h.rest ∷ []))
 
 pub record FitsHead (h : Head) : Type 0 where
   pub connection : FitsFour h.connection

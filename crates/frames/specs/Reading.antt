@@ -166,3 +166,50 @@ abbrev pub operation_of : ℕ → Frame → Option Operation
 operation_of moment f =
     if f.code == 2 then kept (is_send f) (operations.Call (Send (send_of moment f)))
     else small_of moment f
+
+-- ---- records
+
+abbrev pub with_operation : ℕ → Frame → Option Operation → Result Kind Unread
+with_operation connection f None = Err (Wrong connection f.number)
+with_operation connection f (Some operation) =
+    Ok (kinds.Request (record { number = f.number; operation = operation }))
+
+-- whether a client's frame stands behind a head
+abbrev pub is_asked : Head → Bool
+is_asked h = nat_le 12 (length h.rest)
+
+abbrev pub request_of : ℕ → Head → Result Kind Unread
+request_of moment h =
+    if is_asked h
+    then with_operation h.connection (frame_at h.rest) (operation_of moment (frame_at h.rest))
+    else Err Broken
+
+abbrev pub bare_of : ℕ → Result Kind Unread
+bare_of kind =
+    if kind == 1 then Ok kinds.Gone
+    else if kind == 2 then Ok kinds.Tick
+    else if kind == 3 then Ok kinds.End
+    else Err Broken
+
+abbrev pub kind_of : ℕ → Head → Result Kind Unread
+kind_of moment h =
+    if h.kind == 0 then request_of moment h
+    else if length h.rest == 0 then bare_of h.kind
+    else Err Broken
+
+abbrev pub with_kind : Head → Result Kind Unread → Result Incoming Unread
+with_kind h (Ok kind) = Ok (record { connection = h.connection; caller = h.caller; kind = kind })
+with_kind h (Err unread) = Err unread
+
+-- what a record comes to where there is memory
+abbrev pub incoming_of : ℕ → List ℕ → Result Incoming Unread
+incoming_of moment bytes =
+    if is_head bytes then with_kind (head_at bytes) (kind_of moment (head_at bytes)) else Err Broken
+
+-- this came of a head, or memory lacked for the frame behind it
+abbrev pub Gives : {X : Type 0} → Head → Result X Unread → Result X Unread → Type 0
+Gives h want (Ok x) = want ≡ Ok x
+Gives h want (Err Broken) = want ≡ Err Broken
+Gives h want (Err (Wrong connection number)) = want ≡ Err (Wrong connection number)
+Gives h want (Err (NoMemory connection number)) =
+    (is_asked h ≡ true) × (connection ≡ h.connection) × (number ≡ four_at 0 h.rest)

@@ -1,5 +1,5 @@
 -- What the relay tells, as bytes (docs/PROTOCOL.md, "Between the relay and the core").
-use Rattle.std.specs.Prelude.{◌≡◌, ℕ, zero, suc, ◌≤◌, List, [], length, Result, Ok, Err, ⊤}
+use Rattle.std.specs.Prelude.{◌≡◌, ◌≢◌, ℕ, ◌≤◌, List, [], length, Result, Ok, Err, ⊤}
 use Rattle.queue_model.specs.declared.caller.Caller.{Caller}
 use Rattle.queue_model.specs.declared.call.Call.{Call}
 use Rattle.queue_model.specs.declared.call.Call.TheVariants.{Get, Send, Receive, Stat, Set, Remove}
@@ -93,18 +93,15 @@ ReadsAs want (Err Broken) = ⊥
 ReadsAs want (Err (Wrong connection number)) = ⊥
 ReadsAs want (Err (NoMemory connection number)) = ⊤
 
--- what stands behind a head of this kind: at least a frame without fields, or nothing
-abbrev pub IsBehind : ℕ → List ℕ → Type 0
-IsBehind zero rest = 12 ≤ length rest
-IsBehind (suc zero) rest = rest ≡ []
-IsBehind (suc (suc zero)) rest = rest ≡ []
-IsBehind (suc (suc (suc zero))) rest = rest ≡ []
-IsBehind (suc (suc (suc (suc n)))) rest = ⊥
-
 -- a record of the relay's, whatever a client's frame in it is
 pub record IsRecord (h : Head) (bytes : List ℕ) : Type 0 where
   pub fits : FitsHead h
-  pub behind : IsBehind h.kind h.rest
+  -- there is such a kind
+  pub kind : h.kind ≤ 3
+  -- a request has at least a frame without fields
+  pub request : h.kind ≡ 0 → 12 ≤ length h.rest
+  -- the others end with their head
+  pub others : h.kind ≢ 0 → h.rest ≡ []
   pub is : bytes ≡ head_bytes h
 
 -- a record with a client's frame, of this connection and number

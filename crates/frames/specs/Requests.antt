@@ -42,7 +42,7 @@ call_frame n (Receive a) =
 call_frame n (Stat id) = row n 4 0 0 id []
 call_frame n (Set a) =
     row n 5 (flag (is_some a.uid) 32 + flag (is_some a.gid) 64 + flag (is_some a.mode) 128)
-    (or_zero a.mode) a.id (four a.qbytes ++ four (or_zero a.uid) ++ four (or_zero a.gid))
+    (or_zero a.mode) a.id (four a.qbytes ++ (four (or_zero a.uid) ++ four (or_zero a.gid)))
 call_frame n (Remove id) = row n 6 0 0 id []
 
 -- the frame of a number that asks for this
