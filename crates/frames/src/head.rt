@@ -1,6 +1,9 @@
 //! The relay's own part of a record, by its offsets (docs/PROTOCOL.md, "Between the relay and the
 //! core").
 
+ghost use Rattle.std.specs.Prelude.{◌≡◌, ◌≤◌, length};
+ghost use Rattle.frames.specs.Reading.{head_at, is_head, kept};
+
 use crate::bytes::Bytes;
 use crate::frame::behind;
 use crate::little::four_at;
@@ -24,22 +27,32 @@ pub struct Head<'a> {
 
 impl<'a> Head<'a> {
     /// The record that has these bytes, where they are as many as its length says.
-    pub fn read(record: &'a [u8]) -> Option<Head<'a>> {
-        if record.len() < HEAD_BYTES {
+    pub fn read(bytes: &'a [u8]) -> Option<Head<'a>>
+        ensures { result ≡ kept (is_head bytes.now) (head_at bytes.now) }
+    {
+        if bytes.len() < HEAD_BYTES {
             return None;
         }
-        if four_at(record, 0) as usize != record.len() - 4 {
+        if four_at(bytes, 0) as usize != bytes.len() - 4 {
             return None;
         }
-        Some(Head {
-            connection: four_at(record, 4),
-            kind: four_at(record, 8),
-            caller: Caller {
-                pid: four_at(record, 12),
-                uid: four_at(record, 16),
-                gid: four_at(record, 20),
-            },
-            rest: behind(record, HEAD_BYTES),
-        })
+        Some(head_at(bytes))
+    }
+}
+
+/// The record that has these bytes.
+fn head_at<'a>(bytes: &'a [u8]) -> Head<'a>
+    requires { HEAD_BYTES ≤ length bytes.now }
+    ensures { result ≡ head_at bytes.now }
+{
+    Head {
+        connection: four_at(bytes, 4),
+        kind: four_at(bytes, 8),
+        caller: Caller {
+            pid: four_at(bytes, 12),
+            uid: four_at(bytes, 16),
+            gid: four_at(bytes, 20),
+        },
+        rest: behind(bytes, HEAD_BYTES),
     }
 }
