@@ -62,6 +62,13 @@ pub record IsRead {P : Type 0} (honest : Bool) (given : DeviceState P) (most : �
   pub many : length content ≡ length given.content
   pub same : IsTrue honest → content ≡ given.content
 
+-- the device has what it had, and a crash leaves only that
+pub record IsSynced {P : Type 0} (honest : Bool) (may_leave : P → Left → Type 0) (given device : DeviceState P) : Type 0
+  where
+    pub same : device.content ≡ given.content
+    pub usable : device.is_broken ≡ false
+    pub kept : IsTrue honest → Keeps (StandsFor device.content) (may_leave device.pair)
+
 pub record OpensFile {P : Type 0} (honest : Bool) (may_leave : P → Left → Type 0) (given : DeviceState P) (most : ℕ)
     (d : DurableState P) : Type 0 where
   pub read : IsRead honest given most d.desk
@@ -98,20 +105,21 @@ pub record HasCommitted {P : Type 0} (honest : Bool) (may_leave : P → Left →
   pub committed : IsCommitted honest may_leave after device
 
 -- why not: a transfer failed, and the desk serves on; or the desk has failed
-abbrev pub FailsToCommit : {P : Type 0} → Uncommitted → (desk after : DeskState) → (device then : DeviceState P) → Type 0
+abbrev pub FailsToCommit : {P : Type 0} → Uncommitted → (desk after : DeskState) → (device then : DeviceState P) →
+    Type 0
 FailsToCommit Device desk after device then = KeepsServing desk after × HasRisen device.failed then.failed
 FailsToCommit Desk desk after device then = after.session.failed ≡ true
 FailsToCommit Earlier desk after device then = ⊥
 
 -- the file was committed
-pub record IsDone {P : Type 0} (honest : Bool) (may_leave : P → Left → Type 0) (old new : DurableState P) : Type 0
+pub record IsMade {P : Type 0} (honest : Bool) (may_leave : P → Left → Type 0) (old new : DurableState P) : Type 0
   where
     pub was_sound : old.has_failed ≡ false
     pub done : HasCommitted honest may_leave old.desk new.desk new.device
     pub sound : new.has_failed ≡ false
 
 -- or was not, and is not from here on
-pub record IsUndone {P : Type 0} (fault : Uncommitted) (old new : DurableState P) : Type 0 where
+pub record IsNotMade {P : Type 0} (fault : Uncommitted) (old new : DurableState P) : Type 0 where
   pub was_sound : old.has_failed ≡ false
   pub cause : FailsToCommit fault old.desk new.desk old.device new.device
   pub failed : new.has_failed ≡ true
@@ -123,9 +131,9 @@ pub record IsRefused {P : Type 0} (old new : DurableState P) : Type 0 where
 
 abbrev pub Commits : {P : Type 0} → Bool → (P → Left → Type 0) → Result Unit Uncommitted →
     (old new : DurableState P) → Type 0
-Commits honest may_leave (Ok done) old new = IsDone honest may_leave old new
-Commits honest may_leave (Err Device) old new = IsUndone Device old new
-Commits honest may_leave (Err Desk) old new = IsUndone Desk old new
+Commits honest may_leave (Ok done) old new = IsMade honest may_leave old new
+Commits honest may_leave (Err Device) old new = IsNotMade Device old new
+Commits honest may_leave (Err Desk) old new = IsNotMade Desk old new
 Commits honest may_leave (Err Earlier) old new = IsRefused old new
 
 -- what a crash leaves is recovered to these pages, those of the last commit, or to the file of a system

@@ -6,7 +6,8 @@ use Rattle.interleavings.specs.LoneKernelWords.{IsFileOf, State, restarted}
 use Rattle.desk.specs.Desk.{Serves}
 use Rattle.desk.specs.History.{Entry, IsServed, LeadsAlong, Saved, fails}
 use Rattle.desk.specs.History as desks
-use Rattle.durable_desk.specs.Durable.{Commits, DurableState, IsCommitted, IsCutShort, KeepsFile}
+use Rattle.safe_device.specs.Device.{DeviceState}
+use Rattle.durable_desk.specs.Durable.{Commits, DurableState, IsCommitted, IsCutShort, KeepsFile, OpensFile}
 use Rattle.durable_desk.specs.declared.commit.Uncommitted.{Uncommitted}
 use Rattle.durable_desk.specs.declared.commit.Uncommitted.TheVariants.{Device, Desk, Earlier}
 
@@ -15,11 +16,14 @@ pub data Event : Type 0 where
   Does : (e : desks.Event) → Event
   Commit : (told : Result Unit Uncommitted) → Event
 
--- what is done with the desk: at a commit its pages are read, and it is noted that they are saved
+-- what is done with the desk then: at a commit its pages are read, and it is noted that they are saved
+abbrev pub deed_of : Event → desks.Event
+deed_of (Does e) = e
+deed_of (Commit told) = Saved
+
 abbrev pub at_desk : List Event → List desks.Event
 at_desk [] = []
-at_desk (Does e ∷ es) = e ∷ at_desk es
-at_desk (Commit told ∷ es) = Saved ∷ at_desk es
+at_desk (e ∷ es) = deed_of e ∷ at_desk es
 
 -- the desk has failed
 abbrev pub is_failure : Event → Bool
@@ -64,6 +68,22 @@ pub record IsFileAfterSome (s : State) (entries : List Entry) (pages : List (Lis
   pub by_rules : LeadsAlong kept s system
   pub file : IsFileOf sha_key pages (restarted system)
 
+-- what is done since some moment is decided by one list of entries; and whatever a crash leaves at any moment since is
+-- recovered to the file of the system after the first of them
+pub record OutlastsACrash {P : Type 0} (honest : Bool) (moment : P → ℕ) (left_since : P → ℕ → Left → Type 0)
+    (es : List Event) (s : State) (old new : DurableState P) : Type 0 where
+  pub served : IsServed (at_desk es) s old.desk new.desk
+  pub found : IsTrue honest → (c : Left) → left_since new.device.pair (moment old.device.pair) c →
+      IsFileAfterSome s served.entries (recovered c)
+
+-- behind a commit, all that was decided before it is found, and then the first of what was decided since
+pub record IsNeverLost {P : Type 0} (honest : Bool) (moment : P → ℕ) (left_since : P → ℕ → Left → Type 0)
+    (before since : List Event) (s : State) (old last committed new : DurableState P) : Type 0 where
+  pub decided : IsServed (at_desk before) s old.desk last.desk
+  pub outlasts : OutlastsACrash honest moment left_since since decided.after committed new
+
+-- ---- the laws
+
 -- the file is that of the system that the desk serves: so it is once it is opened, and behind each commit
 pub record IsUpToDate {P : Type 0} (honest : Bool) (may_leave : P → Left → Type 0) (s : State) (d : DurableState P)
     : Type 0 where
@@ -72,10 +92,19 @@ pub record IsUpToDate {P : Type 0} (honest : Bool) (may_leave : P → Left → T
   pub committed : IsCommitted honest may_leave d.desk d.device
   pub file : IsTrue honest → IsFileOf sha_key d.device.content (restarted s)
 
--- one list of entries, each by the rules, is what clients were told since; and whatever a crash leaves at any moment
--- since is recovered to the file after the first of them
-pub record OutlastsACrash {P : Type 0} (honest : Bool) (moment : P → ℕ) (left_since : P → ℕ → Left → Type 0)
-    (es : List Event) (s : State) (old new : DurableState P) : Type 0 where
-  pub served : IsServed (at_desk es) s old.desk new.desk
-  pub found : IsTrue honest → (c : Left) → left_since new.device.pair (moment old.device.pair) c →
-      IsFileAfterSome s served.entries (recovered c)
+abbrev pub OpensUpToDate : (P : Type 0) → Bool → (P → Left → Type 0) → Type 0
+OpensUpToDate P honest may_leave = (given : DeviceState P) (most : ℕ) (d : DurableState P) →
+    OpensFile honest may_leave given most d → (s : State) × IsUpToDate honest may_leave s d
+
+abbrev pub AllOutlastACrash : (P : Type 0) → Bool → (P → ℕ) → (P → ℕ → Left → Type 0) → (P → Left → Type 0) → Type 0
+AllOutlastACrash P honest moment left_since may_leave = (es : List Event) (s : State) (old new : DurableState P) →
+    IsUpToDate honest may_leave s old → HappenAlong honest moment left_since may_leave es old new → NoneFails es →
+    OutlastsACrash honest moment left_since es s old new
+
+abbrev pub NoneIsLost : (P : Type 0) → Bool → (P → ℕ) → (P → ℕ → Left → Type 0) → (P → Left → Type 0) → Type 0
+NoneIsLost P honest moment left_since may_leave =
+    (before since : List Event) (s : State) (old last committed new : DurableState P) → Serves s old.desk →
+    HappenAlong honest moment left_since may_leave before old last → NoneFails before →
+    IsTried honest moment left_since may_leave (Ok tt) last committed →
+    HappenAlong honest moment left_since may_leave since committed new → NoneFails since →
+    IsNeverLost honest moment left_since before since s old last committed new
