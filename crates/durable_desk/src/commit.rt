@@ -1,10 +1,10 @@
 //! What a desk has answered is brought to its file.
 
-ghost use Rattle.std.specs.Prelude.{◌≡◌, ◌+◌, ◌<◌, IfOk, IsTrue, OnErr, length};
-ghost use Rattle.durable_desk.specs.Durable.{IsCommitted};
-ghost use Rattle.durable_desk.specs.Commit.{Brings, IsCutShortOn, Writes, WritesUnseen};
+ghost use Rattle.durable_desk.specs.Durable.{IsCommitted, IsCutShortOn};
+ghost use Rattle.durable_desk.specs.Commit.{Brings, LeavesTheLast, Writes};
 
 use desk::Desk;
+use desk::session::the_pages_are_the_file;
 use safe_device::page_device::PageDevice;
 use safe_device::{PagePair, SafeDevice};
 use thiserror::Error;
@@ -31,9 +31,12 @@ pub(crate) fn bring<P: PagePair>(
     device: &mut SafeDevice<P>,
 ) -> Result<(), Uncommitted>
     requires { IsCommitted P.is_honest P.may_leave desk.old device.old }
-    ensures becomes { Brings P.is_honest P.may_leave result desk.old desk.new device.old device.new }
-    ensures any_moment { IsCutShortOn P.is_honest P.moment P.left_since desk.old device.old device.new }
+    ensures becomes { Brings P.is_honest P.may_leave result
+        desk.old desk.new device.old device.new }
+    ensures any_moment { IsCutShortOn P.is_honest P.moment P.left_since
+        desk.old device.old device.new }
 {
+    the_pages_are_the_file();
     if !write_changed(desk, device)? {
         return Ok(());
     }
@@ -52,32 +55,23 @@ fn write_changed<P: PagePair>(
     device: &mut SafeDevice<P>,
 ) -> Result<bool, Uncommitted>
     requires { IsCommitted P.is_honest P.may_leave desk.old device.old }
-    ensures becomes { Writes P.is_honest result desk.old desk.new device.old device.new }
-    ensures any_moment { WritesUnseen P.is_honest P.moment P.left_since device.old device.new }
+    ensures becomes { Writes P.is_honest P.file P.journal result
+        desk.old desk.new device.old device.new }
+    ensures any_moment { LeavesTheLast P.is_honest P.moment P.left_since device.old device.new }
 {
+    let pages = desk.pages();
     let mut from = 0;
-    for _ in 0..desk.pages() {
+    while from < pages {
         let Some(page) = desk.next_changed(from) else {
-            break;
+            return Ok(from > 0);
         };
-        put(desk, device, page)?;
+        let Some(bytes) = desk.page(page) else {
+            return Err(Uncommitted::Desk);
+        };
+        let Ok(()) = device.write(page, &bytes) else {
+            return Err(Uncommitted::Device);
+        };
         from = page + 1;
     }
     Ok(from > 0)
-}
-
-/// Writes a page of a desk.
-fn put<P: PagePair>(
-    desk: &mut Desk,
-    device: &mut SafeDevice<P>,
-    page: u32,
-) -> Result<(), Uncommitted>
-{
-    let Some(bytes) = desk.page(page) else {
-        return Err(Uncommitted::Desk);
-    };
-    let Ok(()) = device.write(page, &bytes) else {
-        return Err(Uncommitted::Device);
-    };
-    Ok(())
 }

@@ -1,15 +1,15 @@
 //! The durable desk.
 
-ghost use Rattle.std.specs.Prelude.{◌≡◌, ◌||◌, IfErr, IfOk, IsTrue, None, false, length};
+ghost use Rattle.std.specs.Prelude.{◌≡◌, IfErr, IfOk, false, length};
 ghost use Rattle.session.specs.Session.{pages_of};
 ghost use Rattle.desk.specs.Desk.{Asks, Cancels, Leaves, Stops, Tells};
 ghost use Rattle.desk.specs.History.{Next, fails, is_failure};
-ghost use Rattle.durable_desk.specs.Durable.{IsCutShort, Commits, KeepsFile, MayNotOpenFile, OpensFile};
+ghost use Rattle.durable_desk.specs.Durable.{Commits, IsCutShort, KeepsFile, MayNotOpenFile, OpensFile};
 
 use crate::commit::{Uncommitted, bring};
 use crate::opening::desk_of;
 use desk::session::queue_model::{Answer, Call, Caller};
-use desk::session::{OpenFault, Unanswered, the_pages_are_the_file};
+use desk::session::{OpenFault, Unanswered};
 use desk::{Desk, Told};
 use safe_device::{PagePair, SafeDevice};
 use std::alloc::Global;
@@ -128,7 +128,6 @@ impl<P: PagePair> DurableDesk<P> {
         ensures becomes { Commits P.is_honest P.may_leave result self.old self.new }
         ensures any_moment { IsCutShort P.is_honest P.moment P.left_since self.old self.new }
     {
-        the_pages_are_the_file();
         if self.has_failed {
             return Err(Uncommitted::Earlier);
         }

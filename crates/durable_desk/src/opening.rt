@@ -1,7 +1,7 @@
 //! A file is opened.
 
-ghost use Rattle.std.specs.Prelude.{◌≡◌, IfErr, IfOk, IfErr, IsTrue};
-ghost use Rattle.durable_desk.specs.Durable.{IsRead, MayNotOpenFile};
+ghost use Rattle.std.specs.Prelude.{◌≡◌, IfErr, IfOk, OnOk};
+ghost use Rattle.durable_desk.specs.Durable.{IsRead, IsSynced, MayNotOpenFile, unread};
 
 use desk::Desk;
 use desk::session::{MAX_PAGES, OpenFault};
@@ -18,8 +18,8 @@ pub(crate) fn desk_of<P: PagePair>(
     device: &mut SafeDevice<P>,
     most: usize,
 ) -> Result<Desk, OpenFault>
-    ensures ok { IfOk result (λ desk.
-        IsRead P.is_honest P.may_leave device.old device.new most desk) }
+    ensures read { IfOk result (IsRead P.is_honest device.old most) }
+    ensures synced { OnOk result (IsSynced P.is_honest P.may_leave device.old device.new) }
     ensures refused { IfErr result (MayNotOpenFile P.is_honest device.old.content) }
 {
     if device.pages() > MAX_PAGES {
