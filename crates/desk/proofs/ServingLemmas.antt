@@ -5,22 +5,22 @@ use Rattle.std.proofs.lemmas.List.Elements.{All-filter}
 use Rattle.interleavings.specs.LoneKernelWords.{State}
 use Rattle.session.specs.Session.{CallsAs, HasFailed, SessionState, saved_of}
 use Rattle.session.specs.Session as sessions
-use Rattle.desk.specs.Desk.{AreQuiet, Cancels, DeskState, KeepsServing, Stops, is_of}
+use Rattle.desk.specs.Desk.{AreQuiet, DeskState, KeepsServing, Stops, Withdraws}
 use Rattle.desk.specs.declared.asking.Asking.{Asking}
 use Rattle.desk.specs.declared.due.Due.TheVariants.{Everybody}
 use Rattle.desk.proofs.QuietLemmas.{quiet_fewer}
 
 -- ---- calls are withdrawn, and it is stopped
 
-pub withdrawn : (client : ℕ) (some : Bool) (old : DeskState) (ws : List Asking) →
-    ws ≡ filter (λ (a : Asking). not (is_of client a)) old.waiting →
-    some ≡ nat_lt (length ws) (length old.waiting) → Cancels client some old (record old { waiting = ws })
-withdrawn client some old ws left told = record {
+pub withdrawn : (test : Asking → Bool) (some : Bool) (old : DeskState) (ws : List Asking) →
+    ws ≡ filter (λ (a : Asking). not (test a)) old.waiting →
+    some ≡ nat_lt (length ws) (length old.waiting) → Withdraws test some old (record old { waiting = ws })
+withdrawn test some old ws left told = record {
   serves = λ s serves. record {
     holds = serves.holds;
     quiet = subst (AreQuiet s old.due) (sym left)
         (quiet_fewer s old.due old.waiting _
-        (λ P all. All-filter (λ (a : Asking). not (is_of client a)) P old.waiting all) serves.quiet);
+        (λ P all. All-filter (λ (a : Asking). not (test a)) P old.waiting all) serves.quiet);
   };
   waiting = left;
   told = told;

@@ -2,7 +2,7 @@
 
 ghost use Rattle.std.specs.Prelude.{◌≡◌, ◌/◌, ◌<◌, IfErr, IfOk, length};
 ghost use Rattle.page_device.specs.declared.page.TheConstants.{PAGE_BYTES};
-ghost use Rattle.session.specs.Session.{Calls, CallsAs, CallsLent, GivesPage, IsShortened, MayNotOpen, MayNotOpenBytes, NotesSave, Opens, OpensNew, Seats, Stops, TellsChanges, pages_in, pages_of};
+ghost use Rattle.session.specs.Session.{Calls, CallsAs, CallsLent, GivesPage, IsShortened, MayNotOpen, MayNotOpenBytes, NotesSave, Opens, OpensNew, Seats, Stops, TellsChanges, pages_in, pages_of, saved_of};
 ghost use Rattle.session.specs.Words.{CanHavePages, NO_MEMORY, open_number_of};
 
 use crate::loading::loaded;
@@ -82,6 +82,26 @@ impl Session {
         Session::on(alloc, device, caller)
     }
 
+    /// Opens the pages of a device in memory for a caller. The file is checked.
+    ///
+    /// # Errors
+    ///
+    /// The first thing that is wrong with it, or a fault of no memory.
+    pub fn on(alloc: Global, device: MemDevice, caller: Caller) -> Result<Session, OpenFault>
+        ensures ok { IfOk result (Opens caller device) }
+        ensures refused { IfErr result (MayNotOpen device) }
+    {
+        a_kernel_opens_at_rest::<FileKeys>();
+        let frames = LEAST_FRAMES.max(device.pages() as usize);
+        let Ok(keys) = KeptKeys::new(alloc, ShaKey) else {
+            return Err(OpenFault::NoMemory);
+        };
+        match Kernel::open(alloc, device, keys, &[caller], frames) {
+            Ok(kernel) => Ok(Session { kernel }),
+            Err((_, fault)) => Err(fault),
+        }
+    }
+
     /// Makes a call, as the rules of queues say (docs/QUEUES.md, "Calls"). One that would wait is
     /// told so and leaves nothing behind; it may be made again once something has changed.
     pub fn call(&mut self, call: Call) -> Result<Answer, Unanswered>
@@ -111,9 +131,10 @@ impl Session {
         self.kernel.stop();
     }
 
-    /// How many pages the file has.
+    /// How many pages the file has, and how many were saved.
     pub fn pages(&self) -> u32
-        ensures { result ≡ pages_of self.now }
+        ensures is { result ≡ pages_of self.now }
+        ensures saved { result ≡ length (saved_of self.now) }
     {
         self.kernel.pages()
     }
@@ -150,22 +171,6 @@ impl Session {
         let is_saved = self.kernel.flush().is_ok();
         let _ = self.kernel.pages();
         is_saved
-    }
-
-    /// Opens the pages of a device for a caller.
-    fn on(alloc: Global, device: MemDevice, caller: Caller) -> Result<Session, OpenFault>
-        ensures ok { IfOk result (Opens caller device) }
-        ensures refused { IfErr result (MayNotOpen device) }
-    {
-        a_kernel_opens_at_rest::<FileKeys>();
-        let frames = LEAST_FRAMES.max(device.pages() as usize);
-        let Ok(keys) = KeptKeys::new(alloc, ShaKey) else {
-            return Err(OpenFault::NoMemory);
-        };
-        match Kernel::open(alloc, device, keys, &[caller], frames) {
-            Ok(kernel) => Ok(Session { kernel }),
-            Err((_, fault)) => Err(fault),
-        }
     }
 
     /// Makes a call that is lent, for whoever sits at the seat.

@@ -1,0 +1,278 @@
+-- A commit, step by step: the pages are written, the device is synced, and it is noted.
+use Rattle.std.proofs.Common.{arith, ℕ, ◌≡◌, ◌≤◌, ◌<◌, ◌+◌, inl, inr, ⊎_elim, IsTrue, refl, sym, ap, ◌∙◌, subst, Bool, true, false, List, [], Option, Some, None, Result, Ok, Err, length, slice_index_or}
+use Rattle.std.specs.Prelude.{IsErrOf, IfErr, nat_lt, slice_set, is_err}
+use Rattle.page_device.specs.Device.{DiffersAtMostAt, HasCause, HasRisen, MayMeetTheEnd, MayOnlyFail}
+use Rattle.page_device.specs.declared.fault.DeviceFault.{DeviceFault}
+use Rattle.page_device.specs.declared.fault.DeviceFault.TheVariants as devices
+use Rattle.safe_device.specs.Crash.{Keeps, LeavesOnly}
+use Rattle.safe_device.specs.Device.{Commits, DeviceState, StaysCommitted}
+use Rattle.safe_device.specs.Left.{Left, recovered}
+use Rattle.safe_device.specs.Safe.{IsEither, StandsFor, committed}
+use Rattle.safe_device.specs.declared.journal.Journal.{Journal}
+use Rattle.bucket_page.specs.Pseudokeys.{sha_key}
+use Rattle.interleavings.specs.LoneKernelWords.{IsFileOf, State, restarted}
+use Rattle.session.specs.Session.{AreItsPages, AreSaved, GivesPage, NotesSave, PagesAreTheFile, SessionState, TellsChanges, pages_of, saved_of}
+use Rattle.desk.specs.Desk.{DeskState, KeepsServing, Serves}
+use Rattle.durable_desk.specs.Durable.{FailsToCommit, HasCommitted, IsCommitted, IsCutShortOn, IsLastOrFile}
+use Rattle.durable_desk.specs.Commit.{HasWritten, LeavesTheLast}
+use Rattle.durable_desk.specs.declared.commit.Uncommitted.{Uncommitted}
+use Rattle.durable_desk.specs.declared.commit.Uncommitted.TheVariants.{Device, Desk, Earlier}
+use Rattle.durable_desk.proofs.MomentLemmas.{joined, started, weaker}
+use Rattle.durable_desk.proofs.WriteLemmas.{AreWrittenTo, Pages, all_written, none_written, one_more, same_pages, still_its, up_to}
+
+-- ---- words
+
+still : (d : DeskState) → KeepsServing d d
+still d = record { serves = λ s serves. serves; waiting = refl; most = refl }
+
+on : (old mid new : DeskState) → KeepsServing old mid → KeepsServing mid new → KeepsServing old new
+on old mid new first then = record {
+  serves = λ s serves. then.serves s (first.serves s serves);
+  waiting = then.waiting ∙ first.waiting;
+  most = then.most ∙ first.most;
+}
+
+risen_since : (a b c : ℕ) → a ≤ b → HasRisen b c → HasRisen a c
+risen_since a b c le risen = ⊎_elim (λ more. inl (omega arith)) (λ most. inr most) risen
+
+-- a write of a page that is there fails only as a transfer does
+write_failed : (fault : DeviceFault) (page many a b : ℕ) → page < many → MayMeetTheEnd fault →
+    (fault ≡ devices.PastEnd → many ≤ page) → (fault ≡ devices.Device → HasRisen a b) → HasRisen a b
+write_failed devices.Device page many a b within may past failed = failed refl
+write_failed devices.BadDigest page many a b within may past failed = absurd may
+write_failed devices.PastEnd page many a b within may past failed =
+    let le = past refl in absurd (omega (arith, le))
+write_failed devices.DeviceFull page many a b within may past failed = absurd may
+write_failed devices.NoMemory page many a b within may past failed = absurd may
+
+sync_failed : (fault : DeviceFault) (a b : ℕ) → MayOnlyFail fault → (fault ≡ devices.Device → HasRisen a b) →
+    HasRisen a b
+sync_failed devices.Device a b may failed = failed refl
+sync_failed devices.BadDigest a b may failed = absurd may
+sync_failed devices.PastEnd a b may failed = absurd may
+sync_failed devices.DeviceFull a b may failed = absurd may
+sync_failed devices.NoMemory a b may failed = absurd may
+
+module _ {P : Type 0} (honest : Bool) (file : P → Pages) (journal : P → Option Journal) (moment : P → ℕ)
+    (left_since : P → ℕ → Left → Type 0) (may_leave : P → Left → Type 0) where
+  -- what is so while the pages are written: those before this one are
+  pub record IsWriting (from : ℕ) (desk now : DeskState) (device then : DeviceState P) : Type 0 where
+    pub keeps : KeepsServing desk now
+    pub saved : saved_of now.session ≡ saved_of desk.session
+    pub as_many : pages_of now.session ≡ pages_of desk.session
+    pub written : IsTrue honest → (s : State) → Serves s desk →
+        AreWrittenTo from (saved_of desk.session) then.content now.session
+    pub many : length then.content ≡ length device.content
+    pub usable : then.is_broken ≡ false
+    pub later : device.failed ≤ then.failed
+    pub stays : IsTrue honest → committed file journal then.pair ≡ device.content
+    pub unseen : LeavesTheLast honest moment left_since device then
+    pub none : from ≡ 0 → (now ≡ desk) × (then ≡ device)
+
+  pub begun : (desk : DeskState) (device : DeviceState P) → IsCommitted honest may_leave desk device →
+      ((c : Left) → left_since device.pair (moment device.pair) c → may_leave device.pair c) →
+      (IsTrue honest → may_leave device.pair (record { file = file device.pair; journal = journal device.pair })) →
+      IsWriting 0 desk desk device device
+  begun desk device is only_now seen = record {
+    keeps = still desk;
+    saved = refl;
+    as_many = refl;
+    written = λ sound s serves. none_written (saved_of desk.session) device.content desk.session (is.saved sound);
+    many = refl;
+    usable = is.usable;
+    later = omega arith;
+    stays = λ sound. is.kept sound _ (seen sound);
+    unseen = λ sound. started moment left_since may_leave device.pair (StandsFor device.content) only_now (is.kept sound);
+    none = λ zero. (refl, refl);
+  }
+
+  module _ (from : ℕ) (desk now : DeskState) (device then : DeviceState P) (is : IsCommitted honest may_leave desk device)
+      (so_far : IsWriting from desk now device then) where
+    serves_now : Serves is.served now
+    serves_now = so_far.keeps.serves is.served is.serves
+
+    -- the next page that may have changed is there
+    pub is_there : (page : ℕ) → pages_of desk.session ≡ length (saved_of desk.session) →
+        TellsChanges from (Some page) now.session →
+        (page < pages_of now.session) × (page < length then.content) × (from ≤ page)
+    is_there page count told =
+        let next = told is.served serves_now.holds in
+        let within = next.within in
+        let behind = next.behind in
+        let a = so_far.as_many in
+        let b = so_far.many in
+        let c = is.many in
+        (within, omega (arith, within, a, b, c, count), behind)
+
+    -- the device has so many pages
+    as_many_there : pages_of desk.session ≡ length (saved_of desk.session) →
+        length then.content ≡ pages_of now.session
+    as_many_there count = so_far.many ∙ is.many ∙ sym count ∙ sym so_far.as_many
+
+    -- ---- one more
+
+    module _ (page : ℕ) (bytes : List ℕ) (after : DeskState) (next : DeviceState P)
+        (count : pages_of desk.session ≡ length (saved_of desk.session))
+        (told : TellsChanges from (Some page) now.session)
+        (gives : GivesPage page (Some bytes) now.session after.session) (kept : KeepsServing now after) where
+      pub one_written : (IsTrue honest → next.content ≡ slice_set then.content page bytes) →
+          DiffersAtMostAt page then.content next.content → then.failed ≤ next.failed →
+          StaysCommitted honest file journal moment left_since true then next →
+          IsWriting (page + 1) desk after device next
+      one_written put others later stays = record {
+        keeps = on desk now after so_far.keeps kept;
+        saved = gives.saved ∙ so_far.saved;
+        as_many = gives.many ∙ so_far.as_many;
+        written = λ sound s serves.
+            let holds = (so_far.keeps.serves s serves).holds in
+            let given = gives.becomes s holds in
+            let next_is = told s holds in
+            let behind = next_is.behind in
+            one_more page bytes (saved_of desk.session) then.content next.content now.session after.session
+            (up_to from page (saved_of desk.session) then.content now.session (so_far.written sound s serves)
+            so_far.saved next_is.others)
+            (λ n past. (so_far.written sound s serves).others n (omega (arith, past, behind)))
+            ((is_there page count told).1) given.is given.images (put sound);
+        many = others.as_many ∙ so_far.many;
+        usable = stays.usable refl;
+        later = let before = so_far.later in omega (arith, before, later);
+        stays = λ sound. stays.stays sound refl ∙ so_far.stays sound;
+        unseen = λ sound. on_unseen sound (stays.any_moment sound so_far.usable);
+        none = λ zero. absurd (omega arith);
+      }
+        where
+          on_unseen : IsTrue honest →
+              LeavesOnly moment left_since then.pair next.pair (StandsFor (committed file journal then.pair)) →
+              LeavesOnly moment left_since device.pair next.pair (StandsFor device.content)
+          on_unseen sound run = joined moment left_since device.pair then.pair next.pair (StandsFor device.content)
+              (StandsFor (committed file journal then.pair)) (StandsFor device.content) (so_far.unseen sound) run
+              (λ c has. has) (λ c has. has ∙ so_far.stays sound)
+
+      -- or its write fails
+      pub not_written : (fault : DeviceFault) →
+          HasCause MayMeetTheEnd then.failed next.failed (Err {T = Unit {0}} fault) →
+          (IsErrOf (Err {T = Unit {0}} fault) devices.PastEnd → length then.content ≤ page) →
+          FailsToCommit Device desk after device next
+      not_written fault cause past =
+          (on desk now after so_far.keeps kept,
+          risen_since device.failed then.failed next.failed so_far.later
+          (write_failed fault page (length then.content) then.failed next.failed ((is_there page count told).1) cause.told
+          past cause.failed))
+
+      pub unseen_still : StaysCommitted honest file journal moment left_since false then next →
+          LeavesTheLast honest moment left_since device next
+      unseen_still stays = λ sound.
+          joined moment left_since device.pair then.pair next.pair (StandsFor device.content)
+          (StandsFor (committed file journal then.pair)) (StandsFor device.content) (so_far.unseen sound)
+          (stays.any_moment sound so_far.usable) (λ c has. has) (λ c has. has ∙ so_far.stays sound)
+
+    -- or the desk fails
+    pub not_given : (page : ℕ) (after : DeskState) → GivesPage page None now.session after.session →
+        after.session.failed ≡ true
+    not_given page after gives = (gives.becomes is.served serves_now.holds).failed
+
+    -- ---- all are
+
+    all_are : (some : Bool) → pages_of desk.session ≡ length (saved_of desk.session) →
+        (IsTrue honest → (s : State) → Serves s desk → AreItsPages then.content now.session) →
+        (some ≡ false → from ≡ 0) → HasWritten honest file journal some desk now device then
+    all_are some count its zero = record {
+      keeps = so_far.keeps;
+      its = its;
+      many = as_many_there count;
+      usable = so_far.usable;
+      later = so_far.later;
+      stays = so_far.stays;
+      none = λ unchanged. so_far.none (zero unchanged);
+    }
+
+    pub none_left : (some : Bool) → pages_of desk.session ≡ length (saved_of desk.session) →
+        TellsChanges from None now.session → (some ≡ false → from ≡ 0) →
+        HasWritten honest file journal some desk now device then
+    none_left some count told zero = all_are some count (λ sound s serves.
+        all_written (saved_of desk.session) then.content now.session (as_many_there count)
+        (up_to from (pages_of now.session) (saved_of desk.session) then.content now.session
+        (so_far.written sound s serves) so_far.saved (told s (so_far.keeps.serves s serves).holds))) zero
+
+    pub none_behind : (some : Bool) → pages_of desk.session ≡ length (saved_of desk.session) →
+        pages_of desk.session ≤ from → (some ≡ false → from ≡ 0) →
+        HasWritten honest file journal some desk now device then
+    none_behind some count past zero = all_are some count (λ sound s serves.
+        let same = so_far.as_many in
+        all_written (saved_of desk.session) then.content now.session (as_many_there count) (λ page within.
+        (so_far.written sound s serves).below page (omega (arith, within, past, same)))) zero
+
+  -- ---- they are synced, and it is noted
+
+  module _ (some : Bool) (desk mid : DeskState) (device then : DeviceState P) (is : IsCommitted honest may_leave desk device)
+      (wrote : HasWritten honest file journal some desk mid device then) (law : PagesAreTheFile) where
+    is_file : IsTrue honest → (s : State) → Serves s desk → IsFileOf sha_key then.content (restarted s)
+    is_file sound s serves =
+        law s mid.session then.content (wrote.keeps.serves s serves).holds (wrote.its sound s serves)
+
+    -- nothing had changed
+    pub stays_committed : some ≡ false → HasCommitted honest may_leave desk mid then
+    stays_committed none =
+        let same = wrote.none none in
+        record {
+          keeps = wrote.keeps;
+          file = is_file;
+          committed = subst (λ (d : DeskState). IsCommitted honest may_leave d then) (sym same.0)
+              (subst (λ (d : DeviceState P). IsCommitted honest may_leave desk d) (sym same.1) is);
+        }
+
+    pub is_committed : (next : DeviceState P) (after : DeskState) → next.content ≡ then.content →
+        next.is_broken ≡ false → (IsTrue honest → Keeps (StandsFor then.content) (may_leave next.pair)) →
+        NotesSave true mid.session after.session → KeepsServing mid after →
+        HasCommitted honest may_leave desk after next
+    is_committed next after same usable durable notes kept = record {
+      keeps = on desk mid after wrote.keeps kept;
+      file = λ sound s serves.
+          subst (λ (pages : Pages). IsFileOf sha_key pages (restarted s)) (sym same) (is_file sound s serves);
+      committed = record {
+        served = is.served;
+        serves = kept.serves is.served serves_mid;
+        usable = usable;
+        many = ap length same ∙ wrote.many ∙ sym notes.many ∙ sym all.all.many;
+        saved = λ sound.
+            same ∙ same_pages then.content (saved_of after.session) after.session
+            (still_its then.content mid.session after.session all.images notes.many (wrote.its sound is.served is.serves))
+            all.all;
+        kept = λ sound.
+            subst (λ (pages : Pages). Keeps (StandsFor pages) (may_leave next.pair)) (sym same) (durable sound);
+      };
+    }
+      where
+        serves_mid : Serves is.served mid
+        serves_mid = wrote.keeps.serves is.served is.serves
+
+        all : AreSaved is.served mid.session after.session
+        all = notes.becomes is.served serves_mid.holds
+
+    pub not_noted : (after : DeskState) → NotesSave false mid.session after.session → after.session.failed ≡ true
+    not_noted after notes = (notes.becomes is.served (wrote.keeps.serves is.served is.serves).holds).failed
+
+    pub not_synced : (next : DeviceState P) (fault : DeviceFault) →
+        HasCause MayOnlyFail then.failed next.failed (Err {T = Unit {0}} fault) → FailsToCommit Device desk mid device next
+    not_synced next fault cause =
+        (wrote.keeps,
+        risen_since device.failed then.failed next.failed wrote.later
+        (sync_failed fault then.failed next.failed cause.told cause.failed))
+
+    -- a crash meanwhile
+    pub cut_short : (succeeded : Bool) (next : DeviceState P) → LeavesTheLast honest moment left_since device then →
+        Commits honest file journal moment left_since succeeded then next →
+        IsCutShortOn honest moment left_since desk device next
+    cut_short succeeded next unseen commits sound s serves =
+        joined moment left_since device.pair then.pair next.pair (StandsFor device.content)
+        (IsEither (committed file journal then.pair) then.content) (IsLastOrFile device.content s) (unseen sound)
+        (commits.any_moment sound wrote.usable) (λ c has. inl has)
+        (λ c has. ⊎_elim (λ last. inl (last ∙ wrote.stays sound)) (λ now.
+        inr (subst (λ (pages : Pages). IsFileOf sha_key pages (restarted s)) (sym now) (is_file sound s serves))) has)
+
+  -- where nothing but the last commit is left
+  pub leaves_the_last : (desk : DeskState) (device then : DeviceState P) →
+      LeavesTheLast honest moment left_since device then → IsCutShortOn honest moment left_since desk device then
+  leaves_the_last desk device then unseen sound s serves =
+      weaker moment left_since device.pair then.pair (StandsFor device.content) (IsLastOrFile device.content s)
+      (unseen sound) (λ c has. inl has)

@@ -1,0 +1,4 @@
+pub mod MomentLemmas
+pub mod WriteLemmas
+pub mod CommitLemmas
+pub mod HistoryLemmas

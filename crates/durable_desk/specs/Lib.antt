@@ -1,0 +1,3 @@
+pub mod Durable
+pub mod Commit
+pub mod History

@@ -1,0 +1,25 @@
+//! What the relay and the core of a server say to one another, as bytes (docs/PROTOCOL.md): each
+//! record is read exactly where it is one, and each answer is put as it is told.
+
+#![tactic(auto)]
+
+mod bytes;
+mod calls;
+mod codes;
+mod frame;
+mod head;
+mod incoming;
+mod little;
+mod operations;
+mod reading;
+mod reply;
+mod telling;
+#[cfg(test)]
+mod tests;
+
+pub use codes::{CANCELLED, DONE, ENDS, FAILED, NO_MEMORY, NO_ROOM, WRONG};
+pub use incoming::{Incoming, Kind, Operation, Request, Unread};
+pub use numbers::faults::NoMemory;
+pub use reading::{read, whole};
+pub use reply::{Counts, Reply};
+pub use telling::put;

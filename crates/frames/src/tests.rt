@@ -1,0 +1,1 @@
+//! Records typed by hand from docs/PROTOCOL.md.

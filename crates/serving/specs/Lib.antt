@@ -1,0 +1,4 @@
+pub mod Clients
+pub mod Told
+pub mod Serving
+pub mod Releasing

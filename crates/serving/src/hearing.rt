@@ -1,0 +1,236 @@
+//! The records of the relay are heard.
+
+ghost use Rattle.std.specs.Prelude.{OnOk};
+ghost use Rattle.serving.specs.Serving.{GoesOn};
+
+use crate::client::{client_of, connection_of, is_own};
+use crate::durability::Durability;
+use crate::note::Note;
+use crate::server::Server;
+use crate::trouble::Unheard;
+use durable_desk::desk::session::Unanswered;
+use durable_desk::desk::session::queue_model::{Answer, Call, Caller, Errno};
+use durable_desk::safe_device::PagePair;
+use frames::{
+    CANCELLED, Counts, DONE, Incoming, Kind, NO_MEMORY, Operation, Request, Unread, WRONG, read,
+};
+
+/// Whether the relay says more.
+#[derive(Clone, Copy, Debug, PartialEq, Eq)]
+pub enum Heard {
+    /// It does.
+    Going,
+    /// It was the last record.
+    Ending,
+}
+
+impl<P: PagePair> Server<P> {
+    /// What one record of the relay asks at this moment, in seconds. Calls are decided; what clients
+    /// are told is held back.
+    ///
+    /// # Errors
+    ///
+    /// Why the server is to end. Nothing that was held back is lost.
+    pub fn hear(&mut self, record: &[u8], moment: u64) -> Result<Heard, Unheard>
+        ensures { OnOk result (GoesOn P.is_honest P.moment P.left_since P.may_leave
+            self.old self.new) }
+    {
+        match read(self.alloc, record, moment) {
+            Ok(incoming) => self.attend(incoming, moment),
+            Err(Unread::Broken) => Err(Unheard::Broken),
+            Err(Unread::Wrong { connection, number }) => {
+                self.say(client_of(connection, number), &Note::code(WRONG))?;
+                Ok(Heard::Going)
+            }
+            Err(Unread::NoMemory { connection, number }) => {
+                self.say(client_of(connection, number), &Note::code(NO_MEMORY))?;
+                Ok(Heard::Going)
+            }
+        }
+    }
+
+    /// What the relay tells.
+    fn attend(&mut self, incoming: Incoming, moment: u64) -> Result<Heard, Unheard>
+        ensures { OnOk result (GoesOn P.is_honest P.moment P.left_since P.may_leave
+            self.old self.new) }
+    {
+        let Incoming {
+            connection,
+            caller,
+            kind,
+        } = incoming;
+        match kind {
+            Kind::Request(_) if connection == 0 => return Err(Unheard::Broken),
+            Kind::Request(request) => self.serve(connection, caller, request, moment)?,
+            Kind::Gone => self.leave(connection, moment)?,
+            Kind::Tick => {
+                if self.durability == Durability::NowAndThen {
+                    self.save()?;
+                }
+            }
+            Kind::End => {
+                self.end(moment)?;
+                return Ok(Heard::Ending);
+            }
+        }
+        Ok(Heard::Going)
+    }
+
+    /// What a client asks for.
+    fn serve(
+        &mut self,
+        connection: u32,
+        caller: Caller,
+        request: Request,
+        moment: u64,
+    ) -> Result<(), Unheard>
+        ensures { OnOk result (GoesOn P.is_honest P.moment P.left_since P.may_leave
+            self.old self.new) }
+    {
+        let client = client_of(connection, request.number);
+        match request.operation {
+            Operation::Call(call) => {
+                let _ = self.make(client, caller, call)?;
+                self.settle(moment)
+            }
+            Operation::Next { after } => self.say(client, &found(self.queues.behind(after))),
+            Operation::Nth { place } => self.say(client, &found(self.queues.nth(place))),
+            Operation::Save => {
+                self.save()?;
+                self.say(client, &Note::code(DONE))
+            }
+            Operation::Info => self.say(client, &Note::Counts(self.counts())),
+            Operation::Cancel { number } => self.cancel(client_of(connection, number), moment),
+            Operation::Reserve { .. } | Operation::Acknowledge { .. } | Operation::Release { .. } =>
+                {
+                    self.serve_worker(client, caller, request.operation, moment)?;
+                    self.settle(moment)
+                }
+        }
+    }
+
+    /// A call is made, whose client is told what came of it; and it is noted which queues are alive.
+    pub(crate) fn make(
+        &mut self,
+        client: u64,
+        caller: Caller,
+        call: Call,
+    ) -> Result<Result<Answer, Unanswered>, Unheard>
+        ensures { OnOk result (GoesOn P.is_honest P.moment P.left_since P.may_leave
+            self.old self.new) }
+    {
+        let removed = match &call {
+            Call::Remove { id } => Some(*id),
+            _ => None,
+        };
+        let reply = self.ask(client, caller, call)?;
+        match (&reply, removed) {
+            (Ok(Answer::Id(id)), _) => {
+                let Ok(()) = self.queues.insert(*id) else {
+                    return Err(Unheard::NoMemory);
+                };
+            }
+            (Ok(Answer::Done), Some(id)) => self.queues.remove(id),
+            _ => {}
+        }
+        Ok(reply)
+    }
+
+    /// Those are told who waited and have an answer now; and messages go back to their queues for
+    /// which there is room now.
+    pub(crate) fn settle(&mut self, moment: u64) -> Result<(), Unheard>
+        ensures { OnOk result (GoesOn P.is_honest P.moment P.left_since P.may_leave
+            self.old self.new) }
+    {
+        self.tell_those_let_go(moment)?;
+        if self.give_back_all(moment)? {
+            self.tell_those_let_go(moment)?;
+        }
+        Ok(())
+    }
+
+    /// Those are told who waited and have an answer now.
+    fn tell_those_let_go(&mut self, moment: u64) -> Result<(), Unheard>
+        ensures { OnOk result (GoesOn P.is_honest P.moment P.left_since P.may_leave
+            self.old self.new) }
+    {
+        for _ in 0..=self.desk.waiting() {
+            let Some(told) = self.next()? else {
+                break;
+            };
+            if is_own(told.client) {
+                self.go_on_with(told, moment)?;
+            }
+        }
+        Ok(())
+    }
+
+    /// A client waits no longer.
+    fn cancel(&mut self, client: u64, moment: u64) -> Result<(), Unheard>
+        ensures { OnOk result (GoesOn P.is_honest P.moment P.left_since P.may_leave
+            self.old self.new) }
+    {
+        if let Some(holding) = self.holdings.awaited_by(client) {
+            self.withdraw(holding.queue as u64);
+            self.undo(holding.queue)?;
+            self.say(client, &Note::code(CANCELLED))?;
+            return self.settle(moment);
+        }
+        if self.withdraw(client) {
+            self.say(client, &Note::code(CANCELLED))?;
+        }
+        Ok(())
+    }
+
+    /// A connection is gone: its calls wait no longer, and its messages in hand go back.
+    fn leave(&mut self, connection: u32, moment: u64) -> Result<(), Unheard>
+        ensures { OnOk result (GoesOn P.is_honest P.moment P.left_since P.may_leave
+            self.old self.new) }
+    {
+        self.withdraw_all(connection);
+        if self.let_go(Some(connection))? {
+            self.settle(moment)?;
+        }
+        Ok(())
+    }
+
+    /// The server ends: messages in hand go back, who waits is told to ask the next server, and all
+    /// is saved.
+    fn end(&mut self, moment: u64) -> Result<(), Unheard>
+        ensures { OnOk result (GoesOn P.is_honest P.moment P.left_since P.may_leave
+            self.old self.new) }
+    {
+        self.let_go(None)?;
+        self.settle(moment)?;
+        self.stop();
+        self.tell_those_let_go(moment)?;
+        self.save()?;
+        Ok(())
+    }
+
+    /// What is told about the server.
+    fn counts(&self) -> Counts {
+        Counts {
+            calls: self.answered,
+            saves: self.saves,
+            tries: self.desk.tries(),
+            queues: counted(self.queues.len()),
+            waiting: counted(self.desk.waiting()),
+            pages: self.desk.pages(),
+            highest: self.queues.highest(),
+        }
+    }
+}
+
+/// The id of a queue that was looked for.
+fn found(id: Option<u32>) -> Note {
+    match id {
+        Some(value) => Note::Code { code: DONE, value },
+        None => Note::refused(Errno::EINVAL),
+    }
+}
+
+/// A number of things as it is told.
+fn counted(many: usize) -> u32 {
+    u32::try_from(many).unwrap_or(u32::MAX)
+}

@@ -1,0 +1,416 @@
+//! Messages in hand: taken from their queue into a holding queue, until they are acknowledged or go
+//! back.
+
+ghost use Rattle.std.specs.Prelude.{OnOk};
+ghost use Rattle.serving.specs.Serving.{GoesOn};
+
+use crate::client::{connection_of, number_of};
+use crate::holding::{HOLDING_MODE, Holding, KEEPER, ORIGIN_BYTES, ORIGIN_TYPE, Stage, carrier};
+use crate::note::Note;
+use crate::server::Server;
+use crate::trouble::Unheard;
+use durable_desk::desk::Told;
+use durable_desk::desk::session::Unanswered;
+use durable_desk::desk::session::queue_model::{
+    Answer, Body, Call, Caller, Errno, GetArguments, MAX_BODY, MAX_MESSAGES, Message, QueueInfo,
+    ReceiveArguments, SUPERUSER, SendArguments,
+};
+use durable_desk::safe_device::PagePair;
+use frames::{DONE, ENDS, Operation};
+
+/// The server itself, where it asks for what nobody waits for.
+const ITSELF: u64 = 0;
+
+/// What a client asks to have reserved.
+#[derive(Clone, Copy, Debug)]
+struct Wanted {
+    client: u64,
+    caller: Caller,
+    origin: u32,
+    mtype: i64,
+    nowait: bool,
+    moment: u64,
+}
+
+impl<P: PagePair> Server<P> {
+    /// What a client asks for that works on messages.
+    pub(crate) fn serve_worker(
+        &mut self,
+        client: u64,
+        caller: Caller,
+        operation: Operation,
+        moment: u64,
+    ) -> Result<(), Unheard>
+        ensures { OnOk result (GoesOn P.is_honest P.moment P.left_since P.may_leave
+            self.old self.new) }
+    {
+        match operation {
+            Operation::Reserve { id, mtype, nowait } => {
+                self.reserve(Wanted {
+                    client,
+                    caller,
+                    origin: id,
+                    mtype,
+                    nowait,
+                    moment,
+                })
+            }
+            Operation::Acknowledge { id } => self.acknowledge(client, caller, id),
+            Operation::Release { id } => self.give_up_hold(client, caller, id),
+            _ => Ok(()),
+        }
+    }
+
+    /// A message is reserved: a holding queue is made, which tells where the message comes from, and
+    /// then the message is taken.
+    fn reserve(&mut self, wanted: Wanted) -> Result<(), Unheard>
+        ensures { OnOk result (GoesOn P.is_honest P.moment P.left_since P.may_leave
+            self.old self.new) }
+    {
+        let get = Call::Get(GetArguments {
+            key: None,
+            create: true,
+            excl: false,
+            mode: HOLDING_MODE,
+            moment: wanted.moment,
+        });
+        let queue = match self.make(ITSELF, wanted.caller, get)? {
+            Ok(Answer::Id(queue)) => queue,
+            reply => return self.say(wanted.client, &why(reply)),
+        };
+        let holding = Holding {
+            queue,
+            origin: wanted.origin,
+            client: wanted.client,
+            caller: wanted.caller,
+            stage: Stage::Waits,
+        };
+        if !self.holdings.push(holding) {
+            return Err(Unheard::NoMemory);
+        }
+        match self.note_origin(holding, wanted.moment)? {
+            Ok(Answer::Sent(_)) => self.take(wanted, queue),
+            reply => {
+                self.undo(queue)?;
+                self.say(wanted.client, &why(reply))
+            }
+        }
+    }
+
+    /// A holding queue is told where its message comes from.
+    fn note_origin(
+        &mut self,
+        holding: Holding,
+        moment: u64,
+    ) -> Result<Result<Answer, Unanswered>, Unheard>
+        ensures { OnOk result (GoesOn P.is_honest P.moment P.left_since P.may_leave
+            self.old self.new) }
+    {
+        let Ok(bytes) = Vec::from_slice(self.alloc, &holding.origin.to_le_bytes()) else {
+            return Err(Unheard::NoMemory);
+        };
+        let send = Call::Send(SendArguments {
+            id: holding.queue,
+            mtype: ORIGIN_TYPE,
+            body: Body::new(bytes),
+            nowait: true,
+            moment,
+        });
+        self.ask(ITSELF, KEEPER, send)
+    }
+
+    /// The message is taken, or waited for.
+    fn take(&mut self, wanted: Wanted, queue: u32) -> Result<(), Unheard>
+        ensures { OnOk result (GoesOn P.is_honest P.moment P.left_since P.may_leave
+            self.old self.new) }
+    {
+        let receive = Call::Receive(ReceiveArguments {
+            id: wanted.origin,
+            size: MAX_BODY as u32,
+            mtype: wanted.mtype,
+            nowait: wanted.nowait,
+            noerror: false,
+            moment: wanted.moment,
+        });
+        let reply = self.ask(queue as u64, wanted.caller, receive)?;
+        if reply == Err(Unanswered::Waits) {
+            return Ok(());
+        }
+        self.keep(queue, reply, wanted.moment)
+    }
+
+    /// The receive of a reservation is over that waited.
+    pub(crate) fn go_on_with(&mut self, told: Told, moment: u64) -> Result<(), Unheard>
+        ensures { OnOk result (GoesOn P.is_honest P.moment P.left_since P.may_leave
+            self.old self.new) }
+    {
+        self.keep(number_of(told.client), told.reply, moment)
+    }
+
+    /// What the receive of a reservation came to: its message is put into the holding queue, and its
+    /// client is told.
+    fn keep(
+        &mut self,
+        queue: u32,
+        reply: Result<Answer, Unanswered>,
+        moment: u64,
+    ) -> Result<(), Unheard>
+        ensures { OnOk result (GoesOn P.is_honest P.moment P.left_since P.may_leave
+            self.old self.new) }
+    {
+        let Some(holding) = self.holdings.of(queue) else {
+            return Ok(());
+        };
+        let message = match reply {
+            Ok(Answer::Received(message)) => message,
+            reply => {
+                self.undo(queue)?;
+                return self.say(holding.client, &why(reply));
+            }
+        };
+        match self.put(queue, &message, moment)? {
+            Ok(Answer::Sent(_)) => {
+                self.holdings.set(queue, Stage::Held);
+                self.say(holding.client, &Note::Held { queue, message })
+            }
+            reply => {
+                self.put_surely(holding.origin, &message, moment)?;
+                self.undo(queue)?;
+                self.say(holding.client, &why(reply))
+            }
+        }
+    }
+
+    /// A message is put last on a queue, with its sender.
+    fn put(
+        &mut self,
+        queue: u32,
+        message: &Message,
+        moment: u64,
+    ) -> Result<Result<Answer, Unanswered>, Unheard>
+        ensures { OnOk result (GoesOn P.is_honest P.moment P.left_since P.may_leave
+            self.old self.new) }
+    {
+        let body = message.bytes.try_copy()?;
+        let send = Call::Send(SendArguments {
+            id: queue,
+            mtype: message.mtype,
+            body,
+            nowait: true,
+            moment,
+        });
+        self.ask(ITSELF, carrier(message.sender), send)
+    }
+
+    /// The same of one that has to be somewhere.
+    pub(crate) fn put_surely(
+        &mut self,
+        queue: u32,
+        message: &Message,
+        moment: u64,
+    ) -> Result<(), Unheard>
+        ensures { OnOk result (GoesOn P.is_honest P.moment P.left_since P.may_leave
+            self.old self.new) }
+    {
+        match self.put(queue, message, moment)? {
+            Ok(Answer::Sent(_)) => Ok(()),
+            _ => Err(Unheard::Homeless),
+        }
+    }
+
+    /// A message in hand is done: its holding queue is removed.
+    fn acknowledge(&mut self, client: u64, caller: Caller, queue: u32) -> Result<(), Unheard>
+        ensures { OnOk result (GoesOn P.is_honest P.moment P.left_since P.may_leave
+            self.old self.new) }
+    {
+        if !self.is_held(queue) {
+            return self.say(client, &Note::refused(Errno::EINVAL));
+        }
+        match self.make(ITSELF, caller, Call::Remove { id: queue })? {
+            Ok(Answer::Done) => {
+                self.holdings.remove(queue);
+                self.say(client, &Note::code(DONE))
+            }
+            reply => self.say(client, &why(reply)),
+        }
+    }
+
+    /// A message in hand goes back, now or once there is room for it.
+    fn give_up_hold(&mut self, client: u64, caller: Caller, queue: u32) -> Result<(), Unheard>
+        ensures { OnOk result (GoesOn P.is_honest P.moment P.left_since P.may_leave
+            self.old self.new) }
+    {
+        let Some(holding) = self.holdings.of(queue) else {
+            return self.say(client, &Note::refused(Errno::EINVAL));
+        };
+        if holding.stage != Stage::Held {
+            return self.say(client, &Note::refused(Errno::EINVAL));
+        }
+        if caller.uid != holding.caller.uid && caller.uid != SUPERUSER {
+            return self.say(client, &Note::refused(Errno::EPERM));
+        }
+        self.holdings.set(queue, Stage::GoesBack);
+        self.say(client, &Note::code(DONE))
+    }
+
+    /// Whether a message is in hand in this queue.
+    fn is_held(&self, queue: u32) -> bool {
+        matches!(self.holdings.of(queue), Some(holding) if holding.stage == Stage::Held)
+    }
+
+    /// The reservations of a connection, or all, are given up. Whether there was one.
+    pub(crate) fn let_go(&mut self, connection: Option<u32>) -> Result<bool, Unheard>
+        ensures { OnOk result (GoesOn P.is_honest P.moment P.left_since P.may_leave
+            self.old self.new) }
+    {
+        let mut some = false;
+        let mut place = 0;
+        for _ in 0..self.holdings.len() {
+            let Some(holding) = self.holdings.get(place) else {
+                break;
+            };
+            let is_its = match connection {
+                Some(connection) => connection_of(holding.client) == connection,
+                None => holding.stage == Stage::Held,
+            };
+            if is_its && holding.stage == Stage::Waits {
+                self.withdraw(holding.queue as u64);
+                self.undo(holding.queue)?;
+                some = true;
+                continue;
+            }
+            if is_its {
+                self.holdings.set(holding.queue, Stage::GoesBack);
+                some = true;
+            }
+            place += 1;
+        }
+        Ok(some)
+    }
+
+    /// Messages that are to go back go, for which there is room. Whether one went.
+    pub(crate) fn give_back_all(&mut self, moment: u64) -> Result<bool, Unheard>
+        ensures { OnOk result (GoesOn P.is_honest P.moment P.left_since P.may_leave
+            self.old self.new) }
+    {
+        let mut some = false;
+        let mut place = 0;
+        for _ in 0..self.holdings.len() {
+            let Some(holding) = self.holdings.get(place) else {
+                break;
+            };
+            if holding.stage == Stage::GoesBack && self.give_back(holding, moment)? {
+                some = true;
+            } else {
+                place += 1;
+            }
+        }
+        Ok(some)
+    }
+
+    /// A message goes back to its queue, last, where there is room; where that queue is gone, so is
+    /// its message. Whether it went.
+    fn give_back(&mut self, holding: Holding, moment: u64) -> Result<bool, Unheard>
+        ensures { OnOk result (GoesOn P.is_honest P.moment P.left_since P.may_leave
+            self.old self.new) }
+    {
+        let Some(held) = self.look_at(holding.queue)? else {
+            self.holdings.remove(holding.queue);
+            return Ok(true);
+        };
+        let origin = self.look_at(holding.origin)?;
+        let Some(origin) = origin.filter(|_| held.qnum > 1) else {
+            self.undo(holding.queue)?;
+            return Ok(true);
+        };
+        let bytes = held.cbytes.saturating_sub(ORIGIN_BYTES);
+        if origin.cbytes.saturating_add(bytes) > origin.qbytes
+            || origin.qnum as usize >= MAX_MESSAGES as usize
+        {
+            return Ok(false);
+        }
+        if !self.carry_back(holding, moment)? {
+            return Ok(false);
+        }
+        self.undo(holding.queue)?;
+        Ok(true)
+    }
+
+    /// The message of a holding queue is taken out of it, and put back on its own. Where the file has
+    /// no room for it there, it stays.
+    fn carry_back(&mut self, holding: Holding, moment: u64) -> Result<bool, Unheard>
+        ensures { OnOk result (GoesOn P.is_honest P.moment P.left_since P.may_leave
+            self.old self.new) }
+    {
+        self.take_out(holding.queue, ORIGIN_TYPE, moment)?;
+        let Some(message) = self.take_out(holding.queue, 0, moment)? else {
+            return Ok(true);
+        };
+        if let Ok(Answer::Sent(_)) = self.put(holding.origin, &message, moment)? {
+            return Ok(true);
+        }
+        self.put_surely(holding.queue, &message, moment)?;
+        match self.note_origin(holding, moment)? {
+            Ok(Answer::Sent(_)) => Ok(false),
+            _ => Err(Unheard::Homeless),
+        }
+    }
+
+    /// The first message of a type is taken out of a queue, where there is one.
+    pub(crate) fn take_out(
+        &mut self,
+        queue: u32,
+        mtype: i64,
+        moment: u64,
+    ) -> Result<Option<Message>, Unheard>
+        ensures { OnOk result (GoesOn P.is_honest P.moment P.left_since P.may_leave
+            self.old self.new) }
+    {
+        let receive = Call::Receive(ReceiveArguments {
+            id: queue,
+            size: MAX_BODY as u32,
+            mtype,
+            nowait: true,
+            noerror: true,
+            moment,
+        });
+        match self.ask(ITSELF, carrier(0), receive)? {
+            Ok(Answer::Received(message)) => Ok(Some(message)),
+            Ok(_) => Ok(None),
+            Err(_) => Err(Unheard::NoMemory),
+        }
+    }
+
+    /// What Stat tells of a queue, where it is alive.
+    fn look_at(&mut self, queue: u32) -> Result<Option<QueueInfo>, Unheard>
+        ensures { OnOk result (GoesOn P.is_honest P.moment P.left_since P.may_leave
+            self.old self.new) }
+    {
+        match self.ask(ITSELF, carrier(0), Call::Stat { id: queue })? {
+            Ok(Answer::Info(info)) => Ok(Some(info)),
+            Ok(_) => Ok(None),
+            Err(_) => Err(Unheard::NoMemory),
+        }
+    }
+
+    /// A reservation is over: its holding queue is removed.
+    pub(crate) fn undo(&mut self, queue: u32) -> Result<(), Unheard>
+        ensures { OnOk result (GoesOn P.is_honest P.moment P.left_since P.may_leave
+            self.old self.new) }
+    {
+        self.holdings.remove(queue);
+        let _ = self.make(ITSELF, carrier(0), Call::Remove { id: queue })?;
+        Ok(())
+    }
+}
+
+/// What a client is told of a call that was made for it.
+fn why(reply: Result<Answer, Unanswered>) -> Note {
+    match reply {
+        // (the server has ended)
+        Ok(Answer::Refused(Errno::EINTR)) => Note::code(ENDS),
+        Ok(Answer::Refused(errno)) => Note::refused(errno),
+        Ok(_) => Note::code(DONE),
+        Err(unanswered) => Note::unanswered(unanswered),
+    }
+}
