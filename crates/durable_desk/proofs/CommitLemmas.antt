@@ -32,6 +32,10 @@ on old mid new first then = record {
   most = then.most ∙ first.most;
 }
 
+-- the fault that a call tells
+told_as : (fault other : DeviceFault) → fault ≡ other → IsErrOf {T = Unit {0}} (Err fault) other
+told_as fault other same = let told : DeviceFault → Result (Unit {0}) DeviceFault = λ f. Err f in ap told same
+
 risen_since : (a b c : ℕ) → a ≤ b → HasRisen b c → HasRisen a c
 risen_since a b c le risen = ⊎_elim (λ more. inl (omega arith)) (λ most. inr most) risen
 
@@ -150,14 +154,13 @@ module _ {P : Type 0} (honest : Bool) (file : P → Pages) (journal : P → Opti
 
       -- or its write fails
       pub not_written : (fault : DeviceFault) →
-          HasCause MayMeetTheEnd then.failed next.failed (Err {T = Unit {0}} fault) →
-          (IsErrOf (Err {T = Unit {0}} fault) devices.PastEnd → length then.content ≤ page) →
-          FailsToCommit Device desk after device next
+          HasCause {T = Unit {0}} MayMeetTheEnd then.failed next.failed (Err fault) →
+          (fault ≡ devices.PastEnd → length then.content ≤ page) → FailsToCommit Device desk after device next
       not_written fault cause past =
           (on desk now after so_far.keeps kept,
           risen_since device.failed then.failed next.failed so_far.later
           (write_failed fault page (length then.content) then.failed next.failed ((is_there page count told).1) cause.told
-          past cause.failed))
+          past (λ is. cause.failed (told_as fault devices.Device is))))
 
       pub unseen_still : StaysCommitted honest file journal moment left_since false then next →
           LeavesTheLast honest moment left_since device next
@@ -253,11 +256,13 @@ module _ {P : Type 0} (honest : Bool) (file : P → Pages) (journal : P → Opti
     not_noted after notes = (notes.becomes is.served (wrote.keeps.serves is.served is.serves).holds).failed
 
     pub not_synced : (next : DeviceState P) (fault : DeviceFault) →
-        HasCause MayOnlyFail then.failed next.failed (Err {T = Unit {0}} fault) → FailsToCommit Device desk mid device next
+        HasCause {T = Unit {0}} MayOnlyFail then.failed next.failed (Err fault) →
+        FailsToCommit Device desk mid device next
     not_synced next fault cause =
         (wrote.keeps,
         risen_since device.failed then.failed next.failed wrote.later
-        (sync_failed fault then.failed next.failed cause.told cause.failed))
+        (sync_failed fault then.failed next.failed cause.told
+        (λ is. cause.failed (told_as fault devices.Device is))))
 
     -- a crash meanwhile
     pub cut_short : (succeeded : Bool) (next : DeviceState P) → LeavesTheLast honest moment left_since device then →

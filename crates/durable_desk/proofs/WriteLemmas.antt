@@ -9,7 +9,7 @@ use Rattle.buffer_pool.specs.Pool.{PoolState}
 use Rattle.interleaving_core.specs.Renewing.{IsPage}
 use Rattle.session.specs.Session.{AreAsSaved, AreItsPages, SessionState, pages_of, saved_of}
 
-abbrev Pages : Type 0
+abbrev pub Pages : Type 0
 Pages = List (List ℕ)
 
 -- ---- a page as it is to be written
