@@ -4,6 +4,7 @@
 #include "held.h"
 #include "jobs.h"
 #include "request.h"
+#include "telling.h"
 #include "watch.h"
 
 #include <errno.h>
@@ -17,34 +18,6 @@
 enum { PATIENCE = 10 };
 
 /* ---- what is said */
-
-/* A refusal's sentence, which names the queue as the command line did; or what the system says. */
-static void complain_of(const struct request *it, int wrong) {
-    const char *reason = msgq_reason(), *at = strstr(reason, ": queue @");
-    if (wrong == EACCES && *reason == '\0')
-        complain("%s: queue %s%" PRIu32
-                 ": EACCES: its mode does not let the caller read and write, as what is given back asks for",
-                 it->file, it->queue.is_id ? "@" : "", it->queue.number);
-    else if (*reason == '\0')
-        complain("%s: %s", it->file, strerror(wrong));
-    else if (at == NULL || it->queue.is_id)
-        complain("%s", reason);
-    else
-        complain("%.*s: queue %" PRIu32 "%s", (int)(at - reason), reason, it->queue.number,
-                 at + 9 + strspn(at + 9, "0123456789"));
-}
-
-static int status_of(int wrong) {
-    static const int refusals[] = {E2BIG, EACCES, EEXIST, EIDRM, EINTR, EINVAL, ENOENT, EPERM, ENOSPC};
-    if (wrong == ENOMSG || wrong == EAGAIN)
-        return NOTHING;
-    if (msgq_last_fault() != 0)
-        return FAULT;
-    for (size_t at = 0; at < sizeof refusals / sizeof *refusals; at++)
-        if (refusals[at] == wrong)
-            return REFUSED;
-    return FAULT;
-}
 
 static void tell_hands(const struct request *it, const struct hands *hands) {
     if (hands->dropped > 0)
@@ -82,7 +55,7 @@ static int open_both(const struct request *it, msgq **queues, struct held *held)
         return wrong;
     }
     if (wrong != 0 && !(wrong == ENOENT && it->waits))
-        complain_of(it, wrong);
+        complain_of(it->file, &it->queue, wrong);
     return wrong;
 }
 
@@ -91,7 +64,7 @@ static int close_saved(const struct request *it, msgq *queues) {
     int wrong = msgq_close(queues);
     if (wrong == 0)
         return 0;
-    complain_of(it, wrong);
+    complain_of(it->file, &it->queue, wrong);
     (void)msgq_abandon(queues);
     return wrong;
 }
@@ -161,7 +134,7 @@ static enum look look(const struct request *it, struct held *held, struct look_o
     else if (wrong != 0)
         found = end_with(out, status_of(wrong));
     if (found == ENDED || (found == NONE && !it->waits))
-        complain_of(it, wrong);
+        complain_of(it->file, &it->queue, wrong);
     out->is_wary |= is_lost;
     bool has_changed = found == TAKEN || (found == NONE && out->hands.returned + out->hands.dropped > 0);
     if (has_changed && close_saved(it, queues) != 0)
@@ -233,14 +206,14 @@ static int settle(const struct request *it, const struct job *job, bool is_done)
     msgq *queues;
     int wrong = open_again(it, &queues);
     if (wrong != 0) {
-        complain_of(it, wrong);
+        complain_of(it->file, &it->queue, wrong);
         return EIO;
     }
     wrong = is_done ? job_finish(queues, job) : job_return(queues, job);
     if (wrong == 0 || (wrong == EIDRM && !is_done))
         return close_saved(it, queues) != 0 ? EIO : wrong;
     if (wrong != ENOENT)
-        complain_of(it, wrong);
+        complain_of(it->file, &it->queue, wrong);
     (void)msgq_abandon(queues);
     return wrong;
 }
@@ -303,7 +276,7 @@ static int recover(const struct request *it) {
     if (wrong == 0)
         wrong = hands_clear(queues, &held, &hands, &removed);
     if (wrong != 0) {
-        complain_of(it, wrong);
+        complain_of(it->file, &it->queue, wrong);
         (void)msgq_abandon(queues);
     } else {
         wrong = close_saved(it, queues);

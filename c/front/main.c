@@ -1,6 +1,7 @@
 /* The program `msgq`: the verbs of its table run here, over libmsgq; every other command is handed to the proved
  * program, which takes the place of this process. */
 #include "front.h"
+#include "served.h"
 
 #include <errno.h>
 #include <limits.h>
@@ -148,5 +149,8 @@ int main(int argc, char **argv) {
     /* `help do` is `do --help`. */
     if (argc == 3 && strcmp(argv[1], "help") == 0 && (verb = find_verb(argv[2])) != NULL)
         return verb->run(1, words);
+    int status;
+    if (argc > 1 && served_run(argc - 1, argv + 1, &status))
+        return status;
     return argc < 1 ? MISUSE : hand_over(argv);
 }
