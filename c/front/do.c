@@ -4,6 +4,7 @@
 #include "held.h"
 #include "jobs.h"
 #include "request.h"
+#include "served.h"
 #include "telling.h"
 #include "watch.h"
 
@@ -229,14 +230,8 @@ static void tell_return(const struct request *it, const struct job *job, const c
 }
 
 static int finish(const struct request *it, const struct job *job, const struct ending *ended) {
-    char how[128];
-    bool is_done = ended->wrong == 0 && WIFEXITED(ended->status) && WEXITSTATUS(ended->status) == 0;
-    if (ended->wrong != 0)
-        (void)snprintf(how, sizeof how, "can't be run: %s", strerror(ended->wrong));
-    else if (WIFSIGNALED(ended->status))
-        (void)snprintf(how, sizeof how, "was ended by signal %d", WTERMSIG(ended->status));
-    else
-        (void)snprintf(how, sizeof how, "ended with status %d", WEXITSTATUS(ended->status));
+    char how[ENDING_BYTES];
+    bool is_done = spell_ending(ended, how);
     int wrong = settle(it, job, is_done);
     if (!is_done || wrong != 0)
         tell_return(it, job, how, wrong);
@@ -247,6 +242,9 @@ static int finish(const struct request *it, const struct job *job, const struct 
 
 static int run_one(const struct request *it) {
     struct held held = {NOT_OPENED};
+    msgq *queues;
+    if (served_connect(it->file, &queues))
+        return do_served(it, queues);
     struct job job;
     sigset_t before;
     int status = take_in_time(it, &held, &job, &before);
@@ -267,6 +265,11 @@ static int recover(const struct request *it) {
     struct hands hands;
     msgq *queues;
     unsigned removed;
+    if (served_connect(it->file, &queues)) {
+        (void)msgq_abandon(queues);
+        complain("%s: it is served: its server gives back what dead workers had", it->file);
+        return REFUSED;
+    }
     int wrong = open_both(it, &queues, &held);
     if (wrong != 0)
         return FAULT;

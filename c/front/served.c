@@ -19,8 +19,7 @@ static const long SECOND = 1000000000; /* in nanoseconds */
 
 /* ---- the server */
 
-/* Whether a file is served, by the socket beside it; then the server is connected to. */
-static bool is_served(const char *file, msgq **queues) {
+bool served_connect(const char *file, msgq **queues) {
     char path[PATH_MAX];
     struct stat found;
     size_t length;
@@ -248,7 +247,7 @@ bool served_run(int count, char **words, int *status) {
     };
     struct errand it;
     msgq *queues;
-    if (!read_errand(&it, count, words) || !is_served(it.file, &queues))
+    if (!read_errand(&it, count, words) || !served_connect(it.file, &queues))
         return false;
     *status = begin_wait(&it) ? deeds[it.deed](queues, &it) : FAULT;
     (void)msgq_abandon(queues);
