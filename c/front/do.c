@@ -1,5 +1,6 @@
 /* `msgq do`: takes a message in hand, runs a command on it, and takes it out for good where that ends with 0. */
 #include "command.h"
+#include "ends.h"
 #include "front.h"
 #include "held.h"
 #include "jobs.h"
@@ -28,22 +29,12 @@ static void tell_hands(const struct request *it, const struct hands *hands) {
 
 /* ---- the file */
 
-/* How long it is to the end of a wait, 0 where that is over. */
-static struct timespec left_of(const struct request *it) {
-    struct timespec now, left = {0, 0};
-    if (clock_gettime(CLOCK_MONOTONIC, &now) != 0)
-        return left;
-    left.tv_sec = it->end.tv_sec - now.tv_sec - (it->end.tv_nsec < now.tv_nsec);
-    left.tv_nsec = it->end.tv_nsec - now.tv_nsec + (it->end.tv_nsec < now.tv_nsec ? 1000000000 : 0);
-    return left.tv_sec < 0 ? (struct timespec){0, 0} : left;
-}
-
 /* The most that is waited for a turn; NULL for no end. */
 static const struct timespec *limit_of(const struct request *it) {
     static struct timespec limit;
     if (it->waits && !it->has_end)
         return NULL;
-    limit = it->waits ? left_of(it) : (struct timespec){PATIENCE, 0};
+    limit = it->waits ? time_left(&it->end) : (struct timespec){PATIENCE, 0};
     return &limit;
 }
 

@@ -1,5 +1,6 @@
 /* `msgq do` on a file that is served: the server holds the message in hand, and gives it back where this process is gone. */
 #include "command.h"
+#include "ends.h"
 #include "front.h"
 #include "request.h"
 #include "telling.h"
@@ -10,22 +11,8 @@
 /* What is left of a wait; NULL for no end. */
 static const struct timespec *left_of(const struct request *it) {
     static struct timespec left;
-    struct timespec now;
-    if (!it->has_end)
-        return NULL;
-    left = (struct timespec){0, 0};
-    if (clock_gettime(CLOCK_MONOTONIC, &now) != 0)
-        return &left;
-    left.tv_sec = it->end.tv_sec - now.tv_sec - (it->end.tv_nsec < now.tv_nsec);
-    left.tv_nsec = it->end.tv_nsec - now.tv_nsec + (it->end.tv_nsec < now.tv_nsec ? 1000000000 : 0);
-    if (left.tv_sec < 0)
-        left = (struct timespec){0, 0};
-    return &left;
-}
-
-static bool is_over(const struct request *it) {
-    const struct timespec *left = left_of(it);
-    return left != NULL && left->tv_sec == 0 && left->tv_nsec == 0;
+    left = time_left(&it->end);
+    return it->has_end ? &left : NULL;
 }
 
 /* The queue that is named, which is waited for where that is asked for. */
@@ -35,7 +22,7 @@ static int find(const struct request *it, msgq *queues, uint32_t *id) {
     *id = it->queue.number;
     while (!it->queue.is_id) {
         int wrong = msgq_get(queues, it->queue.number, 0, id);
-        if (wrong != ENOENT || !it->waits || is_over(it))
+        if (wrong != ENOENT || !it->waits || (it->has_end && is_over(&it->end)))
             return wrong;
         if (!is_said)
             complain("%s: there is no such queue yet: waiting for it", it->file);

@@ -1,5 +1,6 @@
 /* Calls of a shell on a file that a server has open. Owners and modes hold: the system tells the server who calls. */
 #include "served.h"
+#include "ends.h"
 #include "errand.h"
 #include "front.h"
 #include "inputs.h"
@@ -14,8 +15,6 @@
 #include <string.h>
 #include <sys/stat.h>
 #include <unistd.h>
-
-static const long SECOND = 1000000000; /* in nanoseconds */
 
 /* ---- the server */
 
@@ -33,37 +32,17 @@ bool served_connect(const char *file, msgq **queues) {
 
 /* When a wait ends that begins now. */
 static bool begin_wait(struct errand *it) {
-    struct timespec now;
-    if (!it->has_limit)
+    if (!it->has_limit || end_after(&it->limit))
         return true;
-    if (clock_gettime(CLOCK_MONOTONIC, &now) != 0) {
-        complain("the clock: it can't be read: %s", strerror(errno));
-        return false;
-    }
-    it->limit.tv_sec += now.tv_sec + (it->limit.tv_nsec + now.tv_nsec) / SECOND;
-    it->limit.tv_nsec = (it->limit.tv_nsec + now.tv_nsec) % SECOND;
-    return true;
+    complain("the clock: it can't be read: %s", strerror(errno));
+    return false;
 }
 
 /* What is left of it; NULL for no end. */
 static const struct timespec *left_of(const struct errand *it) {
     static struct timespec left;
-    struct timespec now;
-    if (!it->has_limit)
-        return NULL;
-    left = (struct timespec){0, 0};
-    if (clock_gettime(CLOCK_MONOTONIC, &now) != 0)
-        return &left;
-    left.tv_sec = it->limit.tv_sec - now.tv_sec - (it->limit.tv_nsec < now.tv_nsec);
-    left.tv_nsec = it->limit.tv_nsec - now.tv_nsec + (it->limit.tv_nsec < now.tv_nsec ? SECOND : 0);
-    if (left.tv_sec < 0)
-        left = (struct timespec){0, 0};
-    return &left;
-}
-
-static bool is_over(const struct errand *it) {
-    const struct timespec *left = left_of(it);
-    return left != NULL && left->tv_sec == 0 && left->tv_nsec == 0;
+    left = time_left(&it->limit);
+    return it->has_limit ? &left : NULL;
 }
 
 /* ---- queues */
@@ -114,7 +93,7 @@ static int find_in_time(msgq *queues, const struct errand *it, uint32_t *id) {
     bool is_said = false;
     for (;;) {
         int wrong = find(queues, it, id);
-        if (wrong != ENOENT || !it->waits || is_over(it))
+        if (wrong != ENOENT || !it->waits || (it->has_limit && is_over(&it->limit)))
             return wrong;
         if (!is_said)
             complain("%s: queue %" PRIu32 ": it is not there yet, and is waited for", it->file, it->queue.number);
