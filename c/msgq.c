@@ -1,5 +1,5 @@
 /* The file and the lock: a handle is opened, saved and closed. */
-#include "queues.h"
+#include "opened.h"
 
 #include <errno.h>
 #include <stdio.h>
@@ -11,24 +11,21 @@ static const char UNOPENED[] = "it can't be opened";
 
 /* ---- the lock */
 
-int enter(msgq *queues, const struct timespec *end) {
-    nothing_is_wrong();
-    if (queues == NULL)
-        return fails(why(EINVAL, "there is none"), "the file", "the call is not made");
-    if (!is_own(queues))
-        return fails(why(ENOTSUP, "a parent of this process has opened it: the child opens it anew"), queues->name,
+int enter(struct opened_file *file, const struct timespec *end) {
+    if (!is_own(file))
+        return fails(why(ENOTSUP, "a parent of this process has opened it: the child opens it anew"), file->handle.name,
                      "the call is not made");
-    lock_take(&queues->lock, end);
+    lock_take(&file->lock, end);
     return 0;
 }
 
-int leave(msgq *queues, int wrong) {
-    lock_give(&queues->lock, false);
+int leave(struct opened_file *file, int wrong) {
+    lock_give(&file->lock, false);
     return wrong;
 }
 
-int leave_changed(msgq *queues, int wrong) {
-    lock_give(&queues->lock, wrong == 0);
+int leave_changed(struct opened_file *file, int wrong) {
+    lock_give(&file->lock, wrong == 0);
     return wrong;
 }
 
@@ -54,14 +51,14 @@ int msgq_create(const char *path, uint32_t pages) {
     return fails(wrong, name, "it can't be made");
 }
 
-static int open_session(msgq *queues) {
+static int open_session(struct opened_file *it) {
     uint8_t *bytes;
     size_t count;
     struct owner owner = own();
-    int wrong = pair_read(&queues->pair, &bytes, &count);
+    int wrong = pair_read(&it->pair, &bytes, &count);
     if (wrong != 0)
         return wrong;
-    uint32_t code = msgq_session_open(&queues->session, &owner, bytes, count);
+    uint32_t code = msgq_session_open(&it->session, &owner, bytes, count);
     if ((wrong = error_of(code)) == EBADMSG)
         tell_fault(code, bytes, count);
     free(bytes);
@@ -69,25 +66,25 @@ static int open_session(msgq *queues) {
 }
 
 /* Opens a file in a handle of zeros. */
-static int open_file(msgq *queues, const char *path) {
-    int wrong = pair_open(&queues->pair, path);
+static int open_file(struct opened_file *it, const char *path) {
+    int wrong = pair_open(&it->pair, path);
     if (wrong != 0)
         return wrong;
-    if ((wrong = open_session(queues)) == 0 && (wrong = lock_begin(&queues->lock)) != 0)
-        (void)msgq_session_close(&queues->session);
+    if ((wrong = open_session(it)) == 0 && (wrong = lock_begin(&it->lock)) != 0)
+        (void)msgq_session_close(&it->session);
     if (wrong != 0)
-        pair_close(&queues->pair);
+        pair_close(&it->pair);
     else
-        note_open(queues);
+        note_open(it);
     return wrong;
 }
 
 /* Opens a file once nobody else has it open, up to the end that there may be. */
-static int open_in_turn(msgq *queues, const char *path, const struct timespec *end) {
+static int open_in_turn(struct opened_file *it, const char *path, const struct timespec *end) {
     static const struct timespec nap = {0, 5000000};
     struct timespec left = nap;
     for (;;) {
-        int wrong = open_file(queues, path);
+        int wrong = open_file(it, path);
         if (wrong != EBUSY)
             return wrong;
         if (end != NULL && (wrong = left_until(end, &left)) != 0)
@@ -115,15 +112,16 @@ static int open_as(const char *path, msgq **queues, bool waits, const struct tim
         wrong = end_of(limit, &end);
     if (wrong != 0)
         return fails(wrong, name, UNOPENED);
-    msgq *made = calloc(1, sizeof *made);
+    struct opened_file *made = calloc(1, sizeof *made);
     if (made == NULL)
         return fails(ENOMEM, name, UNOPENED);
-    memcpy(made->name, name, sizeof name);
+    made->handle.calls = &OPENED_CALLS;
+    memcpy(made->handle.name, name, sizeof name);
     wrong = waits ? open_in_turn(made, path, limit == NULL ? NULL : &end) : open_file(made, path);
     if (wrong != 0)
         free(made);
     else
-        *queues = made;
+        *queues = &made->handle;
     return fails(wrong, name, UNOPENED);
 }
 
@@ -136,60 +134,53 @@ int msgq_open_wait(const char *path, const struct timespec *limit, msgq **queues
 }
 
 /* Saves, under the lock. */
-static int save(msgq *queues) {
-    if (queues->is_half_saved)
-        return fails(why(EIO, "an earlier save has failed: it is to be opened anew"), queues->name, "it can't be saved");
-    int wrong = pair_save(&queues->pair, &queues->session);
-    queues->is_half_saved = wrong != 0;
-    return fails(wrong, queues->name, "it can't be saved, and is to be opened anew");
+static int save(struct opened_file *file) {
+    const char *name = file->handle.name;
+    if (file->is_half_saved)
+        return fails(why(EIO, "an earlier save has failed: it is to be opened anew"), name, "it can't be saved");
+    int wrong = pair_save(&file->pair, &file->session);
+    file->is_half_saved = wrong != 0;
+    return fails(wrong, name, "it can't be saved, and is to be opened anew");
 }
 
-int msgq_save(msgq *queues) {
-    int wrong = enter(queues, NULL);
-    return wrong != 0 ? wrong : leave(queues, save(queues));
+int opened_save(msgq *queues) {
+    struct opened_file *file = opened_of(queues);
+    int wrong = enter(file, NULL);
+    return wrong != 0 ? wrong : leave(file, save(file));
 }
 
-static void let_go(msgq *queues) {
-    note_closed(queues);
-    (void)msgq_session_close(&queues->session);
-    pair_close(&queues->pair);
-    lock_give(&queues->lock, false);
-    lock_end(&queues->lock);
-    free(queues);
-}
-
-/* What lets a file go only where no call waits. */
-static int test_waits(const msgq *queues) {
-    if (queues->lock.waiting == 0)
-        return 0;
-    return fails(why(EBUSY, "%u of its calls wait: msgq_stop ends them", queues->lock.waiting), queues->name,
-                 "it can't be closed");
-}
-
-int msgq_close(msgq *queues) {
-    int wrong = enter(queues, NULL);
+/* Lets a file go, unless a call waits. */
+static int let_go(struct opened_file *file, bool saves) {
+    int wrong = enter(file, NULL);
     if (wrong != 0)
         return wrong;
-    if ((wrong = test_waits(queues)) != 0 || (wrong = save(queues)) != 0)
-        return leave(queues, wrong);
-    let_go(queues);
+    if (file->lock.waiting > 0)
+        wrong = fails(why(EBUSY, "%u of its calls wait: msgq_stop ends them", file->lock.waiting), file->handle.name,
+                      "it can't be closed");
+    if (wrong != 0 || (saves && (wrong = save(file)) != 0))
+        return leave(file, wrong);
+    note_closed(file);
+    (void)msgq_session_close(&file->session);
+    pair_close(&file->pair);
+    lock_give(&file->lock, false);
+    lock_end(&file->lock);
+    free(file);
     return 0;
 }
 
-int msgq_abandon(msgq *queues) {
-    int wrong = enter(queues, NULL);
-    if (wrong != 0)
-        return wrong;
-    if ((wrong = test_waits(queues)) != 0)
-        return leave(queues, wrong);
-    let_go(queues);
-    return 0;
+int opened_close(msgq *queues) {
+    return let_go(opened_of(queues), true);
 }
 
-int msgq_stop(msgq *queues) {
-    int wrong = enter(queues, NULL);
+int opened_abandon(msgq *queues) {
+    return let_go(opened_of(queues), false);
+}
+
+int opened_stop(msgq *queues) {
+    struct opened_file *file = opened_of(queues);
+    int wrong = enter(file, NULL);
     if (wrong != 0)
         return wrong;
-    wrong = error_of(msgq_session_stop(&queues->session));
-    return leave_changed(queues, fails(wrong, queues->name, "it can't be stopped"));
+    wrong = error_of(msgq_session_stop(&file->session));
+    return leave_changed(file, fails(wrong, queues->name, "it can't be stopped"));
 }

@@ -41,6 +41,7 @@ typedef struct msgq msgq;
 /* Flags of msgq_send and msgq_receive: IPC_NOWAIT and MSG_NOERROR. */
 #define MSGQ_NOWAIT 04000
 #define MSGQ_NOERROR 010000
+#define MSGQ_AGAIN 0100000
 
 /* No message has more bytes: send the name of a file in the place of what is longer. */
 #define MSGQ_MAX_BODY 1024
@@ -86,6 +87,9 @@ int msgq_open(const char *path, msgq **queues);
  * process sends to it or receives from it: who waits for another process closes it meanwhile. */
 int msgq_open_wait(const char *path, const struct timespec *limit, msgq **queues);
 
+int msgq_connect(const char *socket, msgq **queues);
+int msgq_attach(const char *path, msgq **queues);
+
 /* A limit of so many milliseconds; NULL, which is none, for a number below 0. It is the thread's, and stands until the thread
  * calls this again: msgq_receive(queues, id, 0, room, sizeof room, 0, msgq_within(50), &got). */
 const struct timespec *msgq_within(int64_t milliseconds);
@@ -102,6 +106,11 @@ int msgq_send(msgq *queues, uint32_t id, int64_t type, const void *body, size_t 
  * msgq_send does. got may be NULL. */
 int msgq_receive(msgq *queues, uint32_t id, int64_t type, void *room, size_t size, int flags,
                  const struct timespec *limit, struct msgq_message *got);
+
+int msgq_reserve(msgq *queues, uint32_t id, int64_t type, void *room, size_t size, int flags,
+                 const struct timespec *limit, struct msgq_message *got, uint32_t *holding);
+int msgq_acknowledge(msgq *queues, uint32_t holding);
+int msgq_release(msgq *queues, uint32_t holding);
 
 int msgq_stat(msgq *queues, uint32_t id, struct msgq_info *info);
 int msgq_set(msgq *queues, uint32_t id, const struct msgq_change *change);

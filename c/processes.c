@@ -1,5 +1,5 @@
 /* What becomes of the files that a process has open where it forks. */
-#include "queues.h"
+#include "opened.h"
 
 #include <errno.h>
 
@@ -8,7 +8,7 @@
  * its parent. Where a child was made without fork(2), msgq_close unlocks. */
 
 static pthread_mutex_t lock = PTHREAD_MUTEX_INITIALIZER;
-static msgq *first;
+static struct opened_file *first;
 static unsigned forks;
 
 static void before_fork(void) {
@@ -20,7 +20,7 @@ static void behind_fork(void) {
 }
 
 static void begin_child(void) {
-    for (msgq *it = first; it != NULL; it = it->next)
+    for (struct opened_file *it = first; it != NULL; it = it->next)
         pair_leave(&it->pair);
     first = NULL;
     forks++;
@@ -39,24 +39,24 @@ int begin_process(void) {
     return wrong != 0 ? wrong : told;
 }
 
-void note_open(msgq *queues) {
+void note_open(struct opened_file *file) {
     (void)pthread_mutex_lock(&lock);
-    queues->forks = forks;
-    queues->next = first;
-    first = queues;
+    file->forks = forks;
+    file->next = first;
+    first = file;
     (void)pthread_mutex_unlock(&lock);
 }
 
-void note_closed(msgq *queues) {
+void note_closed(struct opened_file *file) {
     (void)pthread_mutex_lock(&lock);
-    for (msgq **at = &first; *at != NULL; at = &(*at)->next)
-        if (*at == queues) {
-            *at = queues->next;
+    for (struct opened_file **at = &first; *at != NULL; at = &(*at)->next)
+        if (*at == file) {
+            *at = file->next;
             break;
         }
     (void)pthread_mutex_unlock(&lock);
 }
 
-bool is_own(const msgq *queues) {
-    return queues->forks == forks;
+bool is_own(const struct opened_file *file) {
+    return file->forks == forks;
 }

@@ -2,45 +2,61 @@
 #ifndef MSGQ_QUEUES_H
 #define MSGQ_QUEUES_H
 
-#include "lock.h"
 #include "msgq.h"
-#include "pair.h"
 #include "reason.h"
 
+/* ---- a handle */
+
+/* A handle is of one of two kinds: a file that this process has opened (opened.h), or a connection to a server (served.c). Each
+ * begins with this. */
 struct msgq {
-    struct lock lock;
-    struct handle session;
-    struct pair pair;
+    const struct calls *calls;
     char name[NAME_BYTES]; /* for sentences */
-    unsigned forks;        /* as many had led to the process that opened it */
-    bool is_half_saved;
-    struct msgq *next; /* of those that this process has open */
 };
 
-/* ---- processes */
+/* A message that is sent. */
+struct sending {
+    struct send_call call;
+    const uint8_t *body;
+    size_t length;
+    bool asks_again;
+    bool has_met; /* where there was no room: whether it is known what the queue was like */
+    struct info met;
+};
 
-/* Before the first file of a process is opened. */
-int begin_process(void);
+/* A message that is received or reserved. */
+struct receiving {
+    struct receive_call call;
+    uint8_t *room;
+    size_t size;
+    bool asks_again;
+    struct got got;
+    uint32_t holding; /* the id of the holding queue of one that is reserved */
+};
 
-/* A file of this process from here on, or no longer. */
-void note_open(msgq *queues);
-void note_closed(msgq *queues);
-
-/* Whether a file was opened by this process, and not by one that it was forked from. */
-bool is_own(const msgq *queues);
-
-/* ---- the lock */
-
-/* Takes the lock, unless the file was opened by the parent of this process. Whose end there is goes first once it is over. */
-int enter(msgq *queues, const struct timespec *end);
-
-/* Gives the lock back, and the number of an error on. */
-int leave(msgq *queues, int wrong);
-
-/* The same behind a call that has changed something where it went well: then who waits looks again. */
-int leave_changed(msgq *queues, int wrong);
+/* The calls of a kind, whose arguments were tested. Each gives 0 or the number of an error: a refusal, whose cause it may have noted, or
+ * another, of which it has said the sentence. Who waits has an end by CLOCK_MONOTONIC, or NULL. The moments of calls are not given. */
+struct calls {
+    int (*get)(msgq *, struct get_call *, uint32_t *id);
+    int (*send)(msgq *, struct sending *, const struct timespec *end);
+    int (*receive)(msgq *, struct receiving *, const struct timespec *end);
+    int (*reserve)(msgq *, struct receiving *, const struct timespec *end);
+    int (*settle)(msgq *, uint32_t holding, bool is_done); /* acknowledged, or released */
+    int (*stat)(msgq *, uint32_t id, struct info *);
+    int (*set)(msgq *, struct set_call *);
+    int (*remove)(msgq *, uint32_t id);
+    int (*list)(msgq *, uint32_t after, uint32_t *id);
+    /* These say their sentences themselves. */
+    int (*save)(msgq *);
+    int (*stop)(msgq *);
+    int (*close)(msgq *);
+    int (*abandon)(msgq *);
+};
 
 /* ---- time */
+
+/* The moment of a call. */
+uint64_t moment(void);
 
 /* Whether a limit is none that there can be. */
 bool is_wrong_limit(const struct timespec *limit);

@@ -83,9 +83,11 @@ static const char *name_of(int wrong) {
     return "error";
 }
 
-/* Writes the sentence of two beginnings, of which the second may be empty, and the cause. */
+/* Writes the sentence of two beginnings, of which the second may be empty, and the cause. One that was written of this call stays. */
 static int say(int wrong, const char *name, const char *what) {
     char room[128], fault[32] = "";
+    if (sentence[0] != '\0')
+        return wrong;
     if (cause[0] == '\0')
         (void)why(wrong, "%s", said(wrong, room, sizeof room));
     if (last_fault != 0)

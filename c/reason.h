@@ -25,7 +25,8 @@ int of_journal(int wrong);
 /* Notes the fault of a number of a session, and gives the number of the error. */
 int error_of(uint32_t code);
 
-/* The sentence that a file, or the program, is not dealt with as was asked: `NAME: what: cause`. Gives the number on; 0 stays. */
+/* The sentence that a file, or the program, is not dealt with as was asked: `NAME: what: cause`. Gives the number on; 0 stays. Of a call
+ * the first sentence stands. */
 int fails(int wrong, const char *name, const char *what);
 
 /* How a sentence names a queue. */

@@ -1,0 +1,56 @@
+/* A connection to a server's socket (docs/PROTOCOL.md): dialled, spoken on and listened to. It is of one thread of one process. Each
+ * function gives 0 or the number of an error. */
+#ifndef MSGQ_WIRE_H
+#define MSGQ_WIRE_H
+
+#include <stdbool.h>
+#include <stddef.h>
+#include <stdint.h>
+#include <sys/types.h>
+#include <sys/uio.h>
+
+/* What a server says of itself, first of all. */
+struct greeting {
+    uint32_t version, mode; /* 0 durable, 1 saved every so many milliseconds, 2 in memory */
+    uint64_t instance;      /* another for each start of a server */
+    uint32_t most;          /* bytes of a body */
+};
+
+struct wire {
+    int fd; /* -1 for none */
+    /* Which socket it is, since the program may have closed it and opened another of its number; and whose, since the server
+     * knows who it was when it was dialled. */
+    dev_t device;
+    ino_t inode;
+    pid_t pid;
+    uid_t uid;
+    gid_t gid;
+    struct greeting greeting;
+};
+
+#define NO_WIRE ((struct wire){.fd = -1})
+
+/* Dials a socket, and hears the greeting. ENOENT or ECONNREFUSED where nobody serves, ECONNRESET where the server ended meanwhile,
+ * ETIMEDOUT where it does not greet within ten seconds, EPROTO where that is another version's greeting or none. */
+int wire_dial(struct wire *it, const char *socket);
+
+/* Whether it is dialled, by this process with its effective user and group of now, and its number still that socket's. */
+bool wire_is_own(const struct wire *it);
+
+/* Whether this process has dialled it, and not the parent that it was forked from. */
+bool wire_is_of_process(const struct wire *it);
+
+/* Closes it, but not another file of its number. */
+void wire_hang_up(struct wire *it);
+
+/* Sends all of some parts, which it uses up. EPIPE where the server did not read them. */
+int wire_send(const struct wire *it, struct iovec *parts, size_t count);
+
+/* Receives what is there, some bytes at least, and tells how many: 0 at the end. EINTR behind the handler of a signal, also of one
+ * that restarts calls. ECONNRESET where the server ended and has not read all that was sent. */
+int wire_receive(const struct wire *it, const struct iovec *parts, size_t count, size_t *done);
+
+/* Takes so many bytes from the front of some parts, and tells how many parts are behind it. */
+size_t parts_skip(struct iovec *parts, size_t count, size_t done, struct iovec **left);
+
+#endif
