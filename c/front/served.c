@@ -160,14 +160,27 @@ static void print_message(const struct errand *it, const struct msgq_message *go
     (void)fwrite(room, 1, length, stdout);
 }
 
+/* Takes a message that is cut, or only if it is short enough: such a one is gone before it is printed. */
+static int receive_short(msgq *queues, const struct errand *it, uint32_t id, bool waits) {
+    uint8_t room[MSGQ_MAX_BODY];
+    struct msgq_message got;
+    int flags = (waits ? 0 : MSGQ_NOWAIT) | (it->may_cut ? MSGQ_NOERROR : 0);
+    int wrong = msgq_receive(queues, id, it->type, room, it->size, flags, waits ? left_of(it) : NULL, &got);
+    if (wrong != 0)
+        return wrong;
+    print_message(it, &got, room);
+    return is_out(it->file, "the message was taken, and is lost") ? 0 : EIO;
+}
+
 /* Takes one message in hand, prints it, and takes it out for good once standard output took it. */
 static int receive_one(msgq *queues, const struct errand *it, uint32_t id, bool waits) {
     uint8_t room[MSGQ_MAX_BODY];
     struct msgq_message got;
     uint32_t holding;
-    size_t size = it->size < sizeof room ? it->size : sizeof room;
-    int flags = (waits ? 0 : MSGQ_NOWAIT) | (it->may_cut ? MSGQ_NOERROR : 0);
-    int wrong = msgq_reserve(queues, id, it->type, room, size, flags, waits ? left_of(it) : NULL, &got, &holding);
+    if (it->size < sizeof room)
+        return receive_short(queues, it, id, waits);
+    int wrong = msgq_reserve(queues, id, it->type, room, sizeof room, waits ? 0 : MSGQ_NOWAIT, waits ? left_of(it) : NULL,
+                             &got, &holding);
     if (wrong != 0)
         return wrong;
     print_message(it, &got, room);
