@@ -234,7 +234,7 @@ static int finish(const struct request *it, const struct job *job, const struct 
 static int run_one(const struct request *it) {
     struct held held = {NOT_OPENED};
     msgq *queues;
-    if (served_connect(it->file, &queues))
+    if (connect_beside(it->file, &queues))
         return do_served(it, queues);
     struct job job;
     sigset_t before;
@@ -256,7 +256,7 @@ static int recover(const struct request *it) {
     struct hands hands;
     msgq *queues;
     unsigned removed;
-    if (served_connect(it->file, &queues)) {
+    if (connect_beside(it->file, &queues)) {
         (void)msgq_abandon(queues);
         complain("%s: it is served: its server gives back what dead workers had", it->file);
         return REFUSED;

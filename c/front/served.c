@@ -18,7 +18,7 @@
 
 /* ---- the server */
 
-bool served_connect(const char *file, msgq **queues) {
+bool connect_beside(const char *file, msgq **queues) {
     char path[PATH_MAX];
     struct stat found;
     size_t length;
@@ -239,7 +239,7 @@ bool served_run(int count, char **words, int *status) {
     };
     struct errand it;
     msgq *queues;
-    if (!read_errand(&it, count, words) || !served_connect(it.file, &queues))
+    if (!read_errand(&it, count, words) || !connect_beside(it.file, &queues))
         return false;
     *status = begin_wait(&it) ? deeds[it.deed](queues, &it) : FAULT;
     (void)msgq_abandon(queues);
