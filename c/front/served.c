@@ -25,7 +25,11 @@ bool connect_beside(const char *file, msgq **queues) {
     if (realpath(file, path) == NULL || (length = strlen(path)) + sizeof ".socket" > sizeof path)
         return false;
     memcpy(path + length, ".socket", sizeof ".socket");
-    return stat(path, &found) == 0 && S_ISSOCK(found.st_mode) && msgq_connect(path, queues) == 0;
+    if (stat(path, &found) != 0 || !S_ISSOCK(found.st_mode) || msgq_connect(path, queues) != 0)
+        return false;
+    (void)msgq_abandon(*queues);
+    /* So that sentences name the file. */
+    return msgq_attach(file, queues) == 0;
 }
 
 /* ---- waits */
@@ -242,6 +246,11 @@ bool served_run(int count, char **words, int *status) {
     if (!read_errand(&it, count, words) || !connect_beside(it.file, &queues))
         return false;
     *status = begin_wait(&it) ? deeds[it.deed](queues, &it) : FAULT;
-    (void)msgq_abandon(queues);
+    /* Where the server has ended meanwhile the file was opened in its place. */
+    int wrong = msgq_close(queues);
+    if (wrong != 0) {
+        complain_of(it.file, &it.queue, wrong);
+        *status = FAULT;
+    }
     return true;
 }
