@@ -59,6 +59,18 @@ void end_by(int number) {
     (void)sigprocmask(SIG_UNBLOCK, &set, NULL);
 }
 
+/* ---- how a command has ended */
+
+bool spell_ending(const struct ending *ended, char *how) {
+    if (ended->wrong != 0)
+        (void)snprintf(how, ENDING_BYTES, "can't be run: %s", strerror(ended->wrong));
+    else if (WIFSIGNALED(ended->status))
+        (void)snprintf(how, ENDING_BYTES, "was ended by signal %d", WTERMSIG(ended->status));
+    else
+        (void)snprintf(how, ENDING_BYTES, "ended with status %d", WEXITSTATUS(ended->status));
+    return ended->wrong == 0 && WIFEXITED(ended->status) && WEXITSTATUS(ended->status) == 0;
+}
+
 /* ---- a command */
 
 bool command_is_found(const char *name) {

@@ -14,6 +14,12 @@ struct ending {
     int signal; /* what told this process to end meanwhile, 0 for nothing */
 };
 
+/* As many bytes has the longest text of an ending. */
+enum { ENDING_BYTES = 128 };
+
+/* Spells how a command has ended, behind "the command"; whether it was done, which is that it ended with 0. */
+bool spell_ending(const struct ending *ended, char *how);
+
 /* The signals that tell this process to end, but for those that it ignores, are held back from here on; and no
  * longer.
  * */

@@ -1,9 +1,12 @@
 /* `msgq do`: takes a message in hand, runs a command on it, and takes it out for good where that ends with 0. */
 #include "command.h"
+#include "ends.h"
 #include "front.h"
 #include "held.h"
 #include "jobs.h"
 #include "request.h"
+#include "served.h"
+#include "telling.h"
 #include "watch.h"
 
 #include <errno.h>
@@ -18,34 +21,6 @@ enum { PATIENCE = 10 };
 
 /* ---- what is said */
 
-/* A refusal's sentence, which names the queue as the command line did; or what the system says. */
-static void complain_of(const struct request *it, int wrong) {
-    const char *reason = msgq_reason(), *at = strstr(reason, ": queue @");
-    if (wrong == EACCES && *reason == '\0')
-        complain("%s: queue %s%" PRIu32
-                 ": EACCES: its mode does not let the caller read and write, as what is given back asks for",
-                 it->file, it->queue.is_id ? "@" : "", it->queue.number);
-    else if (*reason == '\0')
-        complain("%s: %s", it->file, strerror(wrong));
-    else if (at == NULL || it->queue.is_id)
-        complain("%s", reason);
-    else
-        complain("%.*s: queue %" PRIu32 "%s", (int)(at - reason), reason, it->queue.number,
-                 at + 9 + strspn(at + 9, "0123456789"));
-}
-
-static int status_of(int wrong) {
-    static const int refusals[] = {E2BIG, EACCES, EEXIST, EIDRM, EINTR, EINVAL, ENOENT, EPERM, ENOSPC};
-    if (wrong == ENOMSG || wrong == EAGAIN)
-        return NOTHING;
-    if (msgq_last_fault() != 0)
-        return FAULT;
-    for (size_t at = 0; at < sizeof refusals / sizeof *refusals; at++)
-        if (refusals[at] == wrong)
-            return REFUSED;
-    return FAULT;
-}
-
 static void tell_hands(const struct request *it, const struct hands *hands) {
     if (hands->dropped > 0)
         complain("%s: %u jobs of dead workers are gone with their queues, which were removed", it->file,
@@ -54,22 +29,12 @@ static void tell_hands(const struct request *it, const struct hands *hands) {
 
 /* ---- the file */
 
-/* How long it is to the end of a wait, 0 where that is over. */
-static struct timespec left_of(const struct request *it) {
-    struct timespec now, left = {0, 0};
-    if (clock_gettime(CLOCK_MONOTONIC, &now) != 0)
-        return left;
-    left.tv_sec = it->end.tv_sec - now.tv_sec - (it->end.tv_nsec < now.tv_nsec);
-    left.tv_nsec = it->end.tv_nsec - now.tv_nsec + (it->end.tv_nsec < now.tv_nsec ? 1000000000 : 0);
-    return left.tv_sec < 0 ? (struct timespec){0, 0} : left;
-}
-
 /* The most that is waited for a turn; NULL for no end. */
 static const struct timespec *limit_of(const struct request *it) {
     static struct timespec limit;
     if (it->waits && !it->has_end)
         return NULL;
-    limit = it->waits ? left_of(it) : (struct timespec){PATIENCE, 0};
+    limit = it->waits ? time_left(&it->end) : (struct timespec){PATIENCE, 0};
     return &limit;
 }
 
@@ -82,7 +47,7 @@ static int open_both(const struct request *it, msgq **queues, struct held *held)
         return wrong;
     }
     if (wrong != 0 && !(wrong == ENOENT && it->waits))
-        complain_of(it, wrong);
+        complain_of(it->file, &it->queue, wrong);
     return wrong;
 }
 
@@ -91,7 +56,7 @@ static int close_saved(const struct request *it, msgq *queues) {
     int wrong = msgq_close(queues);
     if (wrong == 0)
         return 0;
-    complain_of(it, wrong);
+    complain_of(it->file, &it->queue, wrong);
     (void)msgq_abandon(queues);
     return wrong;
 }
@@ -161,7 +126,7 @@ static enum look look(const struct request *it, struct held *held, struct look_o
     else if (wrong != 0)
         found = end_with(out, status_of(wrong));
     if (found == ENDED || (found == NONE && !it->waits))
-        complain_of(it, wrong);
+        complain_of(it->file, &it->queue, wrong);
     out->is_wary |= is_lost;
     bool has_changed = found == TAKEN || (found == NONE && out->hands.returned + out->hands.dropped > 0);
     if (has_changed && close_saved(it, queues) != 0)
@@ -233,14 +198,14 @@ static int settle(const struct request *it, const struct job *job, bool is_done)
     msgq *queues;
     int wrong = open_again(it, &queues);
     if (wrong != 0) {
-        complain_of(it, wrong);
+        complain_of(it->file, &it->queue, wrong);
         return EIO;
     }
     wrong = is_done ? job_finish(queues, job) : job_return(queues, job);
     if (wrong == 0 || (wrong == EIDRM && !is_done))
         return close_saved(it, queues) != 0 ? EIO : wrong;
     if (wrong != ENOENT)
-        complain_of(it, wrong);
+        complain_of(it->file, &it->queue, wrong);
     (void)msgq_abandon(queues);
     return wrong;
 }
@@ -256,14 +221,8 @@ static void tell_return(const struct request *it, const struct job *job, const c
 }
 
 static int finish(const struct request *it, const struct job *job, const struct ending *ended) {
-    char how[128];
-    bool is_done = ended->wrong == 0 && WIFEXITED(ended->status) && WEXITSTATUS(ended->status) == 0;
-    if (ended->wrong != 0)
-        (void)snprintf(how, sizeof how, "can't be run: %s", strerror(ended->wrong));
-    else if (WIFSIGNALED(ended->status))
-        (void)snprintf(how, sizeof how, "was ended by signal %d", WTERMSIG(ended->status));
-    else
-        (void)snprintf(how, sizeof how, "ended with status %d", WEXITSTATUS(ended->status));
+    char how[ENDING_BYTES];
+    bool is_done = spell_ending(ended, how);
     int wrong = settle(it, job, is_done);
     if (!is_done || wrong != 0)
         tell_return(it, job, how, wrong);
@@ -274,6 +233,9 @@ static int finish(const struct request *it, const struct job *job, const struct 
 
 static int run_one(const struct request *it) {
     struct held held = {NOT_OPENED};
+    msgq *queues;
+    if (connect_beside(it->file, &queues))
+        return do_served(it, queues);
     struct job job;
     sigset_t before;
     int status = take_in_time(it, &held, &job, &before);
@@ -294,6 +256,11 @@ static int recover(const struct request *it) {
     struct hands hands;
     msgq *queues;
     unsigned removed;
+    if (connect_beside(it->file, &queues)) {
+        (void)msgq_abandon(queues);
+        complain("%s: it is served: its server gives back what dead workers had", it->file);
+        return REFUSED;
+    }
     int wrong = open_both(it, &queues, &held);
     if (wrong != 0)
         return FAULT;
@@ -303,7 +270,7 @@ static int recover(const struct request *it) {
     if (wrong == 0)
         wrong = hands_clear(queues, &held, &hands, &removed);
     if (wrong != 0) {
-        complain_of(it, wrong);
+        complain_of(it->file, &it->queue, wrong);
         (void)msgq_abandon(queues);
     } else {
         wrong = close_saved(it, queues);

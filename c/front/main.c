@@ -3,6 +3,7 @@
 #include "front.h"
 #include "groups.h"
 #include "proved.h"
+#include "served.h"
 
 #include <stdarg.h>
 #include <stdio.h>
@@ -95,5 +96,7 @@ int main(int argc, char **argv) {
     if (argc == 3 && strcmp(argv[1], "help") == 0 && (verb = find_verb(argv[2])) != NULL)
         return verb->run(1, words);
     int status = argc < 1 ? MISUSE : groups_resolve(argv);
-    return status != DONE ? status : proved_become(argv);
+    if (status != DONE || (argc > 1 && served_run(argc - 1, argv + 1, &status)))
+        return status;
+    return proved_become(argv);
 }

@@ -1,6 +1,7 @@
 /* The command line of `msgq do`. */
 #include "request.h"
 #include "command.h"
+#include "ends.h"
 #include "front.h"
 
 #include <errno.h>
@@ -45,13 +46,11 @@ static int misuse(const char *format, const char *word) {
 
 /* The moment so long from now. */
 static int begin_wait(struct request *it, const struct timespec *limit) {
-    if (clock_gettime(CLOCK_MONOTONIC, &it->end) != 0) {
-        complain("do: the clock can't be read: %s", strerror(errno));
-        return FAULT;
-    }
-    it->end.tv_sec += limit->tv_sec + (it->end.tv_nsec + limit->tv_nsec) / 1000000000;
-    it->end.tv_nsec = (it->end.tv_nsec + limit->tv_nsec) % 1000000000;
-    return DONE;
+    it->end = *limit;
+    if (end_after(&it->end))
+        return DONE;
+    complain("do: the clock can't be read: %s", strerror(errno));
+    return FAULT;
 }
 
 /* Reads `--wait`, whose seconds stand behind `=`, or are the next word where that is a number and two more words are

@@ -4,6 +4,8 @@
 
 #include "words.h"
 
+#include "../msgq.h"
+
 #include <time.h>
 
 struct request {
@@ -18,5 +20,8 @@ struct request {
 /* Reads the words behind the verb. DONE, MISUSE or FAULT, which was said; below 0 where help was asked for and given.
  * */
 int read_request(struct request *it, int count, char **at);
+
+/* Runs a command on a message of a file that is served, and hangs up. */
+int do_served(const struct request *it, msgq *queues);
 
 #endif
