@@ -13,6 +13,11 @@ abbrev pub TellsId : ℕ → Answer → Type 0
 TellsId told (answers.Id id) = told ≡ id
 TellsId told answer = ⊤
 
+-- the serial of a message
+abbrev pub TellsSerial : ℕ → Answer → Type 0
+TellsSerial told (answers.Sent serial) = told ≡ serial
+TellsSerial told answer = ⊤
+
 -- all that Stat tells of a queue
 pub record IsInfo (info : QueueInfo) (told : Info) : Type 0 where
   pub id : told.id ≡ info.id

@@ -4,7 +4,7 @@ ghost use Rattle.std.specs.Prelude.{◌≡◌, length, min};
 ghost use Rattle.queue_model.specs.declared.call.Call.TheVariants as calls;
 ghost use Rattle.msgq_c.specs.Arguments.{get_of, receive_of, send_of, set_of};
 ghost use Rattle.msgq_c.specs.Serving.{Serves};
-ghost use Rattle.msgq_c.specs.Telling.{TellsId, TellsInfo, TellsMessage, TellsNothing};
+ghost use Rattle.msgq_c.specs.Telling.{TellsId, TellsInfo, TellsMessage, TellsNothing, TellsSerial};
 
 use crate::arguments::{GetCall, ReceiveCall, SendCall, SetCall};
 use crate::codes::{NO_MEMORY, NO_SESSION, code_of};
@@ -44,8 +44,9 @@ pub extern "C" fn msgq_session_send(
     handle: &mut Handle,
     call: &SendCall,
     body: &[u8],
+    serial: &mut u64,
 ) -> u32
-    ensures { Serves (send_of call.now body.now) TellsNothing result
+    ensures { Serves (send_of call.now body.now) (TellsSerial serial.new) result
         handle.old.held.session handle.new.held.session }
 {
     if !handle.is_open {
@@ -54,9 +55,20 @@ pub extern "C" fn msgq_session_send(
     let Ok(bytes) = Vec::from_slice(alloc, body) else {
         return NO_MEMORY;
     };
-    let Some(result) = serve(alloc, handle, call.call(Body::new(bytes))) else {
+    put(alloc, handle, call.call(Body::new(bytes)), serial)
+}
+
+/// Makes a call that may put a message, and tells its serial.
+fn put(alloc: Global, handle: &mut Handle, call: Call, serial: &mut u64) -> u32
+    ensures { Serves call (TellsSerial serial.new) result
+        handle.old.held.session handle.new.held.session }
+{
+    let Some(result) = serve(alloc, handle, call) else {
         return NO_SESSION;
     };
+    if let Ok(Answer::Sent(sent)) = &result {
+        *serial = *sent;
+    }
     code_of(&result)
 }
 
