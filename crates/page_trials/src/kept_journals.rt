@@ -3,8 +3,9 @@
 use rollback_journal::SystemPair;
 use safe_device::page_device::{PAGE_BYTES, Page, PageDevice};
 use safe_device::{GuardedFile, Images, PageImage, PagePair, SafeDevice, recover};
-use std::fs::{self, OpenFile, OpenOptions};
+use std::fs::{self, File, OpenOptions};
 use std::os::unix::fs::FileExt;
+use std::process::Abort;
 use std::rt::Files;
 use std::test::Fail;
 
@@ -14,21 +15,24 @@ fn page_of(byte: u8) -> Page {
 }
 
 /// An open file of this name, which is made where there is none.
-fn opened<R: Files>(rt: &R, path: &str) -> Result<R::File, Fail> {
+fn opened<R: Files<File = File>>(rt: &R, path: &str) -> Result<File, Fail> {
     let mut how = OpenOptions::new();
     how.read(true).write(true).create(true);
     Ok(how.open(rt, path)?)
 }
 
 /// The file of the trials with its journal, as an opening has them.
-fn pair_of<R: Files>(rt: &R) -> Result<SystemPair<R::File>, Fail> {
+fn pair_of<R: Abort + Files<File = File>>(rt: &R) -> Result<SystemPair<File>, Fail> {
     let mut pair = SystemPair::new(opened(rt, "kept")?, opened(rt, "kept.journal")?)?;
     assert!(rt; recover(&mut pair).is_ok());
     Ok(pair)
 }
 
 /// Saves these pages, each full of a byte.
-fn save<R: Files + AllocGlobal>(rt: &R, pages: &[(u32, u8)]) -> Result<(), Fail> {
+fn save<R: Abort + Files<File = File> + AllocGlobal>(
+    rt: &R,
+    pages: &[(u32, u8)],
+) -> Result<(), Fail> {
     let mut device = SafeDevice::new(rt.alloc(), pair_of(rt)?)?;
     for (page, byte) in pages {
         assert!(rt; device.write(*page, &page_of(*byte)).is_ok());
@@ -38,7 +42,11 @@ fn save<R: Files + AllocGlobal>(rt: &R, pages: &[(u32, u8)]) -> Result<(), Fail>
 }
 
 /// Writes a page, and is cut off before its journal is ended.
-fn begin_a_save<R: Files + AllocGlobal>(rt: &R, page: u32, byte: u8) -> Result<(), Fail> {
+fn begin_a_save<R: Abort + Files<File = File> + AllocGlobal>(
+    rt: &R,
+    page: u32,
+    byte: u8,
+) -> Result<(), Fail> {
     let alloc = rt.alloc();
     let mut file = GuardedFile::new(alloc, pair_of(rt)?)?;
     let bytes = page_of(byte);
@@ -48,7 +56,7 @@ fn begin_a_save<R: Files + AllocGlobal>(rt: &R, page: u32, byte: u8) -> Result<(
 }
 
 /// The first byte of each page of the file.
-fn first_bytes<R: Files>(rt: &R) -> Result<[u8; 4], Fail> {
+fn first_bytes<R: Abort + Files<File = File>>(rt: &R) -> Result<[u8; 4], Fail> {
     let pair = pair_of(rt)?;
     let mut found = [0; 4];
     let mut page = page_of(0);
@@ -60,7 +68,7 @@ fn first_bytes<R: Files>(rt: &R) -> Result<[u8; 4], Fail> {
 }
 
 /// Bytes 0 to 7 and the number of the save of the journal's head, and how many bytes it has.
-fn head<R: Files>(rt: &R) -> Result<([u8; 8], u8, u64), Fail> {
+fn head<R: Abort + Files<File = File>>(rt: &R) -> Result<([u8; 8], u8, u64), Fail> {
     let mut bytes = [0; 24];
     let journal = opened(rt, "kept.journal")?;
     journal.read_exact_at(&mut bytes, 0)?;
