@@ -1,9 +1,11 @@
 //! The map of a file as JSON.
 
-ghost use Rattle.std.specs.Prelude.{◌≡◌, IfOk, OnErr, OnOk, map};
+ghost use Rattle.std.specs.Prelude.{◌≡◌, ◌∷◌, ◌++◌, [], false, IfOk, OnErr, OnOk, map, string_bytes};
 ghost use Rattle.msgq_cli.specs.Maps.{bucket_data, count, map_data, map_text};
 ghost use Rattle.msgq_cli.specs.Outputs.{Prints};
+ghost use Rattle.serde_json.specs.Data.{Data};
 ghost use Rattle.serde_json.specs.View.{view};
+ghost use Rattle.serde_json.specs.Written.{compact_text, has_float};
 
 use crate::file_map::{FileMap, MappedBucket};
 use crate::output::Output;
@@ -25,11 +27,33 @@ pub fn print_map<W: Write + Drop>(
     ensures ok { OnOk result (Prints output.old output.new (map_text map.now)) }
     ensures err { OnErr result (output.new ≡ output.old) }
 {
-    let value = map_object(alloc, map)?;
-    let text = value.to_string(alloc)?;
-    output.put(text.as_bytes());
-    output.put(b"\n");
+    let text = text_of(alloc, map)?;
+    put_line(text.as_bytes(), output);
     Ok(())
+}
+
+/// Prints a text and a line end.
+fn put_line<W: Write + Drop>(text: &[u8], output: &mut Output<W>)
+    ensures { Prints output.old output.new (text.now ++ 10 ∷ []) }
+{
+    output.put(text);
+    output.put(b"\n");
+}
+
+/// The text of a map, without space.
+fn text_of(alloc: Global, map: &FileMap) -> Result<String, NoMemory>
+    ensures { IfOk result (λ text. string_bytes text ≡ compact_text (map_data map.now)) }
+{
+    let value = map_object(alloc, map)?;
+    written(alloc, &value)
+}
+
+/// The text of a value without floats, without space.
+fn written(alloc: Global, value: &Value) -> Result<String, NoMemory>
+    ensures { (d : Data) → view value.now ≡ d → has_float d ≡ false →
+        IfOk result (λ text. string_bytes text ≡ compact_text d) }
+{
+    Ok(value.to_string(alloc)?)
 }
 
 /// The object of a map.
