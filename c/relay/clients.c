@@ -16,7 +16,7 @@
 #endif
 
 bool clients_begin(struct clients *it, uint32_t most) {
-    *it = (struct clients){.most = most, .places_count = 1};
+    *it = (struct clients){.most = most, .places_count = 1, .last_number = OWN_CONNECTION};
     while (it->places_count < most)
         it->places_count *= 2;
     it->places = calloc(it->places_count, sizeof *it->places);
@@ -64,7 +64,7 @@ static bool read_caller(struct clients *it, struct client *client) {
         return false;
     if (peer.pid == 0) {
         if (!it->has_told)
-            complain("a process of another pid namespace was refused, as all such are: nobody could tell it from others");
+            complain("a process of another pid namespace was refused, as all such are: it has no number here");
         it->has_told = true;
         return false;
     }
@@ -122,7 +122,7 @@ void clients_lose(struct clients *it, struct client *client) {
         return;
     client->is_gone = true;
     if (client->is_heard)
-        core_tell(it->core, client->number, GONE, &client->caller, NULL, 0);
+        core_tell(it->core, &(struct record){.connection = client->number, .kind = GONE, .caller = client->caller});
     close_both(client);
     *place_of(it, client->number) = client->next;
     it->count--;

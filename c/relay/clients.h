@@ -24,6 +24,8 @@ enum {
     /* No more is read from a client while so many bytes of its answers wait, or so many of its calls are under way. */
     MOST_OUT = 1 << 18,
     MOST_UNDER_WAY = 64,
+    /* The connection that the relay's own calls have: nobody's, so that their answers go nowhere. */
+    OWN_CONNECTION = 1,
     GREETING_BYTES = 36,
 };
 

@@ -39,7 +39,7 @@ void client_hand_over(struct clients *it, struct client *client) {
         client->is_held = !is_cancel && client->under_way >= MOST_UNDER_WAY;
         if (client->is_paused || client->is_held)
             return;
-        core_tell(it->core, client->number, REQUEST, &client->caller, at + 4, length);
+        core_tell(it->core, &(struct record){client->number, REQUEST, client->caller, at + 4, length});
         client->is_heard = it->has_traffic = true;
         client->under_way += !is_cancel;
         client->in_begin += 4 + (size_t)length;
@@ -120,7 +120,7 @@ bool client_put(struct clients *it, struct client *client, const uint8_t *bytes,
 static void end_behind(struct clients *it, struct client *client) {
     client->is_ending = true;
     client->is_heard = false;
-    core_tell(it->core, client->number, GONE, &client->caller, NULL, 0);
+    core_tell(it->core, &(struct record){.connection = client->number, .kind = GONE, .caller = client->caller});
 }
 
 void clients_answer(struct clients *it, const struct core_answer *answer) {
@@ -143,7 +143,8 @@ void clients_answer(struct clients *it, const struct core_answer *answer) {
 void client_flush(struct clients *it, struct client *client) {
     struct pipe_room *out = &client->out;
     while (!client->is_gone && out->begin < out->end) {
-        ssize_t done = send(client->socket.file, out->bytes + out->begin, out->end - out->begin, MSG_NOSIGNAL | MSG_DONTWAIT);
+        const uint8_t *at = out->bytes + out->begin;
+        ssize_t done = send(client->socket.file, at, out->end - out->begin, MSG_NOSIGNAL | MSG_DONTWAIT);
         if (done < 0 && errno == EINTR)
             continue;
         if (done < 0 && errno == EAGAIN)
