@@ -139,6 +139,10 @@ def rows_of_readers(room, server):
         client.call(f.remove, id)
 
 
+# Those that are made of one server.
+ROWS = rows_of_frames, rows_of_waits, rows_of_readers
+
+
 def rows_of_limits(room):
     path = room.file()
     limited = lambda: resource.setrlimit(resource.RLIMIT_NOFILE, (40, 40))  # noqa: E731
