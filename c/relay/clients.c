@@ -181,9 +181,14 @@ void clients_resume(struct clients *it) {
     each(it, resume);
 }
 
+static void stop(struct clients *it, struct client *client) {
+    client_refuse(it, client);
+    client_watch(it, client);
+}
+
 void clients_stop(struct clients *it) {
     it->is_stopped = true;
-    each(it, client_watch);
+    each(it, stop);
 }
 
 bool clients_wait(const struct clients *it) {

@@ -82,7 +82,7 @@ void clients_resume(struct clients *it);
 /* Writes what waits for those that have got something, and frees those that are gone. */
 void clients_flush(struct clients *it);
 
-/* Reads no more from anyone. */
+/* Reads no more from anyone, and answers what was read and not handed to the core that the server ends. */
 void clients_stop(struct clients *it);
 
 /* Whether any answer is not written yet. */

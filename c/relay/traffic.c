@@ -11,7 +11,7 @@
 enum {
     LEAST_FRAME = 12, MOST_FRAME = 1044, /* what follows the length */
     AT_OPERATION = 8, CANCEL = 11,
-    AT_CODE = 4, WRONG_FRAME = 203,
+    AT_CODE = 4, ENDS = 201, WRONG_FRAME = 203,
 };
 
 /* ---- what it asks */
@@ -42,6 +42,21 @@ void client_hand_over(struct clients *it, struct client *client) {
         core_tell(it->core, &(struct record){client->number, REQUEST, client->caller, at + 4, length});
         client->is_heard = it->has_traffic = true;
         client->under_way += !is_cancel;
+        client->in_begin += 4 + (size_t)length;
+    }
+}
+
+void client_refuse(struct clients *it, struct client *client) {
+    while (!client->is_gone && !client->is_ending && client->in_end - client->in_begin >= 4) {
+        const uint8_t *at = client->in + client->in_begin;
+        uint8_t answer[16] = {12};
+        uint32_t length = get_u32(at);
+        if (is_out_of_range(length) || client->in_end - client->in_begin < 4 + (size_t)length)
+            return;
+        put_u32(answer + 4, get_u32(at + 4));
+        put_u32(answer + 8, ENDS);
+        if (at[AT_OPERATION] != CANCEL && !client_put(it, client, answer, sizeof answer))
+            clients_lose(it, client);
         client->in_begin += 4 + (size_t)length;
     }
 }
@@ -84,7 +99,7 @@ void clients_hear(struct clients *it, struct client *client, uint32_t events) {
 
 /* Makes room for so many more bytes. */
 static bool grow(struct pipe_room *out, size_t count) {
-    if (out->begin > 0) {
+    if (out->begin >= out->size / 2 && out->begin > 0) {
         memmove(out->bytes, out->bytes + out->begin, out->end - out->begin);
         out->end -= out->begin;
         out->begin = 0;
