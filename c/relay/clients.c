@@ -43,7 +43,7 @@ static bool add(int epoll, struct watch *watch, uint32_t events) {
 
 void client_watch(struct clients *it, struct client *client) {
     bool has_out = client->out.begin < client->out.end;
-    bool is_read = !it->is_stopped && !client->is_ending && !client->is_held && !client->is_paused
+    bool is_read = !client->is_ending && !client->is_held && !client->is_paused
                 && client->out.end - client->out.begin <= MOST_OUT;
     uint32_t events = (is_read ? (uint32_t)EPOLLIN : 0) | (has_out ? (uint32_t)EPOLLOUT : 0);
     struct epoll_event event = {.events = events, .data.ptr = &client->socket};
@@ -171,7 +171,6 @@ static void each(struct clients *it, void (*act)(struct clients *, struct client
 static void resume(struct clients *it, struct client *client) {
     if (!client->is_paused)
         return;
-    client->is_paused = false;
     client_hand_over(it, client);
     client_watch(it, client);
 }
@@ -182,7 +181,7 @@ void clients_resume(struct clients *it) {
 }
 
 static void stop(struct clients *it, struct client *client) {
-    client_refuse(it, client);
+    client_hand_over(it, client);
     client_watch(it, client);
 }
 

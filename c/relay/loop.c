@@ -114,7 +114,7 @@ static void close_listener(struct relay *it) {
     it->muted_until = 0;
 }
 
-/* Asks for nothing more: what was asked is answered, and the rest can be asked again of the next server. */
+/* Hands nothing more to the core: what it was told is answered, and the rest can be asked again of the next server. */
 static void begin_end(struct relay *it) {
     if (it->phase != SERVING)
         return;

@@ -21,43 +21,50 @@ static bool is_out_of_range(uint32_t length) {
     return length < LEAST_FRAME || length > MOST_FRAME;
 }
 
-void client_hand_over(struct clients *it, struct client *client) {
-    client->is_held = false;
-    while (!client->is_gone && !client->is_ending && !it->is_stopped && client->in_end - client->in_begin >= 4) {
-        const uint8_t *at = client->in + client->in_begin;
-        uint32_t length = get_u32(at);
-        if (is_out_of_range(length)) {
+/* Takes the next whole frame, NULL where there is none yet. A client whose frames can't be told apart is lost. */
+static const uint8_t *next_frame(struct clients *it, struct client *client) {
+    const uint8_t *at = client->in + client->in_begin;
+    size_t count = client->in_end - client->in_begin;
+    if (client->is_gone || client->is_ending || count < 4)
+        return NULL;
+    if (is_out_of_range(get_u32(at))) {
+        clients_lose(it, client);
+        return NULL;
+    }
+    return count < 4 + (size_t)get_u32(at) ? NULL : at;
+}
+
+/* A cancel has no answer of its own, and may end what is under way. */
+static bool is_cancel(const uint8_t *frame) {
+    return frame[AT_OPERATION] == CANCEL;
+}
+
+/* Answers the frames that are there that the server ends. */
+static void refuse(struct clients *it, struct client *client) {
+    for (const uint8_t *at; (at = next_frame(it, client)) != NULL; client->in_begin += 4 + (size_t)get_u32(at)) {
+        uint8_t answer[16] = {12};
+        put_u32(answer + 4, get_u32(at + 4));
+        put_u32(answer + 8, ENDS);
+        if (!is_cancel(at) && !client_put(it, client, answer, sizeof answer))
             clients_lose(it, client);
-            return;
-        }
-        if (client->in_end - client->in_begin < 4 + (size_t)length)
-            break;
-        /* A cancel has no answer of its own, and may end what is under way. */
-        bool is_cancel = at[AT_OPERATION] == CANCEL;
-        client->is_paused = core_is_busy(it->core);
-        it->has_paused |= client->is_paused;
-        client->is_held = !is_cancel && client->under_way >= MOST_UNDER_WAY;
-        if (client->is_paused || client->is_held)
-            return;
-        core_tell(it->core, &(struct record){client->number, REQUEST, client->caller, at + 4, length});
-        client->is_heard = it->has_traffic = true;
-        client->under_way += !is_cancel;
-        client->in_begin += 4 + (size_t)length;
     }
 }
 
-void client_refuse(struct clients *it, struct client *client) {
-    while (!client->is_gone && !client->is_ending && client->in_end - client->in_begin >= 4) {
-        const uint8_t *at = client->in + client->in_begin;
-        uint8_t answer[16] = {12};
-        uint32_t length = get_u32(at);
-        if (is_out_of_range(length) || client->in_end - client->in_begin < 4 + (size_t)length)
+void client_hand_over(struct clients *it, struct client *client) {
+    const uint8_t *at;
+    client->is_held = client->is_paused = false;
+    if (it->is_stopped)
+        refuse(it, client);
+    while ((at = next_frame(it, client)) != NULL) {
+        client->is_paused = core_is_busy(it->core);
+        it->has_paused |= client->is_paused;
+        client->is_held = !is_cancel(at) && client->under_way >= MOST_UNDER_WAY;
+        if (client->is_paused || client->is_held)
             return;
-        put_u32(answer + 4, get_u32(at + 4));
-        put_u32(answer + 8, ENDS);
-        if (at[AT_OPERATION] != CANCEL && !client_put(it, client, answer, sizeof answer))
-            clients_lose(it, client);
-        client->in_begin += 4 + (size_t)length;
+        core_tell(it->core, &(struct record){client->number, REQUEST, client->caller, at + 4, get_u32(at)});
+        client->is_heard = it->has_traffic = true;
+        client->under_way += !is_cancel(at);
+        client->in_begin += 4 + (size_t)get_u32(at);
     }
 }
 
