@@ -64,6 +64,7 @@ class Server:
     def __init__(self, room, path, *words, front=None, is_ready=True, environment=None, **how):
         self.path, self.socket = path, path + ".socket"
         self.errors = tempfile.TemporaryFile("w+")
+        self.is_plain = front is None
         self.process = subprocess.Popen([front or room.usual, "serve", path, *words], stdin=subprocess.DEVNULL, stdout=subprocess.PIPE,
                                         stderr=self.errors, env={**os.environ, **(environment or {})}, text=True, **how)
         room.servers.append(self)
