@@ -374,14 +374,13 @@ int main(int argc, char **argv) {
     program = argv[1];
     path = argv[2];
     snprintf(socket_path, sizeof socket_path, "%s.socket", path);
-    uint32_t id;
     is(msgq_create(path, 300), 0, "create");
     without_server();
     serve();
     handles(argv[3]);
     msgq *queues = attached();
-    is(msgq_get(queues, 7, MSGQ_CREATE | 0600, &id), 0, "get");
-    is(id, 1, "its id");
+    uint32_t id;
+    is(msgq_get(queues, 7, MSGQ_CREATE | 0600, &id) == 0 && id == 1, 1, "a queue");
     messages(queues, id);
     queues_and_limits(queues, id);
     reservations(queues, id);
