@@ -327,8 +327,9 @@ static void tells_what_is_none(void) {
     fd = client();
     tell(fd, hear(fd, 4).number, 0, 0, fields, 71);
     gone(fd);
-    gone(taken(2));
-    fd = accept(listener, NULL, NULL);
+    greet(fd = accepted(), 2);
+    gone(fd);
+    fd = accepted();
     give(fd, "\40\0\0\0", 4);
     close(fd);
 }

@@ -49,21 +49,26 @@ static inline void give(int fd, const void *bytes, size_t count) {
     must(send(fd, bytes, count, MSG_NOSIGNAL) == (ssize_t)count, "send");
 }
 
-/* The next client, which is greeted. */
-static inline int taken(uint32_t version) {
-    uint8_t greeting[36] = {32};
+static inline int accepted(void) {
     int fd = accept(listener, NULL, NULL);
     must(fd >= 0, "accept");
+    return fd;
+}
+
+static inline void greet(int fd, uint32_t version) {
+    uint8_t greeting[36] = {32};
     put_number(greeting + 12, version, 4);
     put_number(greeting + 16, 2, 4);
     put_number(greeting + 20, 0x1122334455667788, 8);
     put_number(greeting + 28, 1024, 4);
     give(fd, greeting, sizeof greeting);
-    return fd;
 }
 
+/* The next client, which is greeted. */
 static inline int client(void) {
-    return taken(1);
+    int fd = accepted();
+    greet(fd, 1);
+    return fd;
 }
 
 /* Hears a request of this operation. */

@@ -99,12 +99,13 @@ long __wrap_syscall(long call, ...) {
 static void answers_all(void) {
     signal(SIGCHLD, SIG_IGN);
     for (;;) {
-        int fd = client();
+        int fd = accepted();
         if (fork() == 0) {
             struct pollfd at = {.fd = fd, .events = POLLIN};
             char byte;
-            /* (a client that has gone is not told) */
+            /* (a client may be gone by now, of which nothing is said) */
             close(2);
+            greet(fd, 1);
             while (__real_poll(&at, 1, 10000) == 1 && recv(fd, &byte, 1, MSG_PEEK) == 1) {
                 struct heard it = hear(fd, byte == 20 + 4 ? 3 : 7);
                 tell(fd, it.number, it.operation == 3 ? 7 : 0, 1, NULL, 0);
