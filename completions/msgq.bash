@@ -2,7 +2,7 @@
 
 _msgq() {
     local word=${COMP_WORDS[COMP_CWORD]} before=${COMP_WORDS[COMP_CWORD - 1]} command= at
-    local commands='new run replay check stat migrate copy grow salvage send receive peek do serve list make remove set help'
+    local commands='new run replay check stat migrate copy grow salvage send receive peek do serve with list make remove set help'
     local callers='--pid --uid --gid --help'
     for ((at = 1; at < COMP_CWORD; at++)); do
         [[ ${COMP_WORDS[at]} == -* ]] && continue
@@ -41,6 +41,7 @@ _msgq() {
         do) options='--type -t --wait -w --recover --help -h' ;;
         serve)
             options='--socket -s --mode --group --durable --every --in-memory --create -c --pages -p --clients --waits --help -h' ;;
+        with) options='--pages -p --help -h' ;;
         list) options='--json --help' ;;
         make) options="--mode --qbytes --owner --group --shared $callers" ;;
         remove) options=$callers ;;
