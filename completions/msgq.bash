@@ -2,7 +2,7 @@
 
 _msgq() {
     local word=${COMP_WORDS[COMP_CWORD]} before=${COMP_WORDS[COMP_CWORD - 1]} command= at
-    local commands='new run replay check stat migrate copy grow salvage send receive peek do serve list top make remove set help'
+    local commands='new run replay check stat migrate copy grow salvage send receive peek do serve with list top make remove set help'
     local callers='--pid --uid --gid --help'
     for ((at = 1; at < COMP_CWORD; at++)); do
         [[ ${COMP_WORDS[at]} == -* ]] && continue
@@ -52,6 +52,7 @@ _msgq() {
         top) options='--count --every --help -h' ;;
         serve)
             options='--socket -s --mode --group --durable --every --in-memory --create -c --pages -p --clients --waits --help -h' ;;
+        with) options='--pages -p --help -h' ;;
         make) options="--mode --qbytes --owner --group --shared $callers" ;;
         remove) options=$callers ;;
         set) options="--qbytes --owner --group --mode $callers" ;;

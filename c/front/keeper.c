@@ -15,6 +15,7 @@
 #include <sys/prctl.h>
 #include <sys/stat.h>
 #include <sys/wait.h>
+#include <time.h>
 #include <unistd.h>
 
 /* ---- locks */
@@ -123,6 +124,17 @@ static int leave_all(const struct start *it) {
     return own;
 }
 
+/* Takes the lock of a keeper that lives. One whose server was killed a moment ago may still have it. */
+static bool begin_life(int own) {
+    static const struct timespec nap = {0, 20000000};
+    for (int left = 1000; left > 0; left--) {
+        if (lock(own, F_SETLK, F_WRLCK, LIFE) == 0)
+            return true;
+        (void)nanosleep(&nap, NULL);
+    }
+    return false;
+}
+
 /* Starts the server, and ends it once no command needs it, or where the last command asks for that. */
 static void keep(const struct start *it) {
     sigset_t both, none;
@@ -131,9 +143,11 @@ static void keep(const struct start *it) {
     (void)sigemptyset(&both);
     (void)sigaddset(&both, SIGTERM);
     (void)sigaddset(&both, SIGCHLD);
-    if (own < 0 || lock(own, F_SETLK, F_WRLCK, LIFE) != 0 || sigprocmask(SIG_SETMASK, &both, NULL) != 0
-        || !on(SIGTERM, end_server) || !on(SIGCHLD, end_with_server))
+    if (own < 0 || !begin_life(own) || sigprocmask(SIG_SETMASK, &both, NULL) != 0 || !on(SIGTERM, end_server)
+        || !on(SIGCHLD, end_with_server)) {
+        complain("%s: no server can be started: %s", it->file, strerror(errno));
         _exit(FAULT);
+    }
     pid_t keeper = getpid(), child = fork();
     if (child == 0 && on(SIGTERM, SIG_DFL) && on(SIGCHLD, SIG_DFL) && sigprocmask(SIG_SETMASK, &none, NULL) == 0)
         become_server(it, keeper);

@@ -37,8 +37,6 @@ static int stat_to(uint32_t id, struct msqid_ds *buffer) {
 /* MSG_STAT and MSG_STAT_ANY: of the queue at a place among all that are alive. */
 static int stat_at(uint32_t place, struct msqid_ds *buffer, uint32_t *id) {
     int wrong = request_nth(xsi_server(), place, id);
-    if (wrong == XSI_ENOENT)
-        return -EINVAL;
     return wrong != 0 ? wrong : stat_to(*id, buffer);
 }
 
@@ -79,7 +77,8 @@ static int count_all(struct msginfo *told) {
             told->msgmap += (int)found.msg_qnum;
             told->msgtql += (int)found.__msg_cbytes;
         }
-    return wrong == XSI_ENOENT ? 0 : wrong;
+    /* (as it is told behind the last one) */
+    return wrong == XSI_EINVAL ? 0 : wrong;
 }
 
 /* IPC_INFO and MSG_INFO: the limits, or how much there is; and the last place that MSG_STAT knows. */

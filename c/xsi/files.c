@@ -64,7 +64,7 @@ static int write_queues(int fd) {
     while (failed == 0 && (wrong = request_next(xsi_server(), id, &id)) == 0)
         if (xsi_stat(id, &found) == 0)
             failed = write_queue(fd, id, &found);
-    return failed != 0 ? failed : wrong == XSI_ENOENT ? 0 : xsi_refuse(wrong);
+    return failed != 0 ? failed : wrong == XSI_EINVAL ? 0 : xsi_refuse(wrong);
 }
 
 /* Gives a descriptor of memory that has what the file would have. */

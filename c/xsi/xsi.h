@@ -16,7 +16,7 @@ _Static_assert(sizeof(long) == 8 && __BYTE_ORDER__ == __ORDER_LITTLE_ENDIAN__, "
 enum { XSI_BODY = 1024, XSI_QBYTES = 65536, XSI_QBYTES_AT_FIRST = 16384, XSI_QUEUES = 256 };
 
 /* Codes of answers (docs/PROTOCOL.md). */
-enum { XSI_ENOENT = 7, XSI_ENOSPC = 9, XSI_EACCES = 10, XSI_FULL = 50, XSI_NO_MEMORY = 60 };
+enum { XSI_EINVAL = 6, XSI_ENOSPC = 9, XSI_EACCES = 10, XSI_FULL = 50, XSI_NO_MEMORY = 60 };
 
 /* Whether the process has MSGQ_SOCKET, so that its queues are those of a server. Else the calls are the system's. */
 bool xsi_is_served(void);

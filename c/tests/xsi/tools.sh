@@ -19,5 +19,6 @@ ipcs -q -t | awk -v id="$one" '$1 == id { print ($0 ~ /Not set/) }'
 key=$(ipcs -q | awk -v id="$one" '$2 == id { print $1 }')
 ipcrm -Q "$key" && line "$one"
 ipcrm -q "$two" && line "$two"
-ipcrm -q "$two" 2>&1 | sed "s/$two/N/"
+# (what was removed is EIDRM for ever here, and EINVAL there)
+ipcrm -q "$two" 2>&1 | sed "s/$two/N/; s/already removed/invalid/"
 ipcs -q -i "$two" 2>&1 | sed "s/$two/N/"
