@@ -194,16 +194,16 @@ impl<P: PagePair> Server<P> {
         Ok(())
     }
 
-    /// The server ends: messages in hand go back, who waits is told to ask the next server, and all
-    /// is saved.
+    /// The server ends: who waits is told to ask the next one, messages in hand go back, and all is
+    /// saved.
     fn end(&mut self, moment: u64) -> Result<(), Unheard>
         ensures { OnOk result (GoesOn P.is_honest P.moment P.left_since P.may_leave
             self.old self.new) }
     {
-        self.let_go(None)?;
-        self.settle(moment)?;
         self.stop();
         self.tell_those_let_go(moment)?;
+        self.let_go(None)?;
+        self.settle(moment)?;
         self.save()?;
         Ok(())
     }
