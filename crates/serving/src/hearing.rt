@@ -93,13 +93,22 @@ impl<P: PagePair> Server<P> {
                 let _ = self.make(client, caller, call)?;
                 self.settle(moment)
             }
-            Operation::Next { after } => self.say(client, &found(self.queues.behind(after))),
-            Operation::Nth { place } => self.say(client, &found(self.queues.nth(place))),
+            Operation::Next { after } => {
+                let note = found(self.queues.behind(after));
+                self.say(client, &note)
+            }
+            Operation::Nth { place } => {
+                let note = found(self.queues.nth(place));
+                self.say(client, &note)
+            }
             Operation::Save => {
                 self.save()?;
                 self.say(client, &Note::code(DONE))
             }
-            Operation::Info => self.say(client, &Note::Counts(self.counts())),
+            Operation::Info => {
+                let note = Note::Counts(self.counts());
+                self.say(client, &note)
+            }
             Operation::Cancel { number } => self.cancel(client_of(connection, number), moment),
             Operation::Reserve { .. } | Operation::Acknowledge { .. } | Operation::Release { .. } =>
                 {
