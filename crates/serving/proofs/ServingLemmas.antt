@@ -4,7 +4,7 @@ use Rattle.safe_device.specs.Left.{Left}
 use Rattle.durable_desk.specs.Durable.{DurableState}
 use Rattle.durable_desk.specs.History.{Event, HappenAlong, Happens, NoneFails, is_failure}
 use Rattle.serving.specs.Serving.{Comes, Deed, Says, ServerState, Works, events, said, said_by}
-use Rattle.serving.specs.Told.{note_bytes, record_to}
+use Rattle.serving.specs.Told.{note_parts, record_to}
 use Rattle.serving.specs.declared.note.Note.{Note}
 
 -- ---- lists of deeds
@@ -60,7 +60,7 @@ module _ {P : Type 0} (honest : Bool) (moment : P → ℕ) (left_since : P → �
 
     -- a client is told something
     pub says : (client : ℕ) (note : Note) → new.desk ≡ old.desk →
-        new.held ≡ old.held ++ record_to client (note_bytes note) →
+        new.held ≡ old.held ++ record_to client (note_parts note) →
         Comes honest moment left_since may_leave first new
     says client note same held = record {
       deeds = comes.deeds ++ Says client note ∷ [];

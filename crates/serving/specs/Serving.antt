@@ -3,7 +3,7 @@ use Rattle.std.specs.Prelude.{ℕ, ◌≡◌, ◌++◌, Bool, false, List, [], �
 use Rattle.safe_device.specs.Left.{Left}
 use Rattle.durable_desk.specs.Durable.{DurableState}
 use Rattle.durable_desk.specs.History.{Commit, Does, Event, HappenAlong, Happens, NoneFails, is_failure}
-use Rattle.serving.specs.Told.{note_bytes, record_to, told_by}
+use Rattle.serving.specs.Told.{note_parts, record_to, told_by}
 use Rattle.serving.specs.declared.durability.Durability.{Durability}
 use Rattle.serving.specs.declared.note.Note.{Note}
 
@@ -24,7 +24,7 @@ pub data Deed : Type 0 where
 abbrev pub said_by : Deed → List ℕ
 said_by (Works (Does e)) = told_by e
 said_by (Works (Commit told)) = []
-said_by (Says client note) = record_to client (note_bytes note)
+said_by (Says client note) = record_to client (note_parts note)
 
 abbrev pub said : List Deed → List ℕ
 said [] = []

@@ -93,13 +93,22 @@ impl<P: PagePair> Server<P> {
                 let _ = self.make(client, caller, call)?;
                 self.settle(moment)
             }
-            Operation::Next { after } => self.say(client, &found(self.queues.behind(after))),
-            Operation::Nth { place } => self.say(client, &found(self.queues.nth(place))),
+            Operation::Next { after } => {
+                let note = found(self.queues.behind(after));
+                self.say(client, &note)
+            }
+            Operation::Nth { place } => {
+                let note = found(self.queues.nth(place));
+                self.say(client, &note)
+            }
             Operation::Save => {
                 self.save()?;
                 self.say(client, &Note::code(DONE))
             }
-            Operation::Info => self.say(client, &Note::Counts(self.counts())),
+            Operation::Info => {
+                let note = Note::Counts(self.counts());
+                self.say(client, &note)
+            }
             Operation::Cancel { number } => self.cancel(client_of(connection, number), moment),
             Operation::Reserve { .. } | Operation::Acknowledge { .. } | Operation::Release { .. } =>
                 {
@@ -194,16 +203,16 @@ impl<P: PagePair> Server<P> {
         Ok(())
     }
 
-    /// The server ends: messages in hand go back, who waits is told to ask the next server, and all
-    /// is saved.
+    /// The server ends: who waits is told to ask the next one, messages in hand go back, and all is
+    /// saved.
     fn end(&mut self, moment: u64) -> Result<(), Unheard>
         ensures { OnOk result (GoesOn P.is_honest P.moment P.left_since P.may_leave
             self.old self.new) }
     {
-        self.let_go(None)?;
-        self.settle(moment)?;
         self.stop();
         self.tell_those_let_go(moment)?;
+        self.let_go(None)?;
+        self.settle(moment)?;
         self.save()?;
         Ok(())
     }

@@ -3,7 +3,7 @@
 ghost use Rattle.std.specs.Prelude.{◌≡◌, ◌++◌, [], OnOk};
 ghost use Rattle.frames.specs.Answers.{told};
 ghost use Rattle.serving.specs.Clients.{connection_of, number_of};
-ghost use Rattle.serving.specs.Told.{code_bytes, note_bytes, record_to, told_of};
+ghost use Rattle.serving.specs.Told.{code_parts, note_parts, record_to, told_of};
 
 use crate::client::{connection_of, number_of};
 use crate::note::Note;
@@ -69,7 +69,7 @@ impl Outbox {
 
     /// A client is told what the server says of its own.
     pub fn note(&mut self, client: u64, note: &Note) -> Result<(), NoMemory>
-        ensures { OnOk result (self.new ≡ self.old ++ record_to client (note_bytes note.now)) }
+        ensures { OnOk result (self.new ≡ self.old ++ record_to client (note_parts note.now)) }
     {
         match note {
             Note::Code { code, value } => self.put_code(client, *code, *value),
@@ -88,7 +88,7 @@ impl Outbox {
 
     /// A client is told a code, and a value where that is 0.
     fn put_code(&mut self, client: u64, code: u32, value: u32) -> Result<(), NoMemory>
-        ensures { OnOk result (self.new ≡ self.old ++ record_to client (code_bytes code value)) }
+        ensures { OnOk result (self.new ≡ self.old ++ record_to client (code_parts code value)) }
     {
         self.put(client, &Reply::Number { code, value })
     }
