@@ -86,12 +86,13 @@ module _ {P : Type 0} (honest : Bool) (file : P → Pages) (journal : P → Opti
     usable = is.usable;
     later = omega arith;
     stays = λ sound. is.kept sound _ (seen sound);
-    unseen = λ sound. started moment left_since may_leave device.pair (StandsFor device.content) only_now (is.kept sound);
+    unseen = λ sound.
+        started moment left_since may_leave device.pair (StandsFor device.content) only_now (is.kept sound);
     none = λ zero. (refl, refl);
   }
 
-  module _ (from : ℕ) (desk now : DeskState) (device then : DeviceState P) (is : IsCommitted honest may_leave desk device)
-      (so_far : IsWriting from desk now device then) where
+  module _ (from : ℕ) (desk now : DeskState) (device then : DeviceState P)
+      (is : IsCommitted honest may_leave desk device) (so_far : IsWriting from desk now device then) where
     serves_now : Serves is.served now
     serves_now = so_far.keeps.serves is.served is.serves
 
@@ -156,11 +157,12 @@ module _ {P : Type 0} (honest : Bool) (file : P → Pages) (journal : P → Opti
       pub not_written : (fault : DeviceFault) →
           HasCause {T = Unit {0}} MayMeetTheEnd then.failed next.failed (Err fault) →
           (fault ≡ devices.PastEnd → length then.content ≤ page) → FailsToCommit Device desk after device next
-      not_written fault cause past =
-          (on desk now after so_far.keeps kept,
-          risen_since device.failed then.failed next.failed so_far.later
-          (write_failed fault page (length then.content) then.failed next.failed ((is_there page count told).1) cause.told
-          past (λ is. cause.failed (told_as fault devices.Device is))))
+      not_written fault cause past = (
+        on desk now after so_far.keeps kept,
+        risen_since device.failed then.failed next.failed so_far.later
+            (write_failed fault page (length then.content) then.failed next.failed ((is_there page count told).1)
+            cause.told past (λ is. cause.failed (told_as fault devices.Device is))),
+      )
 
       pub unseen_still : StaysCommitted honest file journal moment left_since false then next →
           LeavesTheLast honest moment left_since device next
@@ -207,7 +209,8 @@ module _ {P : Type 0} (honest : Bool) (file : P → Pages) (journal : P → Opti
 
   -- ---- they are synced, and it is noted
 
-  module _ (some : Bool) (desk mid : DeskState) (device then : DeviceState P) (is : IsCommitted honest may_leave desk device)
+  module _ (some : Bool) (desk mid : DeskState) (device then : DeviceState P)
+      (is : IsCommitted honest may_leave desk device)
       (wrote : HasWritten honest file journal some desk mid device then) (law : PagesAreTheFile) where
     is_file : IsTrue honest → (s : State) → Serves s desk → IsFileOf sha_key then.content (restarted s)
     is_file sound s serves =
@@ -239,7 +242,8 @@ module _ {P : Type 0} (honest : Bool) (file : P → Pages) (journal : P → Opti
         many = ap length same ∙ wrote.many ∙ sym notes.many ∙ sym all.all.many;
         saved = λ sound.
             same ∙ same_pages then.content (saved_of after.session) after.session
-            (still_its then.content mid.session after.session all.images notes.many (wrote.its sound is.served is.serves))
+            (still_its then.content mid.session after.session all.images notes.many
+            (wrote.its sound is.served is.serves))
             all.all;
         kept = λ sound.
             subst (λ (pages : Pages). Keeps (StandsFor pages) (may_leave next.pair)) (sym same) (durable sound);
@@ -258,11 +262,12 @@ module _ {P : Type 0} (honest : Bool) (file : P → Pages) (journal : P → Opti
     pub not_synced : (next : DeviceState P) (fault : DeviceFault) →
         HasCause {T = Unit {0}} MayOnlyFail then.failed next.failed (Err fault) →
         FailsToCommit Device desk mid device next
-    not_synced next fault cause =
-        (wrote.keeps,
-        risen_since device.failed then.failed next.failed wrote.later
-        (sync_failed fault then.failed next.failed cause.told
-        (λ is. cause.failed (told_as fault devices.Device is))))
+    not_synced next fault cause = (
+      wrote.keeps,
+      risen_since device.failed then.failed next.failed wrote.later
+          (sync_failed fault then.failed next.failed cause.told
+          (λ is. cause.failed (told_as fault devices.Device is))),
+    )
 
     -- a crash meanwhile
     pub cut_short : (succeeded : Bool) (next : DeviceState P) → LeavesTheLast honest moment left_since device then →

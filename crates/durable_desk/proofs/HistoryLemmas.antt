@@ -176,9 +176,10 @@ module _ {P : Type 0} (honest : Bool) (moment : P → ℕ) (left_since : P → �
           now = λ sound none. more_lost s entries first.entries then.device.content
               (now_by entries t d then so_far e fine happens sound none);
         } in
-        let more = along es (entries ++ first.entries) first.after then new next rest others in
-        (served_on (deed_of e) (at_desk es) t d.desk then.desk new.desk first more.0,
-        subst (λ (all : List Entry). IsFound all new) (append_assoc entries first.entries more.0.entries) more.1)
+        let more = along es (entries ++ first.entries) first.after then new next rest others in (
+          served_on (deed_of e) (at_desk es) t d.desk then.desk new.desk first more.0,
+          subst (λ (all : List Entry). IsFound all new) (append_assoc entries first.entries more.0.entries) more.1,
+        )
 
 -- ---- the laws
 
@@ -214,17 +215,18 @@ module _ {P : Type 0} (honest : Bool) (moment : P → ℕ) (left_since : P → �
 pub opens_up_to_date : {P : Type 0} (honest : Bool) (may_leave : P → Left → Type 0) → OpensUpToDate P honest may_leave
 opens_up_to_date honest may_leave given most d opens =
     let is = opens.read.opens in
-    let running = is.file.system.has.running in
-    (is.system,
-    record {
-      serves = is.serves;
-      sound = opens.sound;
-      committed = opens.committed;
-      file = λ sound.
-          subst (λ (pages : List (List ℕ)). IsFileOf sha_key pages (restarted is.system))
-          (opens.read.same sound ∙ sym opens.same)
-          (subst (λ (x : State). IsFileOf sha_key opens.read.content x) (as_running is.system running) is.file);
-    })
+    let running = is.file.system.has.running in (
+      is.system,
+      record {
+        serves = is.serves;
+        sound = opens.sound;
+        committed = opens.committed;
+        file = λ sound.
+            subst (λ (pages : List (List ℕ)). IsFileOf sha_key pages (restarted is.system))
+            (opens.read.same sound ∙ sym opens.same)
+            (subst (λ (x : State). IsFileOf sha_key opens.read.content x) (as_running is.system running) is.file);
+      },
+    )
   where
     as_running : (s : State) → s.stopped ≡ false → s ≡ restarted s
     as_running s running = ap (λ (b : Bool). record s { stopped = b }) running

@@ -27,60 +27,60 @@ served_after a s (Err NoMemory) old new fine becomes = (s, becomes)
 served_after a s (Err Failed) old new fine becomes = absurd cc
 
 module _ {P : Type 0} (honest : Bool) (may_leave : P → Left → Type 0) (old new : DeskState) (device : DeviceState P)
-    where
-  -- it serves another system, and the pages were saved as before
-  stays : IsCommitted honest may_leave old device → (t : State) → Serves t new →
-      saved_of new.session ≡ saved_of old.session → IsCommitted honest may_leave new device
-  stays is t serves same = record {
-    served = t;
-    serves = serves;
-    usable = is.usable;
-    many = is.many ∙ sym (ap length same);
-    saved = λ sound. is.saved sound ∙ sym same;
-    kept = is.kept;
-  }
+  where
+    -- it serves another system, and the pages were saved as before
+    stays : IsCommitted honest may_leave old device → (t : State) → Serves t new →
+        saved_of new.session ≡ saved_of old.session → IsCommitted honest may_leave new device
+    stays is t serves same = record {
+      served = t;
+      serves = serves;
+      usable = is.usable;
+      many = is.many ∙ sym (ap length same);
+      saved = λ sound. is.saved sound ∙ sym same;
+      kept = is.kept;
+    }
 
-  pub asked_durable : (a : Asking) (told : Result Answer Unanswered) (failed : Bool) →
-      IsDurable honest may_leave old device failed → Asks a told old new →
-      IsDurable honest may_leave new device (failed || is_failure told)
-  asked_durable a told failed is asks = record {
-    sound = λ none.
-        let fine = both_false failed (is_failure told) none in
-        let was = is.sound fine.0 in
-        let after = served_after a was.served told old new fine.1 (asks.asked was.served was.serves).becomes in
-        stays was after.0 after.1 asks.saved;
-  }
+    pub asked_durable : (a : Asking) (told : Result Answer Unanswered) (failed : Bool) →
+        IsDurable honest may_leave old device failed → Asks a told old new →
+        IsDurable honest may_leave new device (failed || is_failure told)
+    asked_durable a told failed is asks = record {
+      sound = λ none.
+          let fine = both_false failed (is_failure told) none in
+          let was = is.sound fine.0 in
+          let after = served_after a was.served told old new fine.1 (asks.asked was.served was.serves).becomes in
+          stays was after.0 after.1 asks.saved;
+    }
 
-  told_after : (told : Option Told) → fails (Next told) ≡ false → Tells told old new → (s : State) → Serves s old →
-      (t : State) × Serves t new
-  told_after None fine tells s serves = (s, (tells.becomes s serves).serves)
-  told_after (Some told) fine tells s serves =
-      let first = tells.becomes s serves in
-      served_after first.told_at.asking s told.reply first.now new fine first.told_at.becomes
+    told_after : (told : Option Told) → fails (Next told) ≡ false → Tells told old new → (s : State) → Serves s old →
+        (t : State) × Serves t new
+    told_after None fine tells s serves = (s, (tells.becomes s serves).serves)
+    told_after (Some told) fine tells s serves =
+        let first = tells.becomes s serves in
+        served_after first.told_at.asking s told.reply first.now new fine first.told_at.becomes
 
-  pub told_durable : (told : Option Told) (failed : Bool) → IsDurable honest may_leave old device failed →
-      Tells told old new → IsDurable honest may_leave new device (failed || fails (Next told))
-  told_durable told failed is tells = record {
-    sound = λ none.
-        let fine = both_false failed (fails (Next told)) none in
-        let was = is.sound fine.0 in
-        let after = told_after told fine.1 tells was.served was.serves in
-        stays was after.0 after.1 tells.saved;
-  }
+    pub told_durable : (told : Option Told) (failed : Bool) → IsDurable honest may_leave old device failed →
+        Tells told old new → IsDurable honest may_leave new device (failed || fails (Next told))
+    told_durable told failed is tells = record {
+      sound = λ none.
+          let fine = both_false failed (fails (Next told)) none in
+          let was = is.sound fine.0 in
+          let after = told_after told fine.1 tells was.served was.serves in
+          stays was after.0 after.1 tells.saved;
+    }
 
-  pub withdrawn_durable : (test : Asking → Bool) (some failed : Bool) → IsDurable honest may_leave old device failed →
-      Withdraws test some old new → IsDurable honest may_leave new device failed
-  withdrawn_durable test some failed is withdraws = record {
-    sound = λ none.
-        let was = is.sound none in
-        stays was was.served (withdraws.serves was.served was.serves)
-        (ap (λ (k : SessionState). saved_of k) withdraws.session);
-  }
+    pub withdrawn_durable : (test : Asking → Bool) (some failed : Bool) → IsDurable honest may_leave old device failed →
+        Withdraws test some old new → IsDurable honest may_leave new device failed
+    withdrawn_durable test some failed is withdraws = record {
+      sound = λ none.
+          let was = is.sound none in
+          stays was was.served (withdraws.serves was.served was.serves)
+          (ap (λ (k : SessionState). saved_of k) withdraws.session);
+    }
 
-  pub stopped_durable : (failed : Bool) → IsDurable honest may_leave old device failed → Stops old new →
-      IsDurable honest may_leave new device failed
-  stopped_durable failed is stops = record {
-    sound = λ none.
-        let was = is.sound none in
-        stays was (record was.served { stopped = true }) (stops.serves was.served was.serves) stops.saved;
-  }
+    pub stopped_durable : (failed : Bool) → IsDurable honest may_leave old device failed → Stops old new →
+        IsDurable honest may_leave new device failed
+    stopped_durable failed is stops = record {
+      sound = λ none.
+          let was = is.sound none in
+          stays was (record was.served { stopped = true }) (stops.serves was.served was.serves) stops.saved;
+    }
