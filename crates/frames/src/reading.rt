@@ -2,7 +2,7 @@
 
 ghost use Rattle.std.specs.Prelude.{◌≡◌, ℕ, List, ◌++◌, length, Ok, Err, Some, IfOk, IfErr};
 ghost use Rattle.frames.specs.declared.incoming.Incoming.{Incoming};
-ghost use Rattle.frames.specs.Reading.{Gives, incoming_of, kind_of, head_at, request_of, bare_of};
+ghost use Rattle.frames.specs.Reading.{Gives, IsAsked, IsAskedIn, bare_of, incoming_of, kind_of, request_of};
 ghost use Rattle.frames.specs.Records.{Fits, ReadsAs, Says, at_moment, spelled};
 
 use crate::frame::Frame;
@@ -45,7 +45,7 @@ pub fn read(alloc: Global, bytes: &[u8], moment: u64) -> Result<Incoming, Unread
 }
 
 fn incoming(alloc: Global, bytes: &[u8], moment: u64) -> Result<Incoming, Unread>
-    ensures { Gives (head_at bytes.now) (incoming_of moment bytes.now) result }
+    ensures { Gives (IsAskedIn bytes.now) (incoming_of moment bytes.now) result }
 {
     let Some(head) = Head::read(bytes) else {
         return Err(Unread::Broken);
@@ -60,7 +60,7 @@ fn incoming(alloc: Global, bytes: &[u8], moment: u64) -> Result<Incoming, Unread
 
 /// What the record of this head tells.
 fn kind(alloc: Global, head: &Head, moment: u64) -> Result<Kind, Unread>
-    ensures { Gives head.now (kind_of moment head.now) result }
+    ensures { Gives (IsAsked head.now) (kind_of moment head.now) result }
 {
     if head.kind == 0 {
         return request(alloc, head, moment);
@@ -85,7 +85,8 @@ fn bare(kind: u32) -> Result<Kind, Unread>
 
 /// The request of a client that stands behind a head.
 fn request(alloc: Global, head: &Head, moment: u64) -> Result<Kind, Unread>
-    ensures { Gives head.now (request_of moment head.now) result }
+    requires { head.now.kind ≡ 0 }
+    ensures { Gives (IsAsked head.now) (request_of moment head.now) result }
 {
     let Some(frame) = Frame::read(head.rest.as_slice()) else {
         return Err(Unread::Broken);
