@@ -3,7 +3,7 @@ use Rattle.std.proofs.Common.{◌≡◌, ℕ, ◌+◌, ◌-◌, ◌^◌, ◌<◌
 use Rattle.std.specs.Prelude.{nat_le}
 use Rattle.std.proofs.lemmas.Bool.{eqb-true, leb-true, le-leb}
 use Rattle.std.proofs.lemmas.Bool.Decides.{nat_tests}
-use Rattle.std.proofs.lemmas.List.{append-nil, length-append, length-drop}
+use Rattle.std.proofs.lemmas.List.{append-nil, append_assoc, length-append, length-drop}
 use Rattle.numbers.proofs.NumberLaws.{IsBytes}
 use Rattle.numbers.proofs.Tests.{both_true}
 use Rattle.queue_model.specs.declared.caller.Caller.{Caller}
@@ -47,15 +47,17 @@ frame_again f bytes fits is =
     let mode = two_next 6 f.mode bytes _ flags.1 fits.mode in
     let id = four_next 8 f.id bytes _ mode.1 fits.id in
     let fields : drop 12 bytes ≡ f.fields = id.1 ∙ append-nil f.fields in
-    let long : 12 ≤ length bytes = omega (arith, ap length is, length-frame f) in
-    (le-leb _ _ long, λ i. record {
-      number = number.0 i;
-      code = code.0 i;
-      flags = flags.0 i;
-      mode = mode.0 i;
-      id = id.0 i;
-      fields = fields i;
-    })
+    let long : 12 ≤ length bytes = omega (arith, ap length is, length-frame f) in (
+      le-leb _ _ long,
+      λ i. record {
+        number = number.0 i;
+        code = code.0 i;
+        flags = flags.0 i;
+        mode = mode.0 i;
+        id = id.0 i;
+        fields = fields i;
+      },
+    )
 
 -- ---- records
 
@@ -101,10 +103,23 @@ head_again h bytes fits is =
     let gid = four_next 20 h.caller.gid bytes _ uid.1 caller.gid in
     let rest : drop 24 bytes ≡ h.rest = gid.1 ∙ append-nil h.rest in
     let size : length bytes ≡ 24 + length h.rest = ap length is ∙ length-head h in
-    let counted : four_at 0 bytes ≡ length bytes - 4 = omega (arith, counts.0, size, length-behind h) in
-    (and_true _ _ (le-leb _ _ (omega (arith, size))) (is_same _ _ counted), λ i. record {
-      connection = connection.0 i;
-      kind = kind.0 i;
-      caller = record { pid = pid.0 i; uid = uid.0 i; gid = gid.0 i };
-      rest = rest i;
-    })
+    let counted : four_at 0 bytes ≡ length bytes - 4 = omega (arith, counts.0, size, length-behind h) in (
+      and_true _ _ (le-leb _ _ (omega (arith, size))) (is_same _ _ counted),
+      λ i. record {
+        connection = connection.0 i;
+        kind = kind.0 i;
+        caller = record { pid = pid.0 i; uid = uid.0 i; gid = gid.0 i };
+        rest = rest i;
+      },
+    )
+
+-- a record that stands first tells how long it is
+pub head_first : (h : Head) (bytes rest : List ℕ) → FitsHead h → bytes ≡ head_bytes h ++ rest
+    → 4 + four_at 0 bytes ≡ length (head_bytes h)
+head_first h bytes rest fits is =
+    let behind = behind_length h in
+    let room = fits.rest in
+    let small : length behind < 2 ^ 32 = omega (arith, room, length-behind h) in
+    let first = is ∙ append_assoc (four (length behind)) behind rest in
+    let counts = four_next 0 (length behind) bytes (behind ++ rest) first small in
+    omega (arith, counts.0, length-head h, length-behind h)

@@ -5,3 +5,4 @@ pub mod LittleLaws
 pub mod PartLaws
 pub mod RecordLaws
 pub mod RequestLaws
+pub mod ToldLaws

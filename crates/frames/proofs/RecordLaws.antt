@@ -16,13 +16,13 @@ use Rattle.frames.specs.declared.incoming.Operation.{Operation}
 use Rattle.frames.specs.declared.incoming.Operation.TheVariants as operations
 use Rattle.frames.specs.declared.incoming.Unread.{Unread}
 use Rattle.frames.specs.declared.incoming.Unread.TheVariants.{Broken, Wrong, NoMemory}
-use Rattle.frames.specs.Little.{four, eight}
+use Rattle.frames.specs.Little.{four, eight, four_at}
 use Rattle.frames.specs.Frames.{FitsHead, frame_bytes, head_bytes}
 use Rattle.frames.specs.Requests.{FitsOperation, frame_of, or_zero, type_number}
-use Rattle.frames.specs.Records.{Fits, FitsKind, IsFrameOf, IsRecord, ReadsAs, Says, at_moment, operation_at, head_of, kind_at, kind_bytes, kind_number, spelled}
+use Rattle.frames.specs.Records.{Fits, FitsKind, IsFrameOf, IsRecord, Measures, ReadsAs, Says, at_moment, operation_at, head_of, kind_at, kind_bytes, kind_number, spelled}
 use Rattle.frames.specs.Reading.{Gives, IsAsked, IsAskedIn, bare_of, frame_at, head_at, incoming_of, is_asked, is_head, kind_of, operation_of, request_of, with_kind, with_operation}
 use Rattle.frames.proofs.LittleLaws.{length-four, length-eight}
-use Rattle.frames.proofs.FrameLaws.{frame_again, frame_spells, head_again, head_spells, is_same, length-frame}
+use Rattle.frames.proofs.FrameLaws.{frame_again, frame_spells, head_again, head_first, head_spells, is_same, length-frame, length-head}
 use Rattle.frames.proofs.RequestLaws.{Right, chosen, operation_right}
 use Rattle.frames.proofs.AgainLaws.{operation_again}
 
@@ -53,7 +53,7 @@ module _ (moment : ℕ) (h : Head) (all : IsBytes h.rest) where
   request_told is =
       let right = operation_right moment (frame_at h.rest) (IsBytes-drop 12 h.rest all) in
       chosen (Told moment h) (is_asked h) (λ long. with_told is long _ right) (λ short kind request others.
-        let long = le-leb 12 (length h.rest) (request (eqb-true _ _ is)) in absurd cc)
+      let long = le-leb 12 (length h.rest) (request (eqb-true _ _ is)) in absurd cc)
 
   bare_told : (h.kind == 0) ≡ false → h.rest ≡ [] → Told moment h (bare_of h.kind)
   bare_told other nothing =
@@ -69,9 +69,9 @@ module _ (moment : ℕ) (h : Head) (all : IsBytes h.rest) where
       chosen P (h.kind == 0) request_told (λ other.
       chosen P (length h.rest == 0) (λ is. bare_told other (nil_from_length h.rest (eqb-true _ _ is))) (λ more.
       λ kind request others.
-        let some : h.kind ≢ 0 = λ zero. (let is = is_same _ _ zero in absurd cc) in
-        let none = is_same (length h.rest) 0 (ap length (others some)) in
-        absurd cc))
+      let some : h.kind ≢ 0 = λ zero. (let is = is_same _ _ zero in absurd cc) in
+      let none = is_same (length h.rest) 0 (ap length (others some)) in
+      absurd cc))
 
 -- what came of a record
 abbrev pub Sound : ℕ → List ℕ → Result Incoming Unread → Type 0
@@ -117,8 +117,8 @@ module _ (moment : ℕ) (bytes : List ℕ) (all : IsBytes bytes) where
   with_sound headed (Err Broken) told = λ h is.
       let same = sym (head_again h bytes is.fits is.is).1 in
       told (subst (λ (x : Head). x.kind ≤ 3) same is.kind)
-        (subst (λ (x : Head). x.kind ≡ 0 → 12 ≤ length x.rest) same is.request)
-        (subst (λ (x : Head). x.kind ≢ 0 → x.rest ≡ []) same is.others)
+      (subst (λ (x : Head). x.kind ≡ 0 → 12 ≤ length x.rest) same is.request)
+      (subst (λ (x : Head). x.kind ≢ 0 → x.rest ≡ []) same is.others)
   with_sound headed (Err (Wrong connection number)) told =
       asked_says connection number (record { head = headed; asked = told })
   with_sound headed (Err (NoMemory connection number)) told =
@@ -128,7 +128,7 @@ module _ (moment : ℕ) (bytes : List ℕ) (all : IsBytes bytes) where
   incoming_sound =
       let told = kind_told moment (head_at bytes) (IsBytes-drop 24 bytes all) in
       chosen (Sound moment bytes) (is_head bytes) (λ headed. with_sound headed _ told) (λ wrong h is.
-        let headed = (head_again h bytes is.fits is.is).0 in absurd cc)
+      let headed = (head_again h bytes is.fits is.is).0 in absurd cc)
 
   given_sound : (r : Result Incoming Unread) → Gives (IsAskedIn bytes) (incoming_of moment bytes) r
       → Sound moment bytes r
@@ -177,8 +177,14 @@ few_fields n (operations.Call (Stat id)) fits = omega arith
 few_fields n (operations.Call (Set a)) fits =
     let user = or_zero a.uid in
     let group = or_zero a.gid in
-    omega (arith, length-append (four a.qbytes) (four user ++ four group), length-append (four user) (four group),
-      length-four a.qbytes, length-four user, length-four group)
+    omega (
+      arith,
+      length-append (four a.qbytes) (four user ++ four group),
+      length-append (four user) (four group),
+      length-four a.qbytes,
+      length-four user,
+      length-four group,
+    )
 few_fields n (operations.Call (Remove id)) fits = omega arith
 few_fields n (operations.Next after) fits = omega arith
 few_fields n (operations.Nth place) fits = omega arith
@@ -212,11 +218,11 @@ fits_head i fits = record {
 
 kind_again : (moment connection : ℕ) (caller : Caller) (kind : Kind) → FitsKind kind
     → kind_of moment (record {
-        connection = connection;
-        kind = kind_number kind;
-        caller = caller;
-        rest = kind_bytes kind;
-      }) ≡ Ok (kind_at moment kind)
+      connection = connection;
+      kind = kind_number kind;
+      caller = caller;
+      rest = kind_bytes kind;
+    }) ≡ Ok (kind_at moment kind)
 kind_again moment connection caller (kinds.Request r) fits =
     let f = frame_of r.number r.operation in
     let again = frame_again f (frame_bytes f) fits.0 refl in
@@ -250,3 +256,37 @@ pub given_again : (moment : ℕ) (bytes : List ℕ) (r : Result Incoming Unread)
     → (i : Incoming) → Fits i → spelled i ≡ bytes → ReadsAs (at_moment moment i) r
 given_again moment bytes r gives i fits is =
     given_as (IsAskedIn bytes) _ (at_moment moment i) r gives (incoming_again moment bytes i fits is)
+
+-- ---- a record in a stream
+
+-- a record that stands first is found
+pub found_first : (bytes : List ℕ) (r : Result (Option ℕ) Unread) → Measures bytes r
+    → (i : Incoming) (rest : List ℕ) → Fits i → bytes ≡ spelled i ++ rest
+    → r ≡ Ok (Some (length (spelled i)))
+found_first bytes r measured i rest fits is = found r measured where
+  size : 4 + four_at 0 bytes ≡ length (spelled i)
+  size = head_first (head_of i) bytes rest (fits_head i fits) is
+
+  long : 24 ≤ length (spelled i)
+  long = omega (arith, length-head (head_of i))
+
+  short : length (spelled i) ≤ 1068
+  short = omega (arith, length-head (head_of i), few_bytes i.kind fits.kind)
+
+  within : length (spelled i) ≤ length bytes
+  within = omega (arith, ap length is, length-append (spelled i) rest)
+
+  found : (x : Result (Option ℕ) Unread) → Measures bytes x → x ≡ Ok (Some (length (spelled i)))
+  found (Ok None) cut = let more = cut.more (omega (arith, long, within)) in absurd (omega (arith, more, size, within))
+  found (Ok (Some n)) first = ap (λ (k : ℕ). Ok (Some k)) (first.counted ∙ size)
+  found (Err unread) out =
+      let past = out.1.out (omega (arith, size, long)) in absurd (omega (arith, past, size, short))
+
+-- ---- a record is of one incoming, but for the moment of its call
+
+pub one_incoming : (a b : Incoming) (moment : ℕ) → Fits a → Fits b → spelled a ≡ spelled b
+    → at_moment moment a ≡ at_moment moment b
+one_incoming a b moment first second same =
+    is_one (sym (incoming_again moment (spelled b) a first same) ∙ incoming_again moment (spelled b) b second refl) where
+      is_one : {x y : Incoming} → ◌≡◌ {A = Result Incoming Unread} (Ok x) (Ok y) → x ≡ y
+      is_one is = cc

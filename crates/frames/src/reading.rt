@@ -3,7 +3,7 @@
 ghost use Rattle.std.specs.Prelude.{◌≡◌, ℕ, List, ◌++◌, length, Ok, Err, Some, IfOk, IfErr};
 ghost use Rattle.frames.specs.declared.incoming.Incoming.{Incoming};
 ghost use Rattle.frames.specs.Reading.{Gives, IsAsked, IsAskedIn, bare_of, incoming_of, kind_of, request_of};
-ghost use Rattle.frames.specs.Records.{Fits, ReadsAs, Says, at_moment, spelled};
+ghost use Rattle.frames.specs.Records.{Fits, Measures, ReadsAs, Says, at_moment, spelled};
 
 use crate::frame::Frame;
 use crate::head::{HEAD_BYTES, Head};
@@ -16,13 +16,27 @@ use std::alloc::Global;
 pub const MAX_RECORD: usize = HEAD_BYTES + 20 + MAX_BODY;
 
 /// How many bytes the first record of these has, with its length; none where not all of them have
-/// come. `Broken` where its length is one that no record has.
-pub fn whole(bytes: &[u8]) -> Result<Option<usize>, Unread> {
+/// come, which are fewer than `MAX_RECORD` then. `Broken` where its length is one that no record
+/// has.
+pub fn whole(bytes: &[u8]) -> Result<Option<usize>, Unread>
+    ensures size { Measures bytes.now result }
+    ensures only { (incoming : Incoming) (rest : List ℕ) → Fits incoming →
+        bytes.now ≡ spelled incoming ++ rest → result ≡ Ok (Some (length (spelled incoming))) }
+{
+    measure(bytes)
+}
+
+fn measure(bytes: &[u8]) -> Result<Option<usize>, Unread>
+    ensures { Measures bytes.now result }
+{
     if bytes.len() < 4 {
         return Ok(None);
     }
     let size = 4 + four_at(bytes, 0) as usize;
-    if size < HEAD_BYTES || size > MAX_RECORD {
+    if size < HEAD_BYTES {
+        return Err(Unread::Broken);
+    }
+    if size > MAX_RECORD {
         return Err(Unread::Broken);
     }
     if bytes.len() < size {

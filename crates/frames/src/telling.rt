@@ -3,8 +3,7 @@
 ghost use Rattle.std.specs.Prelude.{◌≡◌, ◌≤◌, ◌+◌, ◌++◌, true, length, OnOk, OnErr};
 ghost use Rattle.std.specs.Vec.{vec_capacity};
 ghost use Rattle.frames.specs.Little.{four};
-ghost use Rattle.frames.specs.Frames.{joined};
-ghost use Rattle.frames.specs.Answers.{answer_parts, appended, counts_parts, is_short_answer, is_short_reply, message_parts, reply_parts, stat_parts, told};
+ghost use Rattle.frames.specs.Answers.{answer_len, answer_parts, appended, counts_parts, is_short_answer, is_short_reply, message_parts, reply_len, reply_parts, stat_parts, told};
 
 use crate::codes::DONE;
 use crate::little::{put_all, put_eight, put_four, put_two};
@@ -44,7 +43,8 @@ fn is_short(reply: &Reply) -> bool
 /// How many bytes a reply has from its code on.
 fn len_of(reply: &Reply) -> usize
     requires { is_short_reply reply.now ≡ true }
-    ensures { result ≡ length (joined (reply_parts reply.now)) }
+    ensures value { result ≡ reply_len reply.now }
+    ensures within { result ≤ 80 + MAX_BODY }
 {
     match reply {
         Reply::Answer(answer) => len_of_answer(answer),
@@ -57,7 +57,8 @@ fn len_of(reply: &Reply) -> usize
 /// How many bytes the answer to a call has from its code on.
 fn len_of_answer(answer: &Answer) -> usize
     requires { is_short_answer answer.now ≡ true }
-    ensures { result ≡ length (joined (answer_parts answer.now)) }
+    ensures value { result ≡ answer_len answer.now }
+    ensures within { result ≤ 80 + MAX_BODY }
 {
     match answer {
         Answer::Sent(_) => 16,
@@ -69,7 +70,8 @@ fn len_of_answer(answer: &Answer) -> usize
 
 /// Puts a reply from its code on.
 fn put_reply(into: &mut Vec<u8>, reply: &Reply)
-    requires room { length into.old.items + length (joined (reply_parts reply.now)) ≤ vec_capacity into.old }
+    requires short { is_short_reply reply.now ≡ true }
+    requires room { length into.old.items + reply_len reply.now ≤ vec_capacity into.old }
     ensures { into.new.items ≡ appended into.old.items (reply_parts reply.now) }
 {
     match reply {
@@ -99,7 +101,8 @@ fn put_code(into: &mut Vec<u8>, code: u32, value: u32)
 
 /// Puts the answer to a call.
 fn put_answer(into: &mut Vec<u8>, answer: &Answer)
-    requires room { length into.old.items + length (joined (answer_parts answer.now)) ≤ vec_capacity into.old }
+    requires short { is_short_answer answer.now ≡ true }
+    requires room { length into.old.items + answer_len answer.now ≤ vec_capacity into.old }
     ensures { into.new.items ≡ appended into.old.items (answer_parts answer.now) }
 {
     match answer {
