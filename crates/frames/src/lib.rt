@@ -24,4 +24,4 @@ pub use laws::a_record_is_of_one_incoming;
 pub use numbers::faults::NoMemory;
 pub use reading::{MAX_RECORD, read, whole};
 pub use reply::{Counts, Reply};
-pub use telling::put;
+pub use telling::{MAX_TOLD, put};

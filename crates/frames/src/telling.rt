@@ -1,7 +1,7 @@
 //! Answers as bytes, behind others (docs/PROTOCOL.md, "Answers").
 
-ghost use Rattle.std.specs.Prelude.{◌≡◌, ◌≤◌, ◌+◌, ◌++◌, true, length, OnOk, OnErr};
-ghost use Rattle.std.specs.Vec.{vec_capacity};
+ghost use Rattle.std.specs.Prelude.{◌≡◌, ◌≤◌, ◌+◌, ◌++◌, true, length, IsOk, OnOk, OnErr};
+ghost use Rattle.std.specs.Vec.{vec_capacity, vec_len};
 ghost use Rattle.frames.specs.Little.{four};
 ghost use Rattle.frames.specs.Answers.{answer_len, answer_parts, appended, counts_parts, is_short_answer, is_short_reply, message_parts, reply_len, reply_parts, stat_parts, told};
 
@@ -11,10 +11,15 @@ use crate::reply::{Counts, Reply};
 use numbers::limits::MAX_BODY;
 use queue_model::{Answer, Message, NoMemory, QueueInfo};
 
+/// The most bytes of an answer's record, with its length: those of a receive of the longest body.
+pub const MAX_TOLD: usize = 44 + MAX_BODY;
+
 /// Puts the record of an answer last. Without memory for it nothing is put; nor is a message of
 /// more than `MAX_BODY` bytes, which no lawful system has.
 pub fn put(into: &mut Vec<u8>, connection: u32, number: u32, reply: &Reply) -> Result<(), NoMemory>
     ensures ok { OnOk result (into.new.items ≡ into.old.items ++ told connection number reply.now) }
+    ensures room { vec_len into.old + MAX_TOLD ≤ vec_capacity into.old →
+        is_short_reply reply.now ≡ true → IsOk result }
     ensures err { OnErr result (into.new.items ≡ into.old.items) }
 {
     if !is_short(reply) {
@@ -44,7 +49,7 @@ fn is_short(reply: &Reply) -> bool
 fn len_of(reply: &Reply) -> usize
     requires { is_short_reply reply.now ≡ true }
     ensures value { result ≡ reply_len reply.now }
-    ensures within { result ≤ 80 + MAX_BODY }
+    ensures within { result ≤ 32 + MAX_BODY }
 {
     match reply {
         Reply::Answer(answer) => len_of_answer(answer),
@@ -58,7 +63,7 @@ fn len_of(reply: &Reply) -> usize
 fn len_of_answer(answer: &Answer) -> usize
     requires { is_short_answer answer.now ≡ true }
     ensures value { result ≡ answer_len answer.now }
-    ensures within { result ≤ 80 + MAX_BODY }
+    ensures within { result ≤ 32 + MAX_BODY }
 {
     match answer {
         Answer::Sent(_) => 16,
