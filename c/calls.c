@@ -79,6 +79,12 @@ static int no_room(int wrong, const struct sending *it) {
                info->qbytes < 65536 ? "msgq_set raises the limit, up to 65536" : "that is the most of a queue");
 }
 
+static _Thread_local uint64_t last_serial;
+
+uint64_t msgq_last_serial(void) {
+    return last_serial;
+}
+
 int msgq_send(msgq *queues, uint32_t id, int64_t type, const void *body, size_t length, int flags,
               const struct timespec *limit) {
     static const uint8_t none;
@@ -105,6 +111,8 @@ int msgq_send(msgq *queues, uint32_t id, int64_t type, const void *body, size_t 
     if (queues == NULL)
         return no_queues();
     wrong = queues->calls->send(queues, &it, limit == NULL ? NULL : &end);
+    if (wrong == 0)
+        last_serial = it.serial;
     if (wrong == EAGAIN || wrong == ETIMEDOUT)
         (void)no_room(wrong, &it);
     else if (wrong == EINVAL && type < 1)

@@ -159,6 +159,9 @@ int msgq_close(msgq *queues);
 /* Lets go of the file without a save. EBUSY while a call waits. */
 int msgq_abandon(msgq *queues);
 
+/* The serial of the message that this thread has sent last; 0 before the first. */
+uint64_t msgq_last_serial(void);
+
 /* The number of docs/FAULTS.md that stands behind the last error that this thread was told; 0 where none does. */
 unsigned msgq_last_fault(void);
 

@@ -38,7 +38,7 @@ static int get(msgq *queues, struct get_call *call, uint32_t *id) {
 
 static uint32_t send_now(struct opened_file *file, void *with) {
     struct sending *it = with;
-    return msgq_session_send(&file->session, &it->call, it->body, it->length);
+    return msgq_session_send(&file->session, &it->call, it->body, it->length, &it->serial);
 }
 
 static int send(msgq *queues, struct sending *it, const struct timespec *end) {

@@ -20,6 +20,7 @@ struct sending {
     const uint8_t *body;
     size_t length;
     bool asks_again;
+    uint64_t serial; /* of one that was sent */
     bool has_met; /* where there was no room: whether it is known what the queue was like */
     struct info met;
 };

@@ -28,11 +28,14 @@ int request_get(struct server *server, uint32_t key, uint8_t flags, uint16_t mod
 }
 
 int request_send(struct server *server, uint32_t id, uint8_t flags, const struct iovec *message, size_t parts,
-                 const struct waiting *how) {
-    uint8_t serial[8];
+                 const struct waiting *how, uint64_t *serial) {
+    uint8_t field[8];
     const struct request asked = {
         .operation = SEND, .flags = flags, .id = id, .fields = message, .parts = parts, .how = *how};
-    return ask_fields(server, &asked, serial, sizeof serial);
+    int done = ask_fields(server, &asked, field, sizeof field);
+    if (done == 0)
+        *serial = number_at(field, sizeof field);
+    return done;
 }
 
 /* Takes a message, by a request with so many bytes of fields. */

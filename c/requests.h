@@ -35,9 +35,9 @@ struct census {
 
 int request_get(struct server *server, uint32_t key, uint8_t flags, uint16_t mode, uint32_t *id);
 
-/* Sends a message: its type, 8 bytes, little-endian, and its body behind it, as one part or two. */
+/* Sends a message: its type, 8 bytes, little-endian, and its body behind it, as one part or two. Tells its serial. */
 int request_send(struct server *server, uint32_t id, uint8_t flags, const struct iovec *message, size_t parts,
-                 const struct waiting *how);
+                 const struct waiting *how, uint64_t *serial);
 
 /* What selects a message, and where it goes. */
 struct selection {

@@ -67,7 +67,8 @@ static int send(msgq *queues, struct sending *it, const struct timespec *end) {
     const struct iovec message[] = {{type, sizeof type}, {(void *)(uintptr_t)it->body, it->length}};
     const struct waiting how = waiting_of(it->call.nowait, it->asks_again, end);
     put_number(type, (uint64_t)it->call.mtype, 8);
-    int done = request_send(server_of(queues), it->call.id, it->call.nowait ? NO_WAIT : 0, message, 2, &how);
+    int done = request_send(server_of(queues), it->call.id, it->call.nowait ? NO_WAIT : 0, message, 2, &how,
+                            &it->serial);
     int wrong = error_of_request(queues, done);
     if ((wrong == EAGAIN || wrong == ETIMEDOUT) && request_stat(server_of(queues), it->call.id, &known) == 0) {
         it->has_met = true;

@@ -75,7 +75,7 @@ struct info {
 uint32_t msgq_session_open(struct handle *, const struct owner *, const uint8_t *bytes, size_t count);
 uint32_t msgq_session_create(struct handle *, const struct owner *, uint32_t pages);
 uint32_t msgq_session_get(struct handle *, const struct get_call *, uint32_t *id);
-uint32_t msgq_session_send(struct handle *, const struct send_call *, const uint8_t *body, size_t length);
+uint32_t msgq_session_send(struct handle *, const struct send_call *, const uint8_t *body, size_t length, uint64_t *serial);
 uint32_t msgq_session_receive(struct handle *, const struct receive_call *, uint8_t *room, size_t size, struct got *);
 uint32_t msgq_session_stat(struct handle *, uint32_t id, struct info *);
 uint32_t msgq_session_set(struct handle *, const struct set_call *);

@@ -70,7 +70,8 @@ static void by_session(void *with) {
     struct send_call send = {.mtype = 1, .moment = 1, .id = id, .nowait = true};
     struct receive_call receive = {.moment = 1, .id = id, .nowait = true};
     struct got got;
-    must(msgq_session_send(with, &send, (uint8_t *)body, BYTES) == DONE, "a send");
+    uint64_t serial;
+    must(msgq_session_send(with, &send, (uint8_t *)body, BYTES, &serial) == DONE, "a send");
     must(msgq_session_receive(with, &receive, (uint8_t *)body, BYTES, &got) == DONE, "a receive");
 }
 

@@ -13,7 +13,8 @@ static const struct waiting NOW = {.waits = false}, AGAIN = {.waits = true, .ask
 static int sends(struct server *server, const struct waiting *how) {
     uint8_t type[8] = {5};
     const struct iovec message[] = {{type, sizeof type}, {"body", 4}};
-    return request_send(server, 3, 0, message, 2, how);
+    uint64_t serial;
+    return request_send(server, 3, 0, message, 2, how, &serial);
 }
 
 /* A message of type 5 with serial 9 from process 77. */
@@ -68,6 +69,7 @@ static void each_request(void) {
     uint32_t id;
     struct known known;
     struct census census;
+    uint64_t serial;
     const struct iovec message[] = {{type, sizeof type}, {"body", 4}}, whole = {room, sizeof room};
     const struct setting setting = {HAS_USER | HAS_GROUP | HAS_MODE, 0600, 256, 1, 2};
     const struct selection first = {3, NO_WAIT | NO_ERROR, -4, 1024, &whole, 1}, second = {3, NO_WAIT, 1, 1024, &whole, 1};
@@ -76,7 +78,7 @@ static void each_request(void) {
     /* (7 is ENOENT) */
     is(request_get(server, 7, CREATES | IS_EXCLUSIVE | HAS_KEY, 0640, &id), 7, "get");
     is(request_get(server, 0, 0, 0, &id), 7, "get");
-    is(request_send(server, 3, NO_WAIT, message, 2, &NOW), 7, "send");
+    is(request_send(server, 3, NO_WAIT, message, 2, &NOW, &serial), 7, "send");
     is(request_receive(server, &first, &NOW, &got), 7, "receive");
     is(request_stat(server, 3, &known), 7, "stat");
     is(request_set(server, 3, &setting), 7, "set");

@@ -33,6 +33,7 @@ int msgsnd(int id, const void *message, size_t size, int flags) {
     if (!xsi_is_served())
         return BEHIND(msgsnd)(id, message, size, flags);
     struct server *server = xsi_server();
+    uint64_t serial;
     int was = errno;
     if (id < 0 || size > XSI_BODY)
         return refuse_send(message);
@@ -40,7 +41,7 @@ int msgsnd(int id, const void *message, size_t size, int flags) {
     const struct waiting how = {.waits = (flags & IPC_NOWAIT) == 0};
     int wrong = server == NULL
         ? -ENOMEM
-        : request_send(server, (uint32_t)id, flags & IPC_NOWAIT ? NO_WAIT : 0, &whole, 1, &how);
+        : request_send(server, (uint32_t)id, flags & IPC_NOWAIT ? NO_WAIT : 0, &whole, 1, &how, &serial);
     if (wrong != 0)
         return xsi_refuse(wrong);
     errno = was;
