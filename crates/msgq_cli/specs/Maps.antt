@@ -25,9 +25,10 @@ bucket_data b = object (named ((codes "bytes", count b.bytes) ∷ (codes "depth"
 
 -- the object of a map, of which these are the buckets, the entries and the free pages
 abbrev pub map_of : FileMap → List Data → List Data → List Data → Data
-map_of m buckets entries free = object (named ((codes "buckets", array (items_of buckets)) ∷ (codes "depth", count m.depth)
-    ∷ (codes "entries", array (items_of entries)) ∷ (codes "free", array (items_of free))
-    ∷ (codes "messages", count m.messages) ∷ (codes "pages", count m.pages) ∷ (codes "queues", count m.queues) ∷ []))
+map_of m buckets entries free = object (named ((codes "buckets", array (items_of buckets))
+    ∷ (codes "depth", count m.depth) ∷ (codes "entries", array (items_of entries))
+    ∷ (codes "free", array (items_of free)) ∷ (codes "messages", count m.messages) ∷ (codes "pages", count m.pages)
+    ∷ (codes "queues", count m.queues) ∷ []))
 
 -- the buckets in the order of their chain, the entries, and the free pages in the order of their list
 abbrev pub map_data : FileMap → Data

@@ -63,7 +63,8 @@ fn map_object(alloc: Global, map: &FileMap) -> Result<Value, NoMemory>
     let buckets = bucket_objects(alloc, map.buckets.as_slice())?;
     let entries = numbers_of(alloc, map.entries.as_slice())?;
     let free = numbers_of(alloc, map.free.as_slice())?;
-    object_of(alloc, map, buckets, entries, free)
+    let value = object_of(alloc, map, buckets, entries, free)?;
+    Ok(value)
 }
 
 /// The object of a map, of which these are the buckets, the entries and the free pages.
