@@ -23,12 +23,16 @@ bucket_data b = object (named ((codes "bytes", count b.bytes) ∷ (codes "depth"
     ∷ (codes "next", count b.next) ∷ (codes "page", count b.page) ∷ (codes "pattern", count b.pattern)
     ∷ (codes "records", count b.records) ∷ []))
 
+-- the object of a map, of which these are the buckets, the entries and the free pages
+abbrev pub map_of : FileMap → List Data → List Data → List Data → Data
+map_of m buckets entries free = object (named ((codes "buckets", array (items_of buckets))
+    ∷ (codes "depth", count m.depth) ∷ (codes "entries", array (items_of entries))
+    ∷ (codes "free", array (items_of free)) ∷ (codes "messages", count m.messages) ∷ (codes "pages", count m.pages)
+    ∷ (codes "queues", count m.queues) ∷ []))
+
 -- the buckets in the order of their chain, the entries, and the free pages in the order of their list
 abbrev pub map_data : FileMap → Data
-map_data m = object (named ((codes "buckets", array (items_of (map bucket_data m.buckets.items)))
-    ∷ (codes "depth", count m.depth) ∷ (codes "entries", array (items_of (map count m.entries.items)))
-    ∷ (codes "free", array (items_of (map count m.free.items))) ∷ (codes "messages", count m.messages)
-    ∷ (codes "pages", count m.pages) ∷ (codes "queues", count m.queues) ∷ []))
+map_data m = map_of m (map bucket_data m.buckets.items) (map count m.entries.items) (map count m.free.items)
 
 -- its text without space, and a line end (10)
 abbrev pub map_text : FileMap → List ℕ

@@ -1,16 +1,16 @@
 //! The map of a file as JSON.
 
 ghost use Rattle.std.specs.Prelude.{◌≡◌, ◌∷◌, ◌++◌, [], false, IfOk, OnErr, OnOk, map, string_bytes};
-ghost use Rattle.msgq_cli.specs.Maps.{bucket_data, count, map_data, map_text};
+ghost use Rattle.msgq_cli.specs.Maps.{bucket_data, count, map_data, map_of, map_text};
 ghost use Rattle.msgq_cli.specs.Outputs.{Prints};
-ghost use Rattle.serde_json.specs.Data.{Data};
-ghost use Rattle.serde_json.specs.View.{view};
+ghost use Rattle.serde_json.specs.Data.{Data, put as with_member};
+ghost use Rattle.serde_json.specs.View.{members_view, view};
 ghost use Rattle.serde_json.specs.Written.{compact_text, has_float};
 
 use crate::file_map::{FileMap, MappedBucket};
 use crate::output::Output;
 use numbers::faults::NoMemory;
-use serde_json::{Value, json};
+use serde_json::{Map, Value, json, put};
 use std::alloc::Global;
 use std::io::Write;
 
@@ -63,16 +63,44 @@ fn map_object(alloc: Global, map: &FileMap) -> Result<Value, NoMemory>
     let buckets = bucket_objects(alloc, map.buckets.as_slice())?;
     let entries = numbers_of(alloc, map.entries.as_slice())?;
     let free = numbers_of(alloc, map.free.as_slice())?;
-    let value = json!(in alloc; {
-        "buckets": buckets,
-        "depth": map.depth,
-        "entries": entries,
-        "free": free,
-        "messages": map.messages,
-        "pages": map.pages,
-        "queues": map.queues
-    })?;
+    let value = object_of(alloc, map, buckets, entries, free)?;
     Ok(value)
+}
+
+/// The object of a map, of which these are the buckets, the entries and the free pages.
+fn object_of(
+    alloc: Global,
+    map: &FileMap,
+    buckets: Vec<Value>,
+    entries: Vec<Value>,
+    free: Vec<Value>,
+) -> Result<Value, NoMemory>
+    ensures { IfOk result (λ value. view value ≡ map_of map.now
+        (map view buckets.items) (map view entries.items) (map view free.items)) }
+{
+    let mut members = Map::new(alloc);
+    put(&mut members, alloc, "buckets", Value::Array(buckets))?;
+    put_count(&mut members, alloc, "depth", u64::from(map.depth))?;
+    put(&mut members, alloc, "entries", Value::Array(entries))?;
+    put(&mut members, alloc, "free", Value::Array(free))?;
+    put_count(&mut members, alloc, "messages", map.messages)?;
+    put_count(&mut members, alloc, "pages", u64::from(map.pages))?;
+    put_count(&mut members, alloc, "queues", map.queues)?;
+    Ok(Value::Object(members))
+}
+
+/// Puts a number as a member.
+fn put_count(
+    members: &mut Map<String, Value>,
+    alloc: Global,
+    name: &str,
+    number: u64,
+) -> Result<(), NoMemory>
+    ensures { OnOk result (members_view members.new.entries
+        ≡ with_member name.now (count number) (members_view members.old.entries)) }
+{
+    put(members, alloc, name, Value::from(number))?;
+    Ok(())
 }
 
 /// An object for each bucket.

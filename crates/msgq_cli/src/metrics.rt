@@ -1,6 +1,7 @@
 //! What is told of the queues of a system in the text format of Prometheus.
 
-ghost use Rattle.std.specs.Prelude.{◌≡◌};
+ghost use Rattle.std.specs.Prelude.{◌≡◌, ◌<◌, ◌^◌};
+ghost use Rattle.queue_model.specs.Selection.{total_bytes};
 ghost use Rattle.msgq_cli.specs.Metrics.{family_text, help_of, help_text, kind_of, kind_text, metrics_text, name_of, sample_text, samples_text, value_of};
 ghost use Rattle.msgq_cli.specs.Outputs.{Prints};
 
@@ -72,6 +73,7 @@ impl Metric {
 
     /// What it is of a queue. Serials are given out from 1 on, one a message that was sent.
     fn value(self, queue: &Queue) -> u64
+        requires { total_bytes queue.now.messages < 2 ^ 64 }
         ensures { result ≡ value_of self queue.now }
     {
         let sent = queue.next_serial.saturating_sub(1);
@@ -144,6 +146,7 @@ fn print_samples<W: Write + Drop>(metric: Metric, system: &System, output: &mut 
 
 /// Prints the value of a metric for a queue.
 fn print_sample<W: Write + Drop>(metric: Metric, queue: &Queue, output: &mut Output<W>)
+    requires { total_bytes queue.now.messages < 2 ^ 64 }
     ensures { Prints output.old output.new (sample_text metric queue.now) }
 {
     output.line(&[

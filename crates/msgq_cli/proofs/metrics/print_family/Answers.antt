@@ -4,4 +4,6 @@ use Rattle.msgq_cli.proofs.metrics.print_family.Goals as goal
 
 pub returns : goal.returns
 returns g c =
-    Prints-then _ _ _ _ _ c.print_help.ensures (Prints-then _ _ _ _ _ c.print_kind.ensures c.print_samples.ensures)
+    let last = c.print_samples.new.output in
+    Prints-then c.args.output.now c.print_help.new.output last _ _ c.print_help.ensures
+    (Prints-then c.print_help.new.output c.print_kind.new.output last _ _ c.print_kind.ensures c.print_samples.ensures)
