@@ -186,8 +186,12 @@ ROWS = rows_of_frames, rows_of_waits, rows_of_readers, rows_of_garbage
 
 def rows_of_limits(room):
     path = room.file()
-    limited = lambda: resource.setrlimit(resource.RLIMIT_NOFILE, (40, 40))  # noqa: E731
-    for name, server in (("40 descriptors", Server(room, path, preexec_fn=limited)), ("3 clients", Server(room, path + "b", "--create", "--clients", "3"))):
+    # A client takes two descriptors, so that with one of these it is the first which lacks, and with the other the second.
+    limit = lambda most: lambda: resource.setrlimit(resource.RLIMIT_NOFILE, (most, most))  # noqa: E731
+    for name, server in (("40 descriptors", lambda: Server(room, path, preexec_fn=limit(40))),
+                         ("41 descriptors", lambda: Server(room, path, preexec_fn=limit(41))),
+                         ("3 clients", lambda: Server(room, path, "--clients", "3"))):
+        server = server()
         served, refused = [], 0
         for _ in range(50):
             try:
