@@ -21,6 +21,8 @@ class Room:
         self.folder = tempfile.mkdtemp()
         os.chmod(self.folder, 0o755)
         self.program, self.core, self.front = program, core, front
+        # what it saves no program reads
+        self.is_fake = os.path.basename(core) == "fake_core"
         self.servers, self.count = [], 0
         self.usual = self.root("usual", core)
         self.passed = self.failed = 0

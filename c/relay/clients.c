@@ -176,8 +176,15 @@ static void resume(struct clients *it, struct client *client) {
 }
 
 void clients_resume(struct clients *it) {
-    it->has_paused = false;
-    each(it, resume);
+    /* It goes on where it was last time, so that those who ask without end don't shut others out. */
+    for (uint32_t count = 0; count < it->places_count && !core_is_busy(it->core); count++) {
+        it->turn = (it->turn + 1) & (it->places_count - 1);
+        for (struct client *client = it->places[it->turn], *next; client != NULL; client = next) {
+            next = client->next;
+            resume(it, client);
+        }
+    }
+    it->has_paused = core_is_busy(it->core);
 }
 
 static void stop(struct clients *it, struct client *client) {

@@ -56,7 +56,8 @@ struct clients {
     uint32_t count, most;
     uint32_t last_number;
     bool is_stopped;  /* no more is handed to the core */
-    bool has_paused;  /* somebody, since that was cleared */
+    uint32_t turn;    /* the place whose clients were resumed last */
+    bool has_paused;  /* perhaps: somebody may be */
     bool has_traffic; /* something was asked since that was cleared */
     bool has_told;    /* that a process of another namespace was refused */
     uint8_t greeting[GREETING_BYTES];
