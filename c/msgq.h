@@ -132,7 +132,7 @@ int msgq_receive(msgq *queues, uint32_t id, int64_t type, void *room, size_t siz
 int msgq_reserve(msgq *queues, uint32_t id, int64_t type, void *room, size_t size, int flags,
                  const struct timespec *limit, struct msgq_message *got, uint32_t *holding);
 
-/* EINVAL for an id that no message is held by, EIDRM where it was dealt with. */
+/* EINVAL for an id that no message is held by. */
 int msgq_acknowledge(msgq *queues, uint32_t holding);
 int msgq_release(msgq *queues, uint32_t holding);
 

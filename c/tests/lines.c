@@ -254,6 +254,7 @@ static void is_cancelled(void) {
     /* A call that does not wait goes on, and so does an answer that has begun. */
     uint8_t frame[64];
     number = hear(fd, 4).number;
+    usleep(50000);
     kill(getppid(), SIGUSR1);
     tell(fd, number, 7, 0, NULL, 0);
     (void)answer(frame, hear(fd, 3).number, 0, 0, "\1\0\0\0\0\0\0\0\0\0\0\0\0\0\0\0\0\0\0\0\0\0\0\0", 24);
