@@ -1,6 +1,7 @@
 /* What becomes of a wait upon which the handler of a signal asks, forks or jumps, as line.h has it. Run with the path of a new socket. */
 #include "scripted.h"
 
+#include <pthread.h>
 #include <setjmp.h>
 
 static int told_handler;
@@ -67,22 +68,39 @@ static void interrupts_two(void) {
     interrupts(2);
 }
 
+/* A wait of a thread whose handlers have a stack above its own: the first thread's. */
+static void *waits_below(void *stack) {
+    const stack_t above = {.ss_sp = stack, .ss_size = 1 << 16};
+    sigset_t one;
+    sigemptyset(&one);
+    sigaddset(&one, SIGUSR1);
+    is(sigaltstack(&above, NULL), 0, "a stack");
+    is(pthread_sigmask(SIG_UNBLOCK, &one, NULL), 0, "a signal");
+    is(receives(server, &WAITS), -EINTR, "a wait upon which a handler asks on another stack");
+    return NULL;
+}
+
 static void handlers(void) {
-    static char stack[1 << 16];
-    const stack_t other = {.ss_sp = stack, .ss_size = sizeof stack}, none = {.ss_flags = SS_DISABLE};
-    serves(interrupts_two);
-    for (int n = 0; n < 2; n++) {
-        server = begun(1000);
-        told_handler = -1;
-        /* (a stack of its own, which may stand above or below) */
-        is(sigaltstack(n == 0 ? &none : &other, NULL), 0, "a stack");
-        on_signal(handler_asks, n == 0 ? 0 : SA_ONSTACK);
-        is(receives(server, &WAITS), -EINTR, "a wait upon which a handler asks");
-        is(told_handler, 0, "what the handler asks");
-        server_end(server);
-    }
-    is(sigaltstack(&none, NULL), 0, "no stack");
-    has_ended("handlers");
+    char stack[1 << 16];
+    pthread_t thread;
+    sigset_t one;
+    sigemptyset(&one);
+    sigaddset(&one, SIGUSR1);
+    begin(interrupts_two);
+    on_signal(handler_asks, SA_ONSTACK);
+    told_handler = -1;
+    is(receives(server, &WAITS), -EINTR, "a wait upon which a handler asks");
+    is(told_handler, 0, "what the handler asks");
+    server_end(server);
+    server = begun(1000);
+    told_handler = -1;
+    /* (a new thread blocks what this one does) */
+    is(pthread_sigmask(SIG_BLOCK, &one, NULL), 0, "a signal");
+    is(pthread_create(&thread, NULL, waits_below, stack), 0, "a thread");
+    pthread_join(thread, NULL);
+    is(pthread_sigmask(SIG_UNBLOCK, &one, NULL), 0, "a signal");
+    is(told_handler, 0, "what the handler asks");
+    end("handlers");
 }
 
 static void interrupts_one(void) {
