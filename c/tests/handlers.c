@@ -142,6 +142,38 @@ static void jumps(void (*handler)(int), const char *what) {
     end(what);
 }
 
+static void handler_waits(int number) {
+    (void)number;
+    (void)receives(server, &WAITS);
+}
+
+static void is_left_twice(void) {
+    int fd = client(), other;
+    (void)hear(fd, 3);
+    usleep(50000);
+    kill(getppid(), SIGUSR2);
+    other = client();
+    (void)hear(other, 3);
+    usleep(50000);
+    kill(getppid(), SIGUSR1);
+    gone(other);
+    gone(fd);
+    answers(fd = client(), 1);
+    gone(fd);
+}
+
+/* A jump out of a handler that waits itself, upon a wait. */
+static void jumps_far(void) {
+    struct sigaction act = {.sa_handler = handler_waits};
+    sigaction(SIGUSR2, &act, NULL);
+    begin(is_left_twice);
+    on_signal(handler_jumps, 0);
+    if (sigsetjmp(place, 1) == 0)
+        is(receives(server, &WAITS), 1, "a jump goes on");
+    is(asks(), 0, "a request behind two waits that were left");
+    end("two waits that were left");
+}
+
 static void handler_jumps_within(int number) {
     static sigjmp_buf within;
     (void)number;
@@ -172,6 +204,7 @@ int main(int argc, char **argv) {
     fork_in_a_handler();
     jumps(handler_leaves, "a jump that is told of");
     jumps(handler_jumps, "a jump that is not told of");
+    jumps_far();
     jumps_within();
     unlink(path);
     printf("%d passed, %d failed\n", passed, failed);
