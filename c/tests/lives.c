@@ -265,6 +265,13 @@ static void fork_beside_a_wait(void) {
 
 /* ---- paths */
 
+/* The number that the next descriptor gets. */
+static int next_descriptor(void) {
+    int fd = dup(0);
+    close(fd);
+    return fd;
+}
+
 static void paths(void) {
     char folder[4200], whole[4300], before[4400];
     struct greeting greeting;
@@ -274,7 +281,9 @@ static void paths(void) {
     serves(one);
     is(rename(path, whole), 0, "a socket of a long name");
     is(server_begin(whole, 1000, &server), 0, "begin");
+    int next = next_descriptor();
     is(asks(), 0, "a request");
+    is(next_descriptor(), next, "what was opened for the name is closed");
     end("a long name");
     serves(one);
     is(getcwd(before, sizeof before) != NULL, 1, "here");
