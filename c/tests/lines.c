@@ -264,6 +264,13 @@ static void tells_what_is_none(void) {
     gone(fd);
     greet(fd = accepted(), 2);
     gone(fd);
+    /* Another length, a number and a code. */
+    for (int at = 0; at < 12; at += 4) {
+        uint8_t greeting[36] = {[0] = 32, [12] = 1};
+        greeting[at]++;
+        give(fd = accepted(), greeting, sizeof greeting);
+        gone(fd);
+    }
     fd = accepted();
     give(fd, "\40\0\0\0", 4);
     close(fd);
@@ -281,6 +288,8 @@ static void none(void) {
     server_end(server);
     server = begun(1000);
     is(server_greeting(server, &greeting), -EPROTO, "another version");
+    for (int n = 0; n < 3; n++)
+        is(server_greeting(server, &greeting), -EPROTO, "a greeting that is none");
     is(server_greeting(server, &greeting), -ECONNRESET, "half a greeting");
     server_end(server);
     has_ended("what is none");
