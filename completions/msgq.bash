@@ -2,7 +2,7 @@
 
 _msgq() {
     local word=${COMP_WORDS[COMP_CWORD]} before=${COMP_WORDS[COMP_CWORD - 1]} command= at
-    local commands='new run replay check stat migrate copy grow salvage send receive peek do list make remove set help'
+    local commands='new run replay check stat migrate copy grow salvage send receive peek do serve list make remove set help'
     local callers='--pid --uid --gid --help'
     for ((at = 1; at < COMP_CWORD; at++)); do
         [[ ${COMP_WORDS[at]} == -* ]] && continue
@@ -24,7 +24,7 @@ _msgq() {
     fi
     case $before in
         --wait | -w) [[ $command == run || $command == replay || $command == grow ]] && return ;;
-        --type | -t | --mode | --pages | -p | --size | --serial | --qbytes | --owner | --group | --shared | --pid | --uid | --gid) return ;;
+        --type | -t | --mode | --pages | -p | --size | --serial | --qbytes | --owner | --group | --shared | --pid | --uid | --gid | --every | --clients | --waits) return ;;
     esac
     local options=--help makes='--create -c --mode --qbytes --owner --group --shared --pages -p'
     case $command in
@@ -39,6 +39,8 @@ _msgq() {
         receive) options="--type -t --size --noerror --header --all -a --serial $makes --wait -w $callers" ;;
         peek) options="--type -t --header $callers" ;;
         do) options='--type -t --wait -w --recover --help -h' ;;
+        serve)
+            options='--socket -s --mode --group --durable --every --in-memory --create -c --pages -p --clients --waits --help -h' ;;
         list) options='--json --help' ;;
         make) options="--mode --qbytes --owner --group --shared $callers" ;;
         remove) options=$callers ;;

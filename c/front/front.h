@@ -26,6 +26,7 @@ struct verb {
 extern const struct verb VERBS[];
 
 int do_run(int count, char **words);
+int serve_run(int count, char **words);
 
 /* Prints a line on standard error, behind `msgq: `. */
 void complain(const char *format, ...) __attribute__((format(printf, 1, 2)));

@@ -1,9 +1,9 @@
 /* The program `msgq`: the verbs of its table run here, over libmsgq; every other command is handed to the proved
  * program, which takes the place of this process. */
 #include "front.h"
+#include "programs.h"
 
 #include <errno.h>
-#include <limits.h>
 #include <signal.h>
 #include <stdarg.h>
 #include <stdio.h>
@@ -14,6 +14,7 @@
 
 const struct verb VERBS[] = {
     {"do", "Takes a message, and runs a command on it", do_run},
+    {"serve", "Serves a file to other processes, through a socket", serve_run},
     {NULL, NULL, NULL},
 };
 
@@ -29,35 +30,10 @@ void complain(const char *format, ...) {
 
 /* ---- the proved program */
 
-/* Its path, from that of this program: PREFIX/libexec/msgq/msgq of PREFIX/bin/msgq. */
-static bool find_program(char *path) {
-    static const char proved[] = "libexec/msgq/msgq";
-    ssize_t length = readlink("/proc/self/exe", path, PATH_MAX);
-    if (length < 0 || length >= PATH_MAX) {
-        complain("the program's own path can't be read: %s", length < 0 ? strerror(errno) : "it is too long");
-        return false;
-    }
-    path[length] = '\0';
-    for (int up = 0; up < 2; up++) {
-        char *slash = strrchr(path, '/');
-        if (slash == NULL)
-            return false;
-        *slash = '\0';
-    }
-    size_t above = strlen(path);
-    if (above + 1 + sizeof proved > PATH_MAX) {
-        complain("the program's own path is too long");
-        return false;
-    }
-    path[above] = '/';
-    memcpy(path + above + 1, proved, sizeof proved);
-    return true;
-}
-
 /* Becomes the proved program; returns where that can't be. */
 static int hand_over(char **argv) {
-    char path[PATH_MAX + 1];
-    if (!find_program(path))
+    char path[PROGRAM_BYTES];
+    if (!find_program("msgq", path))
         return FAULT;
     (void)execv(path, argv);
     complain("%s: it can't be run: %s", path, strerror(errno));

@@ -1,0 +1,214 @@
+/* The table of connections: they come, are watched, and go. */
+#include "clients.h"
+#include "../front/front.h"
+#include "traffic.h"
+
+#include <errno.h>
+#include <stdlib.h>
+#include <string.h>
+#include <sys/epoll.h>
+#include <sys/socket.h>
+#include <unistd.h>
+
+/* (Linux 6.5; headers may be older) */
+#ifndef SO_PEERPIDFD
+#define SO_PEERPIDFD 77
+#endif
+
+bool clients_begin(struct clients *it, uint32_t most) {
+    *it = (struct clients){.most = most, .places_count = 1, .last_number = OWN_CONNECTION};
+    while (it->places_count < most)
+        it->places_count *= 2;
+    it->places = calloc(it->places_count, sizeof *it->places);
+    return it->places != NULL;
+}
+
+static struct client **place_of(struct clients *it, uint32_t number) {
+    struct client **at = &it->places[number & (it->places_count - 1)];
+    while (*at != NULL && (*at)->number != number)
+        at = &(*at)->next;
+    return at;
+}
+
+struct client *client_of(struct clients *it, uint32_t number) {
+    return *place_of(it, number);
+}
+
+/* ---- what is looked at */
+
+static bool add(int epoll, struct watch *watch, uint32_t events) {
+    struct epoll_event event = {.events = events, .data.ptr = watch};
+    return epoll_ctl(epoll, EPOLL_CTL_ADD, watch->file, &event) == 0;
+}
+
+void client_watch(struct clients *it, struct client *client) {
+    bool has_out = client->out.begin < client->out.end;
+    bool is_read = !client->is_ending && !client->is_held && !client->is_paused
+                && client->out.end - client->out.begin <= MOST_OUT;
+    uint32_t events = (is_read ? (uint32_t)EPOLLIN : 0) | (has_out ? (uint32_t)EPOLLOUT : 0);
+    struct epoll_event event = {.events = events, .data.ptr = &client->socket};
+    if (client->is_gone || events == client->events)
+        return;
+    client->events = events;
+    if (epoll_ctl(it->epoll, EPOLL_CTL_MOD, client->socket.file, &event) != 0)
+        clients_lose(it, client);
+}
+
+/* ---- they come */
+
+/* Who stands behind a connection, as the system tells it. */
+static bool read_caller(struct clients *it, struct client *client) {
+    struct ucred peer;
+    socklen_t size = sizeof peer;
+    if (getsockopt(client->socket.file, SOL_SOCKET, SO_PEERCRED, &peer, &size) != 0)
+        return false;
+    if (peer.pid == 0) {
+        if (!it->has_told)
+            complain("a process of another pid namespace was refused, as all such are: it has no number here");
+        it->has_told = true;
+        return false;
+    }
+    client->caller = (struct caller){(uint32_t)peer.pid, peer.uid, peer.gid};
+    return true;
+}
+
+/* Looks at the process behind it too: a child that has inherited the socket would hide its end. False where that would
+ * be told, and can't be. */
+static bool watch_process(struct clients *it, struct client *client) {
+    socklen_t size = sizeof client->process.file;
+    if (getsockopt(client->socket.file, SOL_SOCKET, SO_PEERPIDFD, &client->process.file, &size) == 0)
+        return add(it->epoll, &client->process, EPOLLIN);
+    client->process.file = -1;
+    return errno == ENOPROTOOPT;
+}
+
+static void close_both(struct client *client) {
+    (void)close(client->socket.file);
+    if (client->process.file >= 0)
+        (void)close(client->process.file);
+}
+
+bool clients_admit(struct clients *it, int file) {
+    if (it->last_number == UINT32_MAX) {
+        (void)close(file);
+        return false;
+    }
+    struct client *client = it->count < it->most ? malloc(sizeof *client) : NULL;
+    if (client == NULL) {
+        (void)close(file);
+        return true;
+    }
+    /* What it sends is written over what stands in the room for it, which is not cleared. */
+    memset(client, 0, offsetof(struct client, in));
+    client->socket = (struct watch){CLIENT, file};
+    client->process = (struct watch){PROCESS, -1};
+    client->events = EPOLLIN;
+    if (!read_caller(it, client) || !watch_process(it, client) || !add(it->epoll, &client->socket, EPOLLIN)
+        || !client_put(it, client, it->greeting, sizeof it->greeting)) {
+        close_both(client);
+        free(client);
+        return true;
+    }
+    client->number = ++it->last_number;
+    it->count++;
+    *place_of(it, client->number) = client;
+    return true;
+}
+
+/* ---- they go */
+
+void clients_lose(struct clients *it, struct client *client) {
+    if (client->is_gone)
+        return;
+    client->is_gone = true;
+    if (client->is_heard)
+        core_tell(it->core, &(struct record){.connection = client->number, .kind = GONE, .caller = client->caller});
+    close_both(client);
+    *place_of(it, client->number) = client->next;
+    it->count--;
+    /* Events that were told with this one may still point to it. */
+    if (!client->is_due) {
+        client->next_due = it->gone;
+        it->gone = client;
+    }
+}
+
+static void free_gone(struct clients *it) {
+    while (it->gone != NULL) {
+        struct client *client = it->gone;
+        it->gone = client->next_due;
+        free(client->out.bytes);
+        free(client);
+    }
+}
+
+void clients_flush(struct clients *it) {
+    while (it->due != NULL) {
+        struct client *client = it->due;
+        it->due = client->next_due;
+        client_flush(it, client);
+        client->is_due = false;
+        if (client->is_gone) {
+            client->next_due = it->gone;
+            it->gone = client;
+        } else {
+            client_watch(it, client);
+        }
+    }
+    free_gone(it);
+}
+
+/* ---- all of them */
+
+static void each(struct clients *it, void (*act)(struct clients *, struct client *)) {
+    for (uint32_t place = 0; place < it->places_count; place++)
+        for (struct client *client = it->places[place], *next; client != NULL; client = next) {
+            next = client->next;
+            act(it, client);
+        }
+}
+
+static void resume(struct clients *it, struct client *client) {
+    if (!client->is_paused)
+        return;
+    client_hand_over(it, client);
+    client_watch(it, client);
+}
+
+void clients_resume(struct clients *it) {
+    /* It goes on where it was last time, so that those who ask without end don't shut others out. */
+    for (uint32_t count = 0; count < it->places_count && !core_is_busy(it->core); count++) {
+        it->turn = (it->turn + 1) & (it->places_count - 1);
+        for (struct client *client = it->places[it->turn], *next; client != NULL; client = next) {
+            next = client->next;
+            resume(it, client);
+        }
+    }
+    it->has_paused = core_is_busy(it->core);
+}
+
+static void stop(struct clients *it, struct client *client) {
+    client_hand_over(it, client);
+    client_watch(it, client);
+}
+
+void clients_stop(struct clients *it) {
+    it->is_stopped = true;
+    each(it, stop);
+}
+
+bool clients_wait(const struct clients *it) {
+    for (uint32_t place = 0; place < it->places_count; place++)
+        for (const struct client *client = it->places[place]; client != NULL; client = client->next)
+            if (client->out.begin < client->out.end)
+                return true;
+    return false;
+}
+
+void clients_end(struct clients *it) {
+    if (it->places != NULL)
+        each(it, clients_lose);
+    clients_flush(it);
+    free(it->places);
+    it->places = NULL;
+}
