@@ -514,9 +514,9 @@ class Reserved:
         self._is_held = False
 
     def acknowledge(self):
-        """It is dealt with. OSError of EIDRM or Invalid where it is held no longer."""
+        """It is dealt with. Invalid where it is held no longer."""
         self._settle("acknowledge")
 
     def release(self):
-        """It is sent to its queue again, last. OSError of EIDRM or Invalid where it is held no longer."""
+        """It is sent to its queue again, last. Invalid where it is held no longer."""
         self._settle("release")

@@ -76,7 +76,7 @@ def reservations(queue):
     job = queue.reserve()
     expect(job.message.body, b"job", "it was released")
     job.release()
-    expect(refusal(job.acknowledge), errno.EIDRM, "what is held no longer")
+    expect(refusal(job.acknowledge), errno.EINVAL, "what is held no longer")
     with queue.reserve() as job:
         job.acknowledge()
     expect(refusal(queue.reserve, timeout=0.01), errno.ETIMEDOUT, "a wait that ends")

@@ -119,6 +119,13 @@ static inline void tell(int fd, uint32_t number, uint32_t code, uint32_t value, 
     give(fd, frame, answer(frame, number, code, value, fields, count));
 }
 
+/* A message of type 5 with serial 9 from process 77. */
+static inline void tell_message(int fd, uint32_t number, uint32_t value, const char *body) {
+    uint8_t fields[24 + 1024] = {9, 0, 0, 0, 0, 0, 0, 0, 77, 0, 0, 0, 0, 0, 0, 0, 5};
+    memcpy(fields + 24, body, strlen(body));
+    tell(fd, number, 0, value, fields, 24 + strlen(body));
+}
+
 /* ---- the client's side */
 
 static pid_t process;
@@ -166,6 +173,13 @@ static inline int receives(struct server *server, const struct waiting *how) {
     const struct iovec message = {room, sizeof room};
     const struct selection it = {.id = 3, .type = -4, .size = 1024, .message = &message, .parts = 1};
     return request_receive(server, &it, how, &got);
+}
+
+static inline int sends(struct server *server, const struct waiting *how) {
+    uint8_t type[8] = {5};
+    const struct iovec message[] = {{type, sizeof type}, {"body", 4}};
+    uint64_t serial;
+    return request_send(server, 3, 0, message, 2, how, &serial);
 }
 
 /* ---- one server, and one request of no matter what */

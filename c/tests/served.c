@@ -186,7 +186,7 @@ static void reservations(msgq *queues, uint32_t id) {
              "queue @1: ENOMSG: there is no message that the type selects");
         is(n == 0 ? msgq_release(queues, holding) : msgq_acknowledge(queues, holding), 0, "an end of it");
     }
-    is(msgq_acknowledge(queues, holding), EIDRM, "what has ended");
+    is(msgq_acknowledge(queues, holding), EINVAL, "what has ended");
     says(msgq_release(queues, id), EINVAL, path, "queue @1: EINVAL: no message is held by this id");
     is(msgq_reserve(queues, id, 0, room, sizeof room, 0, msgq_within(20), &got, &holding), ETIMEDOUT, "a wait that ends");
 }

@@ -208,7 +208,9 @@ static void beginnings(void) {
     char long_one[5000];
     memset(long_one, 'x', sizeof long_one - 1);
     long_one[sizeof long_one - 1] = '\0';
+    struct wire wire;
     is(server_begin(long_one, 100, &made), ENAMETOOLONG, "a name that is too long");
+    is(wire_dial(&wire, long_one), ENAMETOOLONG, "a name that is too long");
     snprintf(long_one, 300, "/tmp/%0*d/s", 150, 0);
     struct greeting greeting;
     is(server_begin(long_one, 100, &made), 0, "a name that is long");
@@ -216,6 +218,10 @@ static void beginnings(void) {
     arm(OPEN, 1, 1, EACCES);
     is(server_greeting(made, &greeting), -EACCES, "its folder can't be opened");
     is(disarm(), true, "it is come to");
+    server_end(made);
+    snprintf(long_one, 300, "/tmp/%0*d", 150, 0);
+    is(server_begin(long_one, 100, &made), 0, "a name that is long");
+    is(server_greeting(made, &greeting), -ENAMETOOLONG, "its last part is too long for a socket");
     server_end(made);
 }
 

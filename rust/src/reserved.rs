@@ -37,7 +37,7 @@ impl<'a> Reserved<'a> {
     /// It is dealt with, and gone.
     ///
     /// # Errors
-    /// `EIDRM` or `EINVAL` where it is held no longer.
+    /// `EINVAL` where it is held no longer.
     pub fn acknowledge(self) -> Result<(), Error> {
         self.settle(raw::msgq_acknowledge)
     }
@@ -45,7 +45,7 @@ impl<'a> Reserved<'a> {
     /// It is sent to its queue again, last.
     ///
     /// # Errors
-    /// `EIDRM` or `EINVAL` where it is held no longer.
+    /// `EINVAL` where it is held no longer.
     pub fn release(self) -> Result<(), Error> {
         self.settle(raw::msgq_release)
     }
