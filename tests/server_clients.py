@@ -1,7 +1,9 @@
 """Rows of tests/server about its clients: what they send, wait for and never read, how they die, and how many they may be."""
 import os
+import random
 import resource
 import signal
+import socket
 import struct
 import time
 
@@ -97,10 +99,13 @@ def rows_of_many_waits(room, server, client, id, waiting):
         many.put(f.receive(66, id) + f.cancel(0, 3))
         room.judge("a cancel behind the most is heard", (3, f.CANCELLED), many.answer()[:2])
     room.judge("none waits for who is gone", True, wait_for(lambda: waiting() == 0))
+    before = memory_of(server)
     clients = [server.client() for _ in range(1000)]
     for number, it in enumerate(clients, 1):
         it.put(f.receive(number, id))
     room.judge("a thousand wait", True, wait_for(lambda: waiting() == 1000))
+    # (a sanitizer has shadows of all)
+    room.judge("each takes less than 16 KiB", True, memory_of(server) - before < (16000 if server.is_plain else 64000))
     # (they arrived in an order of which only each one's own calls are sure)
     for number in range(1000):
         client.call(f.send, id, 1, b"%d" % number)
@@ -139,10 +144,54 @@ def rows_of_readers(room, server):
         client.call(f.remove, id)
 
 
+def draw_frame(rng, ids):
+    """A request that may be any, or that has something wrong."""
+    number, id = rng.randrange(2**32), rng.choice(ids)
+    frame = bytearray(rng.choice([
+        lambda: f.get(number, key=rng.choice([None, 7, 2**32 - 1]), create=True, mode=rng.choice([0o600, 0o666])),
+        lambda: f.send(number, id, rng.choice([1, 5, 0, -2**63, 2**63 - 1]), bytes(rng.choice([0, 1, 1024])), nowait=rng.random() < 0.5),
+        lambda: f.receive(number, id, rng.choice([0, 5, -5, -2**63]), rng.choice([0, 10, 2**32 - 1]), nowait=rng.random() < 0.5),
+        lambda: f.set(number, id, rng.choice([0, 16384, 2**32 - 1]), user=rng.choice([None, 5]), mode=rng.choice([None, 0o666])),
+        lambda: f.request(number, rng.randrange(256), rng.randrange(256), rng.randrange(2**16), id, bytes(rng.randrange(40))),
+        lambda: f.cancel(number, rng.randrange(3)),
+        lambda: f.nth(number, rng.randrange(300)),
+    ])())
+    if rng.random() < 0.1:
+        frame[rng.randrange(len(frame))] = rng.randrange(256)
+    return bytes(frame)
+
+
+def rows_of_garbage(room, server):
+    """Clients that send whatever it is, in pieces, and go when they like."""
+    rng = random.Random(203)
+    with server.client() as beside:
+        ids = [0, 1, 2, make_queue(beside), 2**32 - 1]
+        for _ in range(200):
+            with server.client() as client:
+                data = b"".join(draw_frame(rng, ids) for _ in range(rng.choice([1, 5, 100])))
+                try:
+                    for at in range(0, len(data), 700):
+                        client.socket.send(data[at:at + 700], socket.MSG_DONTWAIT)
+                except OSError:
+                    pass  # it was hung up on, or is not read from any more
+                if rng.random() < 0.5:
+                    time.sleep(0.002)
+        room.judge("beside clients that send anything", f.DONE, beside.call(f.info).code)
+        room.judge("none of them waits", True, wait_for(lambda: f.read_info(beside.call(f.info).fields).waiting == 0))
+
+
+# Those that are made of one server.
+ROWS = rows_of_frames, rows_of_waits, rows_of_readers, rows_of_garbage
+
+
 def rows_of_limits(room):
     path = room.file()
-    limited = lambda: resource.setrlimit(resource.RLIMIT_NOFILE, (40, 40))  # noqa: E731
-    for name, server in (("40 descriptors", Server(room, path, preexec_fn=limited)), ("3 clients", Server(room, path + "b", "--create", "--clients", "3"))):
+    # A client takes two descriptors, so that with one of these it is the first which lacks, and with the other the second.
+    limit = lambda most: lambda: resource.setrlimit(resource.RLIMIT_NOFILE, (most, most))  # noqa: E731
+    for name, server in (("40 descriptors", lambda: Server(room, path, preexec_fn=limit(40))),
+                         ("41 descriptors", lambda: Server(room, path, preexec_fn=limit(41))),
+                         ("3 clients", lambda: Server(room, path, "--clients", "3"))):
+        server = server()
         served, refused = [], 0
         for _ in range(50):
             try:

@@ -21,16 +21,18 @@ class Room:
         self.folder = tempfile.mkdtemp()
         os.chmod(self.folder, 0o755)
         self.program, self.core, self.front = program, core, front
+        # what it saves no program reads
+        self.is_fake = os.path.basename(core) == "fake_core"
         self.servers, self.count = [], 0
         self.usual = self.root("usual", core)
         self.passed = self.failed = 0
 
-    def root(self, name, core):
+    def root(self, name, core, front=None):
         """A front as it is installed, over this core."""
         root = f"{self.folder}/{name}"
         os.makedirs(root + "/bin")
         os.makedirs(root + "/libexec/msgq")
-        shutil.copy(self.front, root + "/bin/msgq")
+        shutil.copy(front or self.front, root + "/bin/msgq")
         os.symlink(self.program, root + "/libexec/msgq/msgq")
         os.symlink(core, root + "/libexec/msgq/msgqd")
         return root + "/bin/msgq"
@@ -64,6 +66,7 @@ class Server:
     def __init__(self, room, path, *words, front=None, is_ready=True, environment=None, **how):
         self.path, self.socket = path, path + ".socket"
         self.errors = tempfile.TemporaryFile("w+")
+        self.is_plain = front is None
         self.process = subprocess.Popen([front or room.usual, "serve", path, *words], stdin=subprocess.DEVNULL, stdout=subprocess.PIPE,
                                         stderr=self.errors, env={**os.environ, **(environment or {})}, text=True, **how)
         room.servers.append(self)

@@ -1,8 +1,10 @@
 """Kills at random: clients send, receive, reserve and acknowledge while the server and its core are killed again and again. Each send that was
 answered is received once, or is in the file."""
+import json
 import os
 import random
 import signal
+import subprocess
 import time
 
 import frames as f
@@ -91,8 +93,31 @@ def read_logs(room, numbers):
     return found
 
 
+def asked(room, path):
+    """What the file has in the queues of keys 7 and 8, and what else, as a server tells it."""
+    server = Server(room, path)
+    with server.client() as client:
+        found = left_of(client)
+    room.judge("storm: the server that reads the file", 0, server.end())
+    return found
+
+
+def listed(room, path):
+    """The same, as the program tells it, which is no server."""
+    def run(*words):
+        return subprocess.run([room.program, *words], stdout=subprocess.PIPE, text=True).stdout
+
+    room.judge("storm: the file is right", "ok ", run("check", path)[:3])
+    queues = json.loads(run("list", path, "--json"))["queues"]
+    found = {7: [], 8: [], None: []}
+    for it in queues:
+        messages = json.loads(run("list", path, f"@{it['id']}", "--json"))["messages"]
+        found[it["key"]] += [it["mtext"] for it in messages]
+    room.judge("storm: no queue holds a message", [], [it["id"] for it in queues if it["key"] is None])
+    return found
+
+
 def left_of(client):
-    """What the file has in the queues of keys 7 and 8, and what else."""
     found, id = {7: [], 8: [], None: []}, 0
     while True:
         answer = client.call(f.next_above, id)
@@ -126,10 +151,7 @@ def storm(room, path):
 def rows(room):
     path = room.file()
     storm(room, path)
-    server = Server(room, path)
-    with server.client() as client:
-        left = left_of(client)
-    room.judge("storm: the server that reads the file", 0, server.end())
+    left = asked(room, path) if room.is_fake else listed(room, path)
     taken, kept = read_logs(room, range(1, WORKERS, 2)), read_logs(room, range(0, WORKERS, 2))
     room.judge("storm: nothing is in hand any more", [], left[None])
     for name, log, there in (("received", taken, left[7]), ("reserved", kept, left[8])):

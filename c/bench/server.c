@@ -1,6 +1,6 @@
-/* Microseconds a message takes through a server, its send and its receive by turns: server SOCKET [SECONDS]. Each of 1, 4
- * and 16 clients is a process with a queue of its own and one call under way; a cell is the median of five runs. Speaks
- * docs/PROTOCOL.md by itself, so that the server's time is told and not a library's. */
+/* Microseconds a message takes through a server, its send and its receive by turns: server SOCKET [SECONDS]. Each of
+ * 1, 4 and 16 clients is a process with a queue of its own and one call under way; a cell is the median of five runs.
+ * Speaks docs/PROTOCOL.md by itself, so that the server's time is told and not a library's. */
 #include "../relay/numbers.h"
 
 #include <errno.h>

@@ -16,7 +16,7 @@
 #endif
 
 bool clients_begin(struct clients *it, uint32_t most) {
-    *it = (struct clients){.most = most, .places_count = 1};
+    *it = (struct clients){.most = most, .places_count = 1, .last_number = OWN_CONNECTION};
     while (it->places_count < most)
         it->places_count *= 2;
     it->places = calloc(it->places_count, sizeof *it->places);
@@ -43,7 +43,7 @@ static bool add(int epoll, struct watch *watch, uint32_t events) {
 
 void client_watch(struct clients *it, struct client *client) {
     bool has_out = client->out.begin < client->out.end;
-    bool is_read = !it->is_stopped && !client->is_ending && !client->is_held && !client->is_paused
+    bool is_read = !client->is_ending && !client->is_held && !client->is_paused
                 && client->out.end - client->out.begin <= MOST_OUT;
     uint32_t events = (is_read ? (uint32_t)EPOLLIN : 0) | (has_out ? (uint32_t)EPOLLOUT : 0);
     struct epoll_event event = {.events = events, .data.ptr = &client->socket};
@@ -64,7 +64,7 @@ static bool read_caller(struct clients *it, struct client *client) {
         return false;
     if (peer.pid == 0) {
         if (!it->has_told)
-            complain("a process of another pid namespace was refused, as all such are: nobody could tell it from others");
+            complain("a process of another pid namespace was refused, as all such are: it has no number here");
         it->has_told = true;
         return false;
     }
@@ -122,7 +122,7 @@ void clients_lose(struct clients *it, struct client *client) {
         return;
     client->is_gone = true;
     if (client->is_heard)
-        core_tell(it->core, client->number, GONE, &client->caller, NULL, 0);
+        core_tell(it->core, &(struct record){.connection = client->number, .kind = GONE, .caller = client->caller});
     close_both(client);
     *place_of(it, client->number) = client->next;
     it->count--;
@@ -171,19 +171,30 @@ static void each(struct clients *it, void (*act)(struct clients *, struct client
 static void resume(struct clients *it, struct client *client) {
     if (!client->is_paused)
         return;
-    client->is_paused = false;
     client_hand_over(it, client);
     client_watch(it, client);
 }
 
 void clients_resume(struct clients *it) {
-    it->has_paused = false;
-    each(it, resume);
+    /* It goes on where it was last time, so that those who ask without end don't shut others out. */
+    for (uint32_t count = 0; count < it->places_count && !core_is_busy(it->core); count++) {
+        it->turn = (it->turn + 1) & (it->places_count - 1);
+        for (struct client *client = it->places[it->turn], *next; client != NULL; client = next) {
+            next = client->next;
+            resume(it, client);
+        }
+    }
+    it->has_paused = core_is_busy(it->core);
+}
+
+static void stop(struct clients *it, struct client *client) {
+    client_hand_over(it, client);
+    client_watch(it, client);
 }
 
 void clients_stop(struct clients *it) {
     it->is_stopped = true;
-    each(it, client_watch);
+    each(it, stop);
 }
 
 bool clients_wait(const struct clients *it) {

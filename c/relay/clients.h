@@ -24,6 +24,8 @@ enum {
     /* No more is read from a client while so many bytes of its answers wait, or so many of its calls are under way. */
     MOST_OUT = 1 << 18,
     MOST_UNDER_WAY = 64,
+    /* The connection that the relay's own calls have: nobody's, so that their answers go nowhere. */
+    OWN_CONNECTION = 1,
     GREETING_BYTES = 36,
 };
 
@@ -53,8 +55,9 @@ struct clients {
     struct client *due, *gone;
     uint32_t count, most;
     uint32_t last_number;
-    bool is_stopped;  /* no more is read */
-    bool has_paused;  /* somebody, since that was cleared */
+    bool is_stopped;  /* no more is handed to the core */
+    uint32_t turn;    /* the place whose clients were resumed last */
+    bool has_paused;  /* perhaps: somebody may be */
     bool has_traffic; /* something was asked since that was cleared */
     bool has_told;    /* that a process of another namespace was refused */
     uint8_t greeting[GREETING_BYTES];
@@ -80,7 +83,7 @@ void clients_resume(struct clients *it);
 /* Writes what waits for those that have got something, and frees those that are gone. */
 void clients_flush(struct clients *it);
 
-/* Reads no more from anyone. */
+/* Hands no more to the core: what else is asked is answered that the server ends. */
 void clients_stop(struct clients *it);
 
 /* Whether any answer is not written yet. */

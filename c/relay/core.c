@@ -174,28 +174,25 @@ bool core_is_free(const struct core *it) {
     return count_of(&it->told) <= MOST_TOLD / 2;
 }
 
-void core_tell(struct core *it, uint32_t connection, enum kind kind, const struct caller *caller, const uint8_t *request,
-               size_t count) {
-    static const struct caller nobody = {0, 0, 0};
+void core_tell(struct core *it, const struct record *record) {
     struct pipe_room *told = &it->told;
     /* Where it is busy one save is behind all requests that wait, since no more are added. */
-    bool is_late_save = kind == SAVE && core_is_busy(it);
+    bool is_late_save = record->kind == SAVE && core_is_busy(it);
     if (is_late_save && it->has_late_save)
         return;
     it->has_late_save = is_late_save || (it->has_late_save && core_is_busy(it));
-    caller = caller == NULL ? &nobody : caller;
-    if (told->size - told->end < HEAD + count)
+    if (told->size - told->end < HEAD + record->count)
         close_up(told);
     uint8_t *at = told->bytes + told->end;
-    put_u32(at, (uint32_t)(HEAD - 4 + count));
-    put_u32(at + 4, connection);
-    put_u32(at + 8, kind);
-    put_u32(at + 12, caller->process);
-    put_u32(at + 16, caller->user);
-    put_u32(at + 20, caller->group);
-    if (count > 0)
-        memcpy(at + HEAD, request, count);
-    told->end += HEAD + count;
+    put_u32(at, (uint32_t)(HEAD - 4 + record->count));
+    put_u32(at + 4, record->connection);
+    put_u32(at + 8, record->kind);
+    put_u32(at + 12, record->caller.process);
+    put_u32(at + 16, record->caller.user);
+    put_u32(at + 20, record->caller.group);
+    if (record->count > 0)
+        memcpy(at + HEAD, record->request, record->count);
+    told->end += HEAD + record->count;
 }
 
 bool core_flush(struct core *it) {
@@ -215,7 +212,7 @@ bool core_flush(struct core *it) {
 /* ---- what it answers */
 
 /* Hands on the whole answers that are there. False where one is none. */
-static bool take_answers(struct pipe_room *heard, void (*act)(void *with, const struct core_answer *answer), void *with) {
+static bool take_answers(struct pipe_room *heard, void (*act)(void *, const struct core_answer *), void *with) {
     while (count_of(heard) >= 4) {
         const uint8_t *at = heard->bytes + heard->begin;
         size_t length = get_u32(at);

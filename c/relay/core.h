@@ -32,6 +32,15 @@ struct core {
 /* How a look at its answers has ended. */
 enum heard { HEARD, CORE_ENDED, CORE_IS_WRONG };
 
+/* What it is told: of a request, the bytes from its number on; of all else none. */
+struct record {
+    uint32_t connection;
+    enum kind kind;
+    struct caller caller;
+    const uint8_t *request;
+    size_t count;
+};
+
 /* An answer: the connection that it is for, and the bytes from its number on. */
 struct core_answer {
     uint32_t connection;
@@ -50,10 +59,9 @@ bool core_is_busy(const struct core *it);
 /* Whether so little waits that clients may be read again. */
 bool core_is_free(const struct core *it);
 
-/* Adds a record to what it is told. Of a request, the bytes from its number on, where core_is_busy says no; of a
- * connection that is gone at most one for each that has had a request; and few of the others. */
-void core_tell(struct core *it, uint32_t connection, enum kind kind, const struct caller *caller, const uint8_t *request,
-               size_t count);
+/* Adds a record to what it is told: a request where core_is_busy says no; of a connection that is gone one at most,
+ * where it has had a request; and few of the others. */
+void core_tell(struct core *it, const struct record *record);
 
 /* Writes as much of that as its pipe takes. False where it reads no more. */
 bool core_flush(struct core *it);

@@ -116,7 +116,8 @@ int listener_begin(struct listener *it, const struct options *options, int hande
 /* Whether somebody listens who has not taken the lock. */
 static bool is_served(const struct sockaddr_un *name) {
     int file = socket(AF_UNIX, SOCK_STREAM | SOCK_NONBLOCK | SOCK_CLOEXEC, 0);
-    bool is_answered = file >= 0 && (connect(file, (const struct sockaddr *)name, sizeof *name) == 0 || errno != ECONNREFUSED);
+    bool is_answered = file >= 0
+                    && (connect(file, (const struct sockaddr *)name, sizeof *name) == 0 || errno != ECONNREFUSED);
     if (file >= 0)
         (void)close(file);
     return is_answered;
@@ -172,7 +173,8 @@ bool listener_open(struct listener *it, const struct options *options) {
     it->file = socket(AF_UNIX, SOCK_STREAM | SOCK_NONBLOCK | SOCK_CLOEXEC, 0);
     if (it->file < 0)
         return fails(it->path, "it can't be made");
-    return bind_it(it, &name, options) && (listen(it->file, BACKLOG) == 0 || fails(it->path, "it can't be listened to"));
+    return bind_it(it, &name, options)
+        && (listen(it->file, BACKLOG) == 0 || fails(it->path, "it can't be listened to"));
 }
 
 void listener_close(struct listener *it) {

@@ -17,7 +17,8 @@
 #include <time.h>
 #include <unistd.h>
 
-enum { MOST_EVENTS = 256, MOST_ACCEPTS = 64, MUTED = 100, DRAINED = 2000, MOST_BODY = 1024, VERSION = 1 };
+enum { MOST_EVENTS = 256, MOST_ACCEPTS = 64, MUTED = 100, DRAINED = 2000 }; /* the last two in milliseconds */
+enum { MOST_BODY = 1024, VERSION = 1, OPERATION_SAVE = 9 };
 
 static int64_t milliseconds(void) {
     struct timespec now;
@@ -113,7 +114,7 @@ static void close_listener(struct relay *it) {
     it->muted_until = 0;
 }
 
-/* Asks for nothing more: what was asked is answered, and the rest can be asked again of the next server. */
+/* Hands nothing more to the core: what it was told is answered, and the rest can be asked again of the next server. */
 static void begin_end(struct relay *it) {
     if (it->phase != SERVING)
         return;
@@ -121,7 +122,7 @@ static void begin_end(struct relay *it) {
     (void)service_tell("STOPPING=1\n");
     close_listener(it);
     clients_stop(&it->clients);
-    core_tell(&it->core, 0, END, NULL, NULL, 0);
+    core_tell(&it->core, &(struct record){.kind = END});
 }
 
 /* The core answers no more. */
@@ -182,13 +183,23 @@ static void accept_some(struct relay *it) {
 
 /* ---- signals and moments */
 
+/* Asks for a save, whatever the core was started for, once it has time to be asked. */
+static void ask_to_save(struct relay *it) {
+    static const uint8_t save[12] = {0, 0, 0, 0, OPERATION_SAVE};
+    struct caller own = {(uint32_t)getpid(), geteuid(), getegid()};
+    if (!it->wants_save || it->phase != SERVING || core_is_busy(&it->core))
+        return;
+    core_tell(&it->core, &(struct record){OWN_CONNECTION, REQUEST, own, save, sizeof save});
+    it->wants_save = false;
+}
+
 static void take_signals(struct relay *it) {
     struct signalfd_siginfo told;
     while (read(it->signals.file, &told, sizeof told) == (ssize_t)sizeof told) {
-        if (told.ssi_signo != SIGHUP)
+        if (told.ssi_signo == SIGHUP)
+            it->wants_save = true;
+        else
             begin_end(it);
-        else if (it->phase == SERVING)
-            core_tell(&it->core, 0, SAVE, NULL, NULL, 0);
     }
 }
 
@@ -208,7 +219,7 @@ static void take_moment(struct relay *it) {
         return;
     it->is_armed = false;
     if (it->phase == SERVING)
-        core_tell(&it->core, 0, SAVE, NULL, NULL, 0);
+        core_tell(&it->core, &(struct record){.kind = SAVE});
 }
 
 /* ---- the core */
@@ -280,6 +291,7 @@ static int patience(const struct relay *it) {
 
 /* What is due by now. */
 static void go_on(struct relay *it) {
+    ask_to_save(it);
     tell_core(it);
     clients_flush(&it->clients);
     /* Somebody may have gone meanwhile. */

@@ -29,6 +29,7 @@ struct relay {
     bool is_armed;        /* the timer */
     bool is_told;         /* that no client can be taken */
     bool is_writing;      /* something waits for the core's pipe */
+    bool wants_save;      /* that is to be asked for */
     int64_t muted_until;  /* while no client can be taken, 0 for else */
     int64_t drained_until;
 };

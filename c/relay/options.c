@@ -11,7 +11,8 @@
 
 #define CALL "msgq serve [OPTIONS] <FILE>"
 
-enum { PAGES = 4096, CLIENTS = 4096, MOST_CLIENTS = 1 << 20, WAITS = 4096, MOST_WAITS = 1 << 16, MOST_EVERY = 86400000 };
+enum { PAGES = 4096, CLIENTS = 4096, MOST_CLIENTS = 1 << 20, WAITS = 4096, MOST_WAITS = 1 << 16 };
+enum { MOST_EVERY = 86400000 };
 
 static const char USAGE[] =
     "Serves a file to other processes, through a socket\n"
@@ -34,9 +35,9 @@ static const char USAGE[] =
     "      --waits <N>      As many calls may wait at once [default: 4096]\n"
     "  -h, --help           Print help\n"
     "\n"
-    "It stays in the foreground, and says on standard output once it serves. TERM and INT end it: the file is saved, and a call\n"
-    "that waits is told that it was not made. HUP saves the file. A service manager may hand it the socket (LISTEN_FDS), and is told\n"
-    "when it serves (NOTIFY_SOCKET).\n"
+    "It stays in the foreground, and says on standard output once it serves. TERM and INT end it: the file is saved,\n"
+    "and a call that waits is told that it was not made. HUP saves the file. A service manager may hand it the socket\n"
+    "(LISTEN_FDS), and is told when it serves (NOTIFY_SOCKET).\n"
     "Exit status: 0 it was told to end, and the file is saved; 1 a fault; 2 the command line is wrong.\n"
     "More: docs/SHELL.md, docs/PROTOCOL.md, msgq(1).\n";
 
@@ -139,19 +140,18 @@ static int read_other(struct options *it, struct words *words) {
     if (take_option(words, "--pages", 'p', &value)) {
         value = take_value(words, value);
         it->creates = true;
-        return read_count(value, 65536, &it->pages) && it->pages >= 258
-                 ? DONE
-                 : misuse("'%s' is no number of pages, from 258 to 65536", value);
+        bool is_right = read_count(value, 65536, &it->pages) && it->pages >= 258;
+        return is_right ? DONE : misuse("'%s' is no number of pages, from 258 to 65536", value);
     }
     if (take_option(words, "--clients", '\0', &value)) {
         value = take_value(words, value);
-        return read_count(value, MOST_CLIENTS, &it->clients) ? DONE
-                                                             : misuse("'%s' is no number of clients, from 1 to 1048576", value);
+        bool is_right = read_count(value, MOST_CLIENTS, &it->clients);
+        return is_right ? DONE : misuse("'%s' is no number of clients, from 1 to 1048576", value);
     }
     if (take_option(words, "--waits", '\0', &value)) {
         value = take_value(words, value);
-        return read_count(value, MOST_WAITS, &it->waits) ? DONE
-                                                         : misuse("'%s' is no number of calls, from 1 to 65536", value);
+        bool is_right = read_count(value, MOST_WAITS, &it->waits);
+        return is_right ? DONE : misuse("'%s' is no number of calls, from 1 to 65536", value);
     }
     return -1;
 }

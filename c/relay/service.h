@@ -1,4 +1,5 @@
-/* What a service manager hands to a server, and is told by it: sd_listen_fds(3) and sd_notify(3), without their library. */
+/* What a service manager hands to a server, and is told by it: sd_listen_fds(3) and sd_notify(3), without their
+ * library. */
 #ifndef MSGQ_SERVICE_H
 #define MSGQ_SERVICE_H
 

@@ -11,7 +11,7 @@
 enum {
     LEAST_FRAME = 12, MOST_FRAME = 1044, /* what follows the length */
     AT_OPERATION = 8, CANCEL = 11,
-    AT_CODE = 4, WRONG_FRAME = 203,
+    AT_CODE = 4, ENDS = 201, WRONG_FRAME = 203,
 };
 
 /* ---- what it asks */
@@ -21,28 +21,50 @@ static bool is_out_of_range(uint32_t length) {
     return length < LEAST_FRAME || length > MOST_FRAME;
 }
 
-void client_hand_over(struct clients *it, struct client *client) {
-    client->is_held = false;
-    while (!client->is_gone && !client->is_ending && !it->is_stopped && client->in_end - client->in_begin >= 4) {
-        const uint8_t *at = client->in + client->in_begin;
-        uint32_t length = get_u32(at);
-        if (is_out_of_range(length)) {
+/* Takes the next whole frame, NULL where there is none yet. A client whose frames can't be told apart is lost. */
+static const uint8_t *next_frame(struct clients *it, struct client *client) {
+    const uint8_t *at = client->in + client->in_begin;
+    size_t count = client->in_end - client->in_begin;
+    if (client->is_gone || client->is_ending || count < 4)
+        return NULL;
+    if (is_out_of_range(get_u32(at))) {
+        clients_lose(it, client);
+        return NULL;
+    }
+    return count < 4 + (size_t)get_u32(at) ? NULL : at;
+}
+
+/* A cancel has no answer of its own, and may end what is under way. */
+static bool is_cancel(const uint8_t *frame) {
+    return frame[AT_OPERATION] == CANCEL;
+}
+
+/* Answers the frames that are there that the server ends. */
+static void refuse(struct clients *it, struct client *client) {
+    for (const uint8_t *at; (at = next_frame(it, client)) != NULL; client->in_begin += 4 + (size_t)get_u32(at)) {
+        uint8_t answer[16] = {12};
+        put_u32(answer + 4, get_u32(at + 4));
+        put_u32(answer + 8, ENDS);
+        if (!is_cancel(at) && !client_put(it, client, answer, sizeof answer))
             clients_lose(it, client);
-            return;
-        }
-        if (client->in_end - client->in_begin < 4 + (size_t)length)
-            break;
-        /* A cancel has no answer of its own, and may end what is under way. */
-        bool is_cancel = at[AT_OPERATION] == CANCEL;
+    }
+}
+
+void client_hand_over(struct clients *it, struct client *client) {
+    const uint8_t *at;
+    client->is_held = client->is_paused = false;
+    if (it->is_stopped)
+        refuse(it, client);
+    while ((at = next_frame(it, client)) != NULL) {
         client->is_paused = core_is_busy(it->core);
         it->has_paused |= client->is_paused;
-        client->is_held = !is_cancel && client->under_way >= MOST_UNDER_WAY;
+        client->is_held = !is_cancel(at) && client->under_way >= MOST_UNDER_WAY;
         if (client->is_paused || client->is_held)
             return;
-        core_tell(it->core, client->number, REQUEST, &client->caller, at + 4, length);
+        core_tell(it->core, &(struct record){client->number, REQUEST, client->caller, at + 4, get_u32(at)});
         client->is_heard = it->has_traffic = true;
-        client->under_way += !is_cancel;
-        client->in_begin += 4 + (size_t)length;
+        client->under_way += !is_cancel(at);
+        client->in_begin += 4 + (size_t)get_u32(at);
     }
 }
 
@@ -84,7 +106,7 @@ void clients_hear(struct clients *it, struct client *client, uint32_t events) {
 
 /* Makes room for so many more bytes. */
 static bool grow(struct pipe_room *out, size_t count) {
-    if (out->begin > 0) {
+    if (out->begin >= out->size / 2 && out->begin > 0) {
         memmove(out->bytes, out->bytes + out->begin, out->end - out->begin);
         out->end -= out->begin;
         out->begin = 0;
@@ -120,7 +142,7 @@ bool client_put(struct clients *it, struct client *client, const uint8_t *bytes,
 static void end_behind(struct clients *it, struct client *client) {
     client->is_ending = true;
     client->is_heard = false;
-    core_tell(it->core, client->number, GONE, &client->caller, NULL, 0);
+    core_tell(it->core, &(struct record){.connection = client->number, .kind = GONE, .caller = client->caller});
 }
 
 void clients_answer(struct clients *it, const struct core_answer *answer) {
@@ -143,7 +165,8 @@ void clients_answer(struct clients *it, const struct core_answer *answer) {
 void client_flush(struct clients *it, struct client *client) {
     struct pipe_room *out = &client->out;
     while (!client->is_gone && out->begin < out->end) {
-        ssize_t done = send(client->socket.file, out->bytes + out->begin, out->end - out->begin, MSG_NOSIGNAL | MSG_DONTWAIT);
+        const uint8_t *at = out->bytes + out->begin;
+        ssize_t done = send(client->socket.file, at, out->end - out->begin, MSG_NOSIGNAL | MSG_DONTWAIT);
         if (done < 0 && errno == EINTR)
             continue;
         if (done < 0 && errno == EAGAIN)

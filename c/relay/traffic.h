@@ -16,7 +16,8 @@ bool client_put(struct clients *it, struct client *client, const uint8_t *bytes,
 /* Writes what waits for a client, as much as it takes. */
 void client_flush(struct clients *it, struct client *client);
 
-/* Hands the whole frames that a client has sent to the core, as many as may be under way. */
+/* Hands the whole frames that a client has sent to the core, as many as may be under way; or answers them that the server
+ * ends, once it does. */
 void client_hand_over(struct clients *it, struct client *client);
 
 #endif

@@ -251,16 +251,22 @@ static bool fails_once(enum call call, int at, int wrong) {
     return was;
 }
 
-/* What is said where the first call of a kind fails. */
-static void says(enum call call, int at, int wrong, const char *name, const char *words) {
+/* What is said first where a call of a kind fails; tells the status. */
+static int tells(enum call call, int at, int wrong, const char *name, const char *words) {
     char expected[4096];
     bool is_answered;
     snprintf(expected, sizeof expected, "%s%s: %s", name, words, strerror(wrong));
     which = call, when = at, number = wrong;
-    is(serve_once(&is_answered), FAULT, expected);
+    int status = serve_once(&is_answered);
     is(strcmp(said, expected), 0, expected);
     if (strcmp(said, expected) != 0)
         fprintf(stderr, "and it said: %s\n", said);
+    return status;
+}
+
+/* The same, which ends it. */
+static void says(enum call call, int at, int wrong, const char *name, const char *words) {
+    is(tells(call, at, wrong, name, words), FAULT, words);
 }
 
 static void each_sentence(void) {
@@ -284,6 +290,8 @@ static void each_sentence(void) {
     says(SIGNALFD, 1, EMFILE, path, ": it can't be served");
     says(CALLOC, 1, ENOMEM, path, ": it can't be served");
     says(EPOLL_WAIT, 1, EFAULT, path, ": it can't be served on");
+    /* It goes on behind that one. */
+    is(tells(ACCEPT, 1, ENOBUFS, socket_path, ": no client can be taken"), DONE, "no client can be taken");
 }
 
 static void each_fails(void) {
