@@ -12,6 +12,8 @@
 static int no_server(int wrong) {
     if (wrong == ENOENT || wrong == ECONNREFUSED)
         return why(wrong, "nobody serves it");
+    if (wrong == ECONNRESET)
+        return why(wrong, "it hangs up at once: it has as many clients as it may, or ends");
     if (wrong == ETIMEDOUT || wrong == EPROTO)
         return why(wrong, "who has the socket does not greet as a server of this version");
     return wrong;
@@ -54,4 +56,8 @@ int msgq_attach(const char *path, msgq **queues) {
         wrong = msgq_open(path, queues);
     }
     return wrong;
+}
+
+int msgq_is_served(const msgq *queues) {
+    return queues != NULL && queues->calls->is_served;
 }

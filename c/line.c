@@ -210,8 +210,8 @@ static int listen_to(struct line *line, const struct request *asked, struct answ
     }
     uint32_t code = (uint32_t)number_at(it.head + 8, 4);
     told->length = it.whole - HEAD_BYTES;
-    if (it.whole != it.got || it.whole < HEAD_BYTES || number_at(it.head + 4, 4) != it.number
-        || (code == DONE && told->length < told->least) || !is_code(code) || (code == CANCELLED && it.why == 0))
+    if (it.whole != it.got || number_at(it.head + 4, 4) != it.number || (code == DONE && told->length < told->least)
+        || !is_code(code) || (code == CANCELLED && it.why == 0))
         return -EPROTO;
     told->value = (uint32_t)number_at(it.head + 12, 4);
     return code == CANCELLED ? -it.why : code == ENDS ? NOT_READ : (int)code;

@@ -105,6 +105,9 @@ int msgq_connect(const char *socket, msgq **queues);
  * opened. */
 int msgq_attach(const char *path, msgq **queues);
 
+/* 1 where a handle is of a server, 0 where this process has the file open. */
+int msgq_is_served(const msgq *queues);
+
 /* A limit of so many milliseconds; NULL, which is none, for a number below 0. It is the thread's, and stands until the thread
  * calls this again: msgq_receive(queues, id, 0, room, sizeof room, 0, msgq_within(50), &got). */
 const struct timespec *msgq_within(int64_t milliseconds);
@@ -125,11 +128,12 @@ int msgq_receive(msgq *queues, uint32_t id, int64_t type, void *room, size_t siz
 /* Takes a message as msgq_receive does, and keeps it safe until it is dealt with: a server holds it in a queue of its own, whose id is
  * told. msgq_acknowledge ends that, and the message; msgq_release sends it to its queue again, last. It is released where the thread
  * ends that has reserved it, its process, or the server, and so is what a server has left that was killed. So a message is dealt with
- * once or more often, and never lost. There has to be room for MSGQ_MAX_BODY bytes. ENOTSUP on a file that is opened. */
+ * once or more often, and is not lost unless its queue is removed. There has to be room for MSGQ_MAX_BODY bytes. ENOTSUP on a file
+ * that is opened. */
 int msgq_reserve(msgq *queues, uint32_t id, int64_t type, void *room, size_t size, int flags,
                  const struct timespec *limit, struct msgq_message *got, uint32_t *holding);
 
-/* EINVAL for an id that no message is held by, EIDRM where it was dealt with. */
+/* EINVAL for an id that no message is held by, EPERM where another user has reserved it. */
 int msgq_acknowledge(msgq *queues, uint32_t holding);
 int msgq_release(msgq *queues, uint32_t holding);
 

@@ -37,6 +37,7 @@ struct receiving {
 /* The calls of a kind, whose arguments were tested. Each gives 0 or the number of an error: a refusal, whose cause it may have noted, or
  * another, of which it has said the sentence. Who waits has an end by CLOCK_MONOTONIC, or NULL. The moments of calls are not given. */
 struct calls {
+    bool is_served;
     int (*get)(msgq *, struct get_call *, uint32_t *id);
     int (*send)(msgq *, struct sending *, const struct timespec *end);
     int (*receive)(msgq *, struct receiving *, const struct timespec *end);

@@ -167,6 +167,7 @@ static int disconnect(msgq *queues) {
 }
 
 static const struct calls CALLS = {
+    .is_served = true,
     .get = get, .send = send, .receive = receive, .reserve = reserve, .settle = settle,
     .stat = stat, .set = set, .remove = remove_queue, .list = list,
     /* What was answered is the server's to save. */

@@ -1,9 +1,13 @@
-"""XSI message queues in one file, between the threads of a process.
+"""XSI message queues in one file, between the threads of a process, or between any processes where a server has the file.
 
     with msgq.open("queues") as queues:
         jobs = queues.get(7, create=True)
         jobs.send(b"work", type=2)
         message = jobs.receive(timeout=1.5)
+
+    with msgq.attach("queues") as queues:      # asks its server, where it has one
+        with queues.get(7).reserve() as job:
+            print(job.body)                    # acknowledged at the end, released where the block raises
 
 What each call is answered stands in docs/QUEUES.md. Calls that wait let other threads of Python run.
 
@@ -21,7 +25,11 @@ ResourceWarning. Only the process that opened it does so. A process that os._exi
 
 Signals: open, send and receive wait in turns of a fifth of a second, between which the handlers of signals run, so Ctrl-C is heard. Where a
 call is done in the turn in which a signal came, it returns what it has, and what the handler raises comes behind it: KeyboardInterrupt
-at once, anything else with the thread's next call on the file.
+at once, anything else with the thread's next call on the file. At a server a signal ends a turn, so turns are longer there, and who waits
+keeps its place among those that wait.
+
+Servers: a handle of a server may be used in the child of a fork. It is never saved at the end. ConnectionResetError where the server was lost
+and it is not known whether a call was made; OSError of ENOTCONN where there is no server any more and it was not made.
 """
 
 import _thread
@@ -41,14 +49,14 @@ import weakref
 from collections import namedtuple
 from ctypes import POINTER, byref, c_char_p, c_int, c_int32, c_int64, c_long, c_size_t, c_uint16, c_uint32, c_uint64, c_void_p
 
-__all__ = ["open", "create", "Queues", "Queue", "Message", "Info", "Fault", "Invalid"]
+__all__ = ["open", "create", "connect", "attach", "Queues", "Queue", "Reserved", "Message", "Info", "Fault", "Invalid"]
 __version__ = "0.2.0"
 
 _PRIVATE = -1
-_CREATE, _EXCLUSIVE, _NOWAIT, _NOERROR = 0o1000, 0o2000, 0o4000, 0o10000
+_CREATE, _EXCLUSIVE, _NOWAIT, _NOERROR, _AGAIN = 0o1000, 0o2000, 0o4000, 0o10000, 0o100000
 _MAX_BODY = 1024
 _WORD, _TYPE, _SIZE, _MODE = (0, 2**32 - 1), (-(2**63), 2**63 - 1), (0, 2**64 - 1), (0, 0o777)
-_TURN, _SOON, _PATIENCE = 0.2, 0.05, 0.5
+_TURN, _SERVED_TURN, _SOON, _PATIENCE = 0.2, 10, 0.05, 0.5
 
 
 def _record(**fields):
@@ -84,6 +92,9 @@ def _declared(library):
         "open_wait": [c_char_p, limit, POINTER(one)], "get": [one, c_int64, c_int, POINTER(number)],
         "send": [one, number, c_int64, c_char_p, c_size_t, c_int, limit],
         "receive": [one, number, c_int64, c_char_p, c_size_t, c_int, limit, POINTER(_Message)],
+        "connect": [c_char_p, POINTER(one)], "attach": [c_char_p, POINTER(one)], "is_served": [one],
+        "reserve": [one, number, c_int64, c_char_p, c_size_t, c_int, limit, POINTER(_Message), POINTER(number)],
+        "acknowledge": [one, number], "release": [one, number],
         "stat": [one, number, POINTER(_Info)], "set": [one, number, POINTER(_Change)], "list": [one, number, POINTER(number)],
         "remove": [one, number], "save": [one], "stop": [one], "close": [one], "abandon": [one], "last_fault": [],
     }.items():
@@ -140,13 +151,14 @@ def _path(path):
     return name
 
 
-def _turns(before, timeout, *behind):
+def _turns(before, timeout, *behind, turn=_TURN):
     """The arguments of a call that waits, for a turn each time, until its timeout has passed."""
     end = None if timeout is None else time.monotonic() + timeout
     while True:
-        left = _TURN if end is None else min(_TURN, max(0, end - time.monotonic()))
-        yield (*before, byref(_Timespec(0, int(left * 1_000_000_000))), *behind)
-        if end is not None and time.monotonic() >= end:
+        left = turn if end is None else min(turn, max(0, end - time.monotonic()))
+        yield (*before, byref(_Timespec(int(left), int(left % 1 * 1_000_000_000))), *behind)
+        # Where a signal ends a turn the last one has no time, so that it is told that the timeout has passed.
+        if end is not None and (left == 0 or (turn == _TURN and time.monotonic() >= end)):
             return
 
 
@@ -180,13 +192,25 @@ def open(path, *, wait=False, timeout=None):
     return Queues(path, wait=wait, timeout=timeout)
 
 
+def connect(socket):
+    """Connects to a server, by the path of its socket; with `with` it is let go at the end.
+    FileNotFoundError or ConnectionRefusedError where nobody serves, or what the system says."""
+    return Queues(socket, how="connect")
+
+
+def attach(path):
+    """Connects to the server of a file, where it has one, and opens the file else.
+    What `open` raises, or what the system says of the socket."""
+    return Queues(path, how="attach")
+
+
 class Queues:
-    """A file of queues that is open."""
+    """A file of queues that is open, or a server of one."""
 
     _at = _late = None
-    _is_lost = _is_told = False
+    _is_lost = _is_told = is_served = False
 
-    def __init__(self, path, *, wait=False, timeout=None):
+    def __init__(self, path, *, wait=False, timeout=None, how="open"):
         self.path, name, timeout = path, _path(path), _seconds(timeout)
         # The threads whose calls are under way: while there are others nobody closes the file. The lock may be taken by a handler
         # of a signal that came upon a call of its own thread.
@@ -199,15 +223,16 @@ class Queues:
                 if told != errno.ETIMEDOUT:
                     break
         else:
-            told = _lib.msgq_open(name, byref(self._at))
+            told = getattr(_lib, "msgq_" + how)(name, byref(self._at))
         _must(told, path=path)
+        self.is_served = bool(_lib.msgq_is_served(self._at))
         _opened.add(self)
 
     def __enter__(self):
         return self
 
     def __exit__(self, kind, error, trace):
-        if self._process != os.getpid():
+        if not self._is_own():
             self._at = None
         elif kind is None:
             self.close()
@@ -234,8 +259,11 @@ class Queues:
         while self._call("list", found.value, byref(found), also=errno.ENOENT) == 0:
             yield Queue(self, found.value)
 
+    def _is_own(self):
+        return self.is_served or self._process == os.getpid()
+
     def _must_be_own(self):
-        if self._process != os.getpid():
+        if not self._is_own():
             raise OSError(errno.ENOTSUP, "a file that a parent has opened", self.path)
 
     def _make(self, told, name, turns):
@@ -252,7 +280,8 @@ class Queues:
                 told.clear()
                 # The call and the note of what it was told are one step, within which no handler of a signal runs.
                 told += itertools.starmap(call, [(self._at, *arguments)])
-                if told[0] != errno.ETIMEDOUT:
+                # At a server a signal, whose handler runs here, has ended the turn.
+                if told[0] != errno.ETIMEDOUT and not (self.is_served and told[0] == errno.EINTR):
                     break
         finally:
             if is_first:
@@ -327,11 +356,12 @@ class Queues:
         self._call("save")
 
     def stop(self):
-        """From here on a call that would wait raises InterruptedError."""
+        """From here on a call that would wait raises InterruptedError. OSError of ENOTSUP for a server."""
         self._call("stop")
 
     def close(self):
-        """Saves, and lets go of the file. OSError of EBUSY while another thread makes a call, or what `save` says; then it stays open."""
+        """Saves, and lets go of the file; of a server it lets go without. OSError of EBUSY while another thread makes a call, or what `save`
+        says; then it stays open."""
         self._let_go("close")
 
     def abandon(self):
@@ -345,11 +375,20 @@ _opened = weakref.WeakSet()
 @atexit.register
 def _save_all():
     for queues in list(_opened):
-        if queues._at and queues._process == os.getpid():
+        if queues._at and queues._process == os.getpid() and not queues.is_served:
             try:
                 queues._end(queues.save)
             except Exception:
                 sys.excepthook(*sys.exc_info())
+
+
+def _begin_child():
+    """The other threads of a parent are none of its child's."""
+    for queues in list(_opened):
+        queues._callers, queues._lock = set(), threading.RLock()
+
+
+os.register_at_fork(after_in_child=_begin_child)
 
 
 class Queue:
@@ -383,25 +422,41 @@ class Queue:
                     raise
                 late = error
 
-    def send(self, body, type=1, *, wait=True, timeout=None):
+    def _waits(self, before, timeout, *behind):
+        return _turns(before, _seconds(timeout), *behind, turn=_SERVED_TURN if self._queues.is_served else _TURN)
+
+    def send(self, body, type=1, *, wait=True, timeout=None, again=False):
         """Puts a message last, of 1,024 bytes at most and a type from 1 on; waits while there is no room, for `timeout` seconds at most.
+        Where its server is lost while it waits it is put `again` by the next, and may then stand twice.
         Invalid for another body or type, PermissionError, BlockingIOError where there is no room and it does not wait, TimeoutError,
         InterruptedError, OSError of ENOSPC where the file is full."""
         body = bytes(memoryview(body))
-        before = self.id, _number(type, _TYPE, "type"), body, len(body), 0 if wait else _NOWAIT
-        self._wait("send", _turns(before, _seconds(timeout)))
+        before = self.id, _number(type, _TYPE, "type"), body, len(body), (0 if wait else _NOWAIT) | (_AGAIN if again else 0)
+        self._wait("send", self._waits(before, timeout))
 
-    def receive(self, type=0, *, size=_MAX_BODY, cut=False, wait=True, timeout=None):
+    def receive(self, type=0, *, size=_MAX_BODY, cut=False, wait=True, timeout=None, again=False):
         """Takes the first message (type 0), the first of a type, or the first of the lowest type up to -type; waits while there is none,
-        for `timeout` seconds at most. Where `cut` says so one of more than `size` bytes is cut.
+        for `timeout` seconds at most. Where `cut` says so one of more than `size` bytes is cut. Where its server is lost while it waits it
+        is taken `again` of the next, and what the lost one had taken is lost.
         OSError of E2BIG for one that is longer, and of ENOMSG where there is none and it does not wait; PermissionError, TimeoutError,
         InterruptedError."""
         room, got = ctypes.create_string_buffer(_MAX_BODY), _Message()
         # The library is told of no more bytes than there is room for. No body has more.
         size = min(_number(size, _SIZE, "size"), _MAX_BODY)
-        before = self.id, _number(type, _TYPE, "type"), room, size, (0 if wait else _NOWAIT) | (_NOERROR if cut else 0)
+        flags = (0 if wait else _NOWAIT) | (_NOERROR if cut else 0) | (_AGAIN if again else 0)
+        before = self.id, _number(type, _TYPE, "type"), room, size, flags
         message = lambda: Message(room.raw[:got.length], got.type, got.sender, got.serial)
-        return self._wait("receive", _turns(before, _seconds(timeout), byref(got)), message)
+        return self._wait("receive", self._waits(before, timeout, byref(got)), message)
+
+    def reserve(self, type=0, *, wait=True, timeout=None):
+        """Takes a message as `receive` does, which its server holds until it is dealt with; with `with` it is acknowledged at the end, or
+        released where the block raises. It is released too where this thread ends, its process or the server.
+        OSError of ENOTSUP for a file that is opened, and what `receive` raises."""
+        room, got, holding = ctypes.create_string_buffer(_MAX_BODY), _Message(), c_uint32()
+        before = self.id, _number(type, _TYPE, "type"), room, _MAX_BODY, 0 if wait else _NOWAIT
+        message = lambda: Message(room.raw[:got.length], got.type, got.sender, got.serial)
+        turns = self._waits(before, timeout, byref(got), byref(holding))
+        return self._wait("reserve", turns, lambda: Reserved(self._queues, holding.value, message()))
 
     def __iter__(self):
         """Takes the messages that stand on the queue, until there is none."""
@@ -435,3 +490,33 @@ class Queue:
     def remove(self):
         """Removes the queue and all its messages. PermissionError for who is neither owner, creator nor user 0."""
         self._queues._call("remove", self.id, what=self._name)
+
+
+class Reserved:
+    """A message that a server holds, with its `body`, `type`, `sender` and `serial`, and the `id` of the queue that holds it."""
+
+    def __init__(self, queues, id, message):
+        self._queues, self.id, self.message, self._is_held = queues, id, message, True
+        self.body, self.type, self.sender, self.serial = message
+
+    def __repr__(self):
+        return f"Reserved(id={self.id}, message={self.message})"
+
+    def __enter__(self):
+        return self
+
+    def __exit__(self, kind, error, trace):
+        if self._is_held:
+            self.acknowledge() if kind is None else self.release()
+
+    def _settle(self, name):
+        self._queues._call(name, self.id, what=f"queue {self.id}")
+        self._is_held = False
+
+    def acknowledge(self):
+        """It is dealt with. Invalid where it is held no longer."""
+        self._settle("acknowledge")
+
+    def release(self):
+        """It is sent to its queue again, last. Invalid where it is held no longer."""
+        self._settle("release")

@@ -1,6 +1,7 @@
 /* What becomes of a wait upon which the handler of a signal asks, forks or jumps, as line.h has it. Run with the path of a new socket. */
 #include "scripted.h"
 
+#include <pthread.h>
 #include <setjmp.h>
 
 static int told_handler;
@@ -67,22 +68,39 @@ static void interrupts_two(void) {
     interrupts(2);
 }
 
+/* A wait of a thread whose handlers have a stack above its own: the first thread's. */
+static void *waits_below(void *stack) {
+    const stack_t above = {.ss_sp = stack, .ss_size = 1 << 16};
+    sigset_t one;
+    sigemptyset(&one);
+    sigaddset(&one, SIGUSR1);
+    is(sigaltstack(&above, NULL), 0, "a stack");
+    is(pthread_sigmask(SIG_UNBLOCK, &one, NULL), 0, "a signal");
+    is(receives(server, &WAITS), -EINTR, "a wait upon which a handler asks on another stack");
+    return NULL;
+}
+
 static void handlers(void) {
-    static char stack[1 << 16];
-    const stack_t other = {.ss_sp = stack, .ss_size = sizeof stack}, none = {.ss_flags = SS_DISABLE};
-    serves(interrupts_two);
-    for (int n = 0; n < 2; n++) {
-        server = begun(1000);
-        told_handler = -1;
-        /* (a stack of its own, which may stand above or below) */
-        is(sigaltstack(n == 0 ? &none : &other, NULL), 0, "a stack");
-        on_signal(handler_asks, n == 0 ? 0 : SA_ONSTACK);
-        is(receives(server, &WAITS), -EINTR, "a wait upon which a handler asks");
-        is(told_handler, 0, "what the handler asks");
-        server_end(server);
-    }
-    is(sigaltstack(&none, NULL), 0, "no stack");
-    has_ended("handlers");
+    char stack[1 << 16];
+    pthread_t thread;
+    sigset_t one;
+    sigemptyset(&one);
+    sigaddset(&one, SIGUSR1);
+    begin(interrupts_two);
+    on_signal(handler_asks, SA_ONSTACK);
+    told_handler = -1;
+    is(receives(server, &WAITS), -EINTR, "a wait upon which a handler asks");
+    is(told_handler, 0, "what the handler asks");
+    server_end(server);
+    server = begun(1000);
+    told_handler = -1;
+    /* (a new thread blocks what this one does) */
+    is(pthread_sigmask(SIG_BLOCK, &one, NULL), 0, "a signal");
+    is(pthread_create(&thread, NULL, waits_below, stack), 0, "a thread");
+    pthread_join(thread, NULL);
+    is(pthread_sigmask(SIG_UNBLOCK, &one, NULL), 0, "a signal");
+    is(told_handler, 0, "what the handler asks");
+    end("handlers");
 }
 
 static void interrupts_one(void) {
@@ -124,6 +142,38 @@ static void jumps(void (*handler)(int), const char *what) {
     end(what);
 }
 
+static void handler_waits(int number) {
+    (void)number;
+    (void)receives(server, &WAITS);
+}
+
+static void is_left_twice(void) {
+    int fd = client(), other;
+    (void)hear(fd, 3);
+    usleep(50000);
+    kill(getppid(), SIGUSR2);
+    other = client();
+    (void)hear(other, 3);
+    usleep(50000);
+    kill(getppid(), SIGUSR1);
+    gone(other);
+    gone(fd);
+    answers(fd = client(), 1);
+    gone(fd);
+}
+
+/* A jump out of a handler that waits itself, upon a wait. */
+static void jumps_far(void) {
+    struct sigaction act = {.sa_handler = handler_waits};
+    sigaction(SIGUSR2, &act, NULL);
+    begin(is_left_twice);
+    on_signal(handler_jumps, 0);
+    if (sigsetjmp(place, 1) == 0)
+        is(receives(server, &WAITS), 1, "a jump goes on");
+    is(asks(), 0, "a request behind two waits that were left");
+    end("two waits that were left");
+}
+
 static void handler_jumps_within(int number) {
     static sigjmp_buf within;
     (void)number;
@@ -154,6 +204,7 @@ int main(int argc, char **argv) {
     fork_in_a_handler();
     jumps(handler_leaves, "a jump that is told of");
     jumps(handler_jumps, "a jump that is not told of");
+    jumps_far();
     jumps_within();
     unlink(path);
     printf("%d passed, %d failed\n", passed, failed);

@@ -5,6 +5,7 @@
 #include <fcntl.h>
 #include <pthread.h>
 #include <sys/resource.h>
+#include <sys/syscall.h>
 
 /* ---- descriptors */
 
@@ -88,13 +89,19 @@ static void users(void) {
 }
 
 static void parent_and_child(void) {
-    int parent = client(), child;
+    int parent = client(), child, thread;
     answers(parent, 1);
-    child = client();
-    answers(child, 1);
+    answers(child = client(), 1);
+    answers(thread = client(), 1);
+    gone(thread);
     gone(child);
     answers(parent, 1);
     gone(parent);
+}
+
+static void *asks_once(void *told) {
+    *(int *)told = asks();
+    return NULL;
 }
 
 static void forks(void) {
@@ -104,13 +111,43 @@ static void forks(void) {
     fflush(stderr);
     pid_t child = fork();
     if (child == 0) {
+        pthread_t thread;
+        int told = -1;
         is(fcntl(fd, F_GETFD), -1, "the parent's connection");
         is(asks(), 0, "a request of the child");
+        pthread_create(&thread, NULL, asks_once, &told);
+        pthread_join(thread, NULL);
+        is(told, 0, "a request of its thread");
         _exit(failed > 0);
     }
     is(child_ends(child), 0, "a child");
     is(asks(), 0, "a request of the parent");
     end("forks");
+}
+
+static void parent_and_other_child(void) {
+    int parent = client(), child;
+    answers(parent, 1);
+    answers(child = client(), 1);
+    gone(child);
+    answers(parent, 1);
+    gone(parent);
+}
+
+/* A child that was made past the library's back, as vfork(2) and clone(2) do. */
+static void other_forks(void) {
+    begin(parent_and_other_child);
+    is(asks(), 0, "a request of the parent");
+#ifdef SYS_fork
+    pid_t child = (pid_t)syscall(SYS_fork);
+#else
+    pid_t child = (pid_t)syscall(SYS_clone, SIGCHLD, 0, 0, 0, 0);
+#endif
+    if (child == 0)
+        _exit(asks() != 0);
+    is(child_ends(child), 0, "a child");
+    is(asks(), 0, "a request of the parent");
+    end("other forks");
 }
 
 /* ---- threads */
@@ -146,6 +183,27 @@ static void threads(void) {
     is(server_under_way(server), 0, "requests under way");
     is(asks(), 0, "a request");
     end("threads");
+}
+
+static void two_of_one(void) {
+    int first = client(), second;
+    answers(first, 1);
+    answers(second = client(), 1);
+    gone(first);
+    answers(second, 1);
+    gone(second);
+}
+
+/* The connections of one handle end with it, and not those of another. */
+static void two_handles(void) {
+    begin(two_of_one);
+    struct server *first = server;
+    is(asks(), 0, "a request");
+    server = begun(1000);
+    is(asks(), 0, "a request of another handle");
+    server_end(first);
+    is(asks(), 0, "a request behind the end of the first");
+    end("two handles");
 }
 
 static void waits_and_goes(void) {
@@ -207,6 +265,13 @@ static void fork_beside_a_wait(void) {
 
 /* ---- paths */
 
+/* The number that the next descriptor gets. */
+static int next_descriptor(void) {
+    int fd = dup(0);
+    close(fd);
+    return fd;
+}
+
 static void paths(void) {
     char folder[4200], whole[4300], before[4400];
     struct greeting greeting;
@@ -216,7 +281,9 @@ static void paths(void) {
     serves(one);
     is(rename(path, whole), 0, "a socket of a long name");
     is(server_begin(whole, 1000, &server), 0, "begin");
+    int next = next_descriptor();
     is(asks(), 0, "a request");
+    is(next_descriptor(), next, "what was opened for the name is closed");
     end("a long name");
     serves(one);
     is(getcwd(before, sizeof before) != NULL, 1, "here");
@@ -246,7 +313,9 @@ int main(int argc, char **argv) {
     few_descriptors();
     users();
     forks();
+    other_forks();
     threads();
+    two_handles();
     cancelled_thread();
     fork_beside_a_wait();
     paths();

@@ -49,21 +49,26 @@ static inline void give(int fd, const void *bytes, size_t count) {
     must(send(fd, bytes, count, MSG_NOSIGNAL) == (ssize_t)count, "send");
 }
 
-/* The next client, which is greeted. */
-static inline int taken(uint32_t version) {
-    uint8_t greeting[36] = {32};
+static inline int accepted(void) {
     int fd = accept(listener, NULL, NULL);
     must(fd >= 0, "accept");
+    return fd;
+}
+
+static inline void greet(int fd, uint32_t version) {
+    uint8_t greeting[36] = {32};
     put_number(greeting + 12, version, 4);
     put_number(greeting + 16, 2, 4);
     put_number(greeting + 20, 0x1122334455667788, 8);
     put_number(greeting + 28, 1024, 4);
     give(fd, greeting, sizeof greeting);
-    return fd;
 }
 
+/* The next client, which is greeted. */
 static inline int client(void) {
-    return taken(1);
+    int fd = accepted();
+    greet(fd, 1);
+    return fd;
 }
 
 /* Hears a request of this operation. */
@@ -114,6 +119,13 @@ static inline void tell(int fd, uint32_t number, uint32_t code, uint32_t value, 
     give(fd, frame, answer(frame, number, code, value, fields, count));
 }
 
+/* A message of type 5 with serial 9 from process 77. */
+static inline void tell_message(int fd, uint32_t number, uint32_t value, const char *body) {
+    uint8_t fields[24 + 1024] = {9, 0, 0, 0, 0, 0, 0, 0, 77, 0, 0, 0, 0, 0, 0, 0, 5};
+    memcpy(fields + 24, body, strlen(body));
+    tell(fd, number, 0, value, fields, 24 + strlen(body));
+}
+
 /* ---- the client's side */
 
 static pid_t process;
@@ -161,6 +173,12 @@ static inline int receives(struct server *server, const struct waiting *how) {
     const struct iovec message = {room, sizeof room};
     const struct selection it = {.id = 3, .type = -4, .size = 1024, .message = &message, .parts = 1};
     return request_receive(server, &it, how, &got);
+}
+
+static inline int sends(struct server *server, const struct waiting *how) {
+    uint8_t type[8] = {5};
+    const struct iovec message[] = {{type, sizeof type}, {"body", 4}};
+    return request_send(server, 3, 0, message, 2, how);
 }
 
 /* ---- one server, and one request of no matter what */

@@ -92,6 +92,8 @@ static void without_server(void) {
     is(msgq_acknowledge(queues, 1), ENOTSUP, "acknowledge");
     is(msgq_release(queues, 1), ENOTSUP, "release");
     is(msgq_receive(queues, 9, 0, room, sizeof room, MSGQ_NOWAIT | MSGQ_AGAIN, NULL, NULL), EINVAL, "a flag that says nothing here");
+    is(msgq_is_served(queues), 0, "a file that is opened");
+    is(msgq_is_served(NULL), 0, "no file");
     is(msgq_abandon(queues), 0, "abandon");
 }
 
@@ -99,6 +101,7 @@ static void handles(const char *other) {
     msgq *queues;
     is(symlink(path, other), 0, "a link");
     is(msgq_attach(other, &queues), 0, "a file by its link");
+    is(msgq_is_served(queues), 1, "a file that is served");
     says(msgq_stop(queues), ENOTSUP, other, "it can't be stopped: a server is stopped by who has started it");
     is(msgq_save(queues), 0, "save");
     is(msgq_close(queues), 0, "close");
@@ -113,8 +116,6 @@ static void handles(const char *other) {
 }
 
 /* ---- calls */
-
-static const struct timespec SOON = {0, 20000000};
 
 static void messages(msgq *queues, uint32_t id) {
     char room[MSGQ_MAX_BODY];
@@ -135,7 +136,7 @@ static void messages(msgq *queues, uint32_t id) {
     is(got.length == sizeof room && got.type == INT64_MAX, 1, "what it is");
     says(msgq_receive(queues, id, 0, room, sizeof room, MSGQ_NOWAIT, NULL, NULL), ENOMSG, path,
          "queue @1: ENOMSG: there is no message that the type selects");
-    says(msgq_receive(queues, id, 0, room, sizeof room, 0, &SOON, NULL), ETIMEDOUT, path,
+    says(msgq_receive(queues, id, 0, room, sizeof room, 0, msgq_within(20), NULL), ETIMEDOUT, path,
          "queue @1: ETIMEDOUT: no message that the type selects came in time");
     says(msgq_send(queues, id, 0, "x", 1, 0, NULL), EINVAL, path, "queue @1: EINVAL: the type of a message is at least 1");
     says(msgq_send(queues, 99, 1, "x", 1, 0, NULL), EINVAL, path, "queue @99: EINVAL: no queue ever had this id");
@@ -158,10 +159,8 @@ static void queues_and_limits(msgq *queues, uint32_t id) {
     says(msgq_send(queues, other, 1, body, 61, MSGQ_NOWAIT, NULL), EAGAIN, path,
          "queue @2: EAGAIN: there is no room on it: its messages have 40 of 100 bytes, and this one 61; msgq_set raises the limit, up to "
          "65536");
-    is(msgq_list(queues, 0, &found), 0, "the first queue");
-    is(found, id, "its id");
-    is(msgq_list(queues, id, &found), 0, "the next queue");
-    is(found, other, "its id");
+    is(msgq_list(queues, 0, &found) == 0 && found == id, 1, "the first queue");
+    is(msgq_list(queues, id, &found) == 0 && found == other, 1, "the next queue");
     says(msgq_list(queues, other, &found), ENOENT, path, "queue @2: ENOENT: no queue is alive behind it");
     is(msgq_remove(queues, other), 0, "remove");
     says(msgq_remove(queues, other), EIDRM, path, "queue @2: EIDRM: it was removed");
@@ -182,15 +181,47 @@ static void reservations(msgq *queues, uint32_t id) {
     for (int n = 0; n < 2; n++) {
         is(msgq_reserve(queues, id, 0, room, sizeof room, 0, NULL, &got, &holding), 0, "reserve");
         is(got.length == 5 && got.type == 6 && memcmp(room, "a job", 5) == 0, 1, "what it is");
-        is(msgq_list(queues, id, &found), 0, "a holding queue");
-        is(found, holding, "its id");
+        is(msgq_list(queues, id, &found) == 0 && found == holding, 1, "a holding queue");
         says(msgq_reserve(queues, id, 0, room, sizeof room, MSGQ_NOWAIT, NULL, &got, &found), ENOMSG, path,
              "queue @1: ENOMSG: there is no message that the type selects");
         is(n == 0 ? msgq_release(queues, holding) : msgq_acknowledge(queues, holding), 0, "an end of it");
     }
-    is(msgq_acknowledge(queues, holding), EIDRM, "what has ended");
+    is(msgq_acknowledge(queues, holding), EINVAL, "what has ended");
     says(msgq_release(queues, id), EINVAL, path, "queue @1: EINVAL: no message is held by this id");
-    is(msgq_reserve(queues, id, 0, room, sizeof room, 0, &SOON, &got, &holding), ETIMEDOUT, "a wait that ends");
+    is(msgq_reserve(queues, id, 0, room, sizeof room, 0, msgq_within(20), &got, &holding), ETIMEDOUT, "a wait that ends");
+}
+
+static msgq *shared;
+static uint32_t queue;
+
+static void *reserves(void *with) {
+    char room[MSGQ_MAX_BODY];
+    uint32_t holding;
+    *(int *)with = msgq_reserve(shared, queue, 0, room, sizeof room, 0, NULL, NULL, &holding);
+    return NULL;
+}
+
+/* What is held goes back where a thread or a process ends. */
+static void hands(msgq *queues, uint32_t id) {
+    pthread_t thread;
+    int told, status;
+    char room[MSGQ_MAX_BODY];
+    uint32_t holding;
+    shared = queues;
+    queue = id;
+    is(msgq_send(queues, id, 6, "a job", 5, 0, NULL), 0, "send");
+    pthread_create(&thread, NULL, reserves, &told);
+    pthread_join(thread, NULL);
+    is(told, 0, "a thread reserves, and ends");
+    pid_t child = fork();
+    if (child == 0) {
+        (void)reserves(&told);
+        _exit(told);
+    }
+    waitpid(child, &status, 0);
+    is(status, 0, "a child reserves, and ends");
+    is(msgq_reserve(queues, id, 0, room, sizeof room, 0, NULL, NULL, &holding), 0, "reserve");
+    is(msgq_acknowledge(queues, holding), 0, "acknowledge");
 }
 
 /* ---- waits, threads and processes */
@@ -209,8 +240,39 @@ static void signals(msgq *queues, uint32_t id) {
     setitimer(ITIMER_REAL, &never, NULL);
 }
 
-static msgq *shared;
-static uint32_t queue;
+/* Sends or receives numbers, one after the other, on a queue of few bytes, while a timer interrupts each wait: EINTR says that nothing was
+ * done, so it is done again. */
+static int counts(uint32_t id, bool sends) {
+    const struct itimerval often = {{0, 1000}, {0, 1000}}, never = {{0, 0}, {0, 0}};
+    int wrong = 0;
+    setitimer(ITIMER_REAL, &often, NULL);
+    for (unsigned n = 0; n < 300 && wrong == 0; n++) {
+        unsigned body = n;
+        do
+            wrong = sends ? msgq_send(shared, id, 1, &body, sizeof body, 0, NULL)
+                          : msgq_receive(shared, id, 0, &body, sizeof body, 0, n % 2 == 0 ? NULL : msgq_within(60000), NULL);
+        while (wrong == EINTR);
+        if (body != n)
+            wrong = EPROTO;
+    }
+    setitimer(ITIMER_REAL, &never, NULL);
+    return wrong;
+}
+
+static void storm(msgq *queues) {
+    struct msgq_change change = {.qbytes = 3 * sizeof(unsigned), .uid = -1, .gid = -1, .mode = -1};
+    uint32_t id;
+    int status;
+    is(msgq_get(queues, MSGQ_PRIVATE, 0600, &id), 0, "get");
+    is(msgq_set(queues, id, &change), 0, "set");
+    pid_t child = fork();
+    if (child == 0)
+        _exit(counts(id, true));
+    is(counts(id, false), 0, "each message once, in order, in a storm of signals");
+    waitpid(child, &status, 0);
+    is(status, 0, "who has sent them");
+    is(msgq_remove(queues, id), 0, "remove");
+}
 
 /* What one thread or process does: its messages go and come by a type of its own. */
 static int works(int self) {
@@ -232,12 +294,10 @@ static void *thread_works(void *with) {
     return NULL;
 }
 
-static void many(msgq *queues, uint32_t id) {
+static void many(void) {
     pthread_t threads[8];
     pid_t children[4];
     int told[8], status;
-    shared = queues;
-    queue = id;
     for (int n = 0; n < 8; n++) {
         told[n] = n;
         pthread_create(&threads[n], NULL, thread_works, &told[n]);
@@ -314,19 +374,20 @@ int main(int argc, char **argv) {
     program = argv[1];
     path = argv[2];
     snprintf(socket_path, sizeof socket_path, "%s.socket", path);
-    uint32_t id;
     is(msgq_create(path, 300), 0, "create");
     without_server();
     serve();
     handles(argv[3]);
     msgq *queues = attached();
-    is(msgq_get(queues, 7, MSGQ_CREATE | 0600, &id), 0, "get");
-    is(id, 1, "its id");
+    uint32_t id;
+    is(msgq_get(queues, 7, MSGQ_CREATE | 0600, &id) == 0 && id == 1, 1, "a queue");
     messages(queues, id);
     queues_and_limits(queues, id);
     reservations(queues, id);
     signals(queues, id);
-    many(queues, id);
+    hands(queues, id);
+    storm(queues);
+    many();
     busy(queues, id);
     servers(queues, id);
     is(msgq_close(queues), 0, "close");

@@ -99,12 +99,13 @@ long __wrap_syscall(long call, ...) {
 static void answers_all(void) {
     signal(SIGCHLD, SIG_IGN);
     for (;;) {
-        int fd = client();
+        int fd = accepted();
         if (fork() == 0) {
             struct pollfd at = {.fd = fd, .events = POLLIN};
             char byte;
-            /* (a client that has gone is not told) */
+            /* (a client may be gone by now, of which nothing is said) */
             close(2);
+            greet(fd, 1);
             while (__real_poll(&at, 1, 10000) == 1 && recv(fd, &byte, 1, MSG_PEEK) == 1) {
                 struct heard it = hear(fd, byte == 20 + 4 ? 3 : 7);
                 tell(fd, it.number, it.operation == 3 ? 7 : 0, 1, NULL, 0);
@@ -207,7 +208,9 @@ static void beginnings(void) {
     char long_one[5000];
     memset(long_one, 'x', sizeof long_one - 1);
     long_one[sizeof long_one - 1] = '\0';
+    struct wire wire;
     is(server_begin(long_one, 100, &made), ENAMETOOLONG, "a name that is too long");
+    is(wire_dial(&wire, long_one), ENAMETOOLONG, "a name that is too long");
     snprintf(long_one, 300, "/tmp/%0*d/s", 150, 0);
     struct greeting greeting;
     is(server_begin(long_one, 100, &made), 0, "a name that is long");
@@ -215,6 +218,10 @@ static void beginnings(void) {
     arm(OPEN, 1, 1, EACCES);
     is(server_greeting(made, &greeting), -EACCES, "its folder can't be opened");
     is(disarm(), true, "it is come to");
+    server_end(made);
+    snprintf(long_one, 300, "/tmp/%0*d", 150, 0);
+    is(server_begin(long_one, 100, &made), 0, "a name that is long");
+    is(server_greeting(made, &greeting), -ENAMETOOLONG, "its last part is too long for a socket");
     server_end(made);
 }
 

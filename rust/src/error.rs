@@ -19,7 +19,7 @@ pub struct Error {
 }
 
 /// The names of the numbers that the library tells, as Linux has them.
-const NAMES: [(i32, &str); 22] = [
+const NAMES: [(i32, &str); 26] = [
     (1, "EPERM"),
     (2, "ENOENT"),
     (4, "EINTR"),
@@ -39,9 +39,13 @@ const NAMES: [(i32, &str); 22] = [
     (30, "EROFS"),
     (42, "ENOMSG"),
     (43, "EIDRM"),
+    (71, "EPROTO"),
     (74, "EBADMSG"),
     (95, "ENOTSUP"),
+    (104, "ECONNRESET"),
+    (107, "ENOTCONN"),
     (110, "ETIMEDOUT"),
+    (111, "ECONNREFUSED"),
 ];
 
 pub(crate) const ENOENT: i32 = 2;

@@ -1,4 +1,4 @@
-//! XSI message queues in one file, between the threads of a process.
+//! XSI message queues in one file, between the threads of a process, or between any processes where a server has the file.
 //!
 //! ```no_run
 //! # fn main() -> Result<(), msgq::Error> {
@@ -14,17 +14,22 @@
 //! What each call is answered stands in docs/QUEUES.md, and so do the limits of its arguments. Of numbers that their types can say and
 //! the rules do not know each is refused with `EINVAL`, and so is a path with a zero byte.
 //!
-//! Each call on a file is refused with `ENOTSUP` in the child of a fork whose parent has opened it.
+//! Each call on a file is refused with `ENOTSUP` in the child of a fork whose parent has opened it. A server answers a child too.
+//!
+//! A server answers each call also with `ENOTCONN` where there is none any more and the call was not made, and with `ECONNRESET` where it
+//! was lost and this is not known; and a signal ends a wait there with `EINTR`.
 
 #[cfg(not(target_pointer_width = "64"))]
 compile_error!("the structs of msgq.h are known for targets of 64 bits alone");
 
 mod error;
 mod raw;
+mod reserved;
 mod values;
 
 pub use error::Error;
 use error::{must, must_or, ENOENT};
+pub use reserved::Reserved;
 use std::ffi::{c_int, CString};
 use std::fmt;
 use std::os::unix::ffi::OsStrExt;
@@ -35,6 +40,7 @@ pub use values::{Change, Create, Info, Key, Message, Wait};
 
 const CREATE: c_int = 0o1000;
 const EXCLUSIVE: c_int = 0o2000;
+const AGAIN: c_int = 0o100000;
 const MAX_BODY: usize = 1024;
 const PRIVATE: i64 = -1;
 const MODES: u16 = 0o777;
@@ -69,13 +75,14 @@ pub fn create(path: impl AsRef<Path>, pages: u32) -> Result<(), Error> {
     )
 }
 
-/// A file of queues that is open. Where it is let go without `close` what was not saved is lost.
+/// A file of queues that is open, or a server of one. Where a file is let go without `close` what was not saved is lost.
 #[derive(Debug)]
 pub struct Queues {
     at: raw::Handle,
+    again: c_int,
 }
 
-// SAFETY: each function takes the lock of the file.
+// SAFETY: each function takes the lock of the file, or asks the server on a connection of its thread's own.
 unsafe impl Send for Queues {}
 unsafe impl Sync for Queues {}
 
@@ -94,7 +101,53 @@ impl Queues {
             unsafe { raw::msgq_open(name.as_ptr(), &mut at) },
             path.display(),
         )?;
-        Ok(Queues { at })
+        Ok(Queues { at, again: 0 })
+    }
+
+    /// Connects to a server, by the path of its socket.
+    ///
+    /// # Errors
+    /// `ENOENT` or `ECONNREFUSED` where nobody serves, `ETIMEDOUT` or `EPROTO` where who has the socket does not greet as a server does,
+    /// `EINVAL` for a path with a zero byte, `ENOMEM`, or what the system says.
+    pub fn connect(socket: impl AsRef<Path>) -> Result<Queues, Error> {
+        let socket = socket.as_ref();
+        let name = c_path(socket)?;
+        let mut at = ptr::null_mut();
+        // SAFETY: the path ends in a zero, and there is room for the pointer.
+        must(
+            unsafe { raw::msgq_connect(name.as_ptr(), &mut at) },
+            socket.display(),
+        )?;
+        Ok(Queues { at, again: 0 })
+    }
+
+    /// Connects to the server of a file, where it has one, and opens the file else.
+    ///
+    /// # Errors
+    /// Those of `open`, or what the system says of the server's socket.
+    pub fn attach(path: impl AsRef<Path>) -> Result<Queues, Error> {
+        let path = path.as_ref();
+        let name = c_path(path)?;
+        let mut at = ptr::null_mut();
+        // SAFETY: the path ends in a zero, and there is room for the pointer.
+        must(
+            unsafe { raw::msgq_attach(name.as_ptr(), &mut at) },
+            path.display(),
+        )?;
+        Ok(Queues { at, again: 0 })
+    }
+
+    /// Whether these are a server's.
+    pub fn is_served(&self) -> bool {
+        // SAFETY: the handle is one.
+        unsafe { raw::msgq_is_served(self.at) != 0 }
+    }
+
+    /// From here on a send or a receive whose server is lost is made again of the next one, and not told `ECONNRESET`: a message that the
+    /// lost one had taken is lost, and one that it had put stands twice.
+    pub fn asking_again(mut self) -> Queues {
+        self.again = AGAIN;
+        self
     }
 
     /// The same, but waits while another process has the file open, or this one: without end, or for so long at most.
@@ -112,7 +165,7 @@ impl Queues {
             unsafe { raw::msgq_open_wait(name.as_ptr(), limit, &mut at) },
             path.display(),
         )?;
-        Ok(Queues { at })
+        Ok(Queues { at, again: 0 })
     }
 
     /// The id of a key's queue, or of a new one with this mode.
@@ -158,7 +211,7 @@ impl Queues {
                 mtype,
                 body.as_ptr(),
                 body.len(),
-                wait.flags(),
+                wait.flags() | self.again,
                 limit,
             )
         };
@@ -184,18 +237,41 @@ impl Queues {
                 mtype,
                 room.as_mut_ptr(),
                 room.len(),
-                wait.flags(),
+                wait.flags() | self.again,
                 limit,
                 &mut got,
             )
         };
         must(told, on(id))?;
-        Ok(Message {
-            body: room[..got.length].to_vec(),
-            mtype: got.mtype,
-            sender: got.sender,
-            serial: got.serial,
-        })
+        Ok(Message::of(&room, &got))
+    }
+
+    /// Takes a message as `receive` does, which its server holds until it is dealt with: `Reserved::acknowledge` says so.
+    ///
+    /// # Errors
+    /// Those of `receive`, `ENOSPC` where no more queues are possible, and `ENOTSUP` where the file is opened.
+    pub fn reserve(&self, id: u32, mtype: i64, wait: Wait) -> Result<Reserved<'_>, Error> {
+        let limit = wait.limit();
+        let limit = limit.as_ref().map_or(ptr::null(), ptr::from_ref);
+        let mut room = [0; MAX_BODY];
+        let mut got = raw::Message::default();
+        let mut holding = 0;
+        // SAFETY: the handle is one, and there is room for what is told.
+        let told = unsafe {
+            raw::msgq_reserve(
+                self.at,
+                id,
+                mtype,
+                room.as_mut_ptr(),
+                room.len(),
+                wait.flags(),
+                limit,
+                &mut got,
+                &mut holding,
+            )
+        };
+        must(told, on(id))?;
+        Ok(Reserved::new(self, holding, Message::of(&room, &got)))
     }
 
     /// What is known of a queue.
@@ -272,13 +348,13 @@ impl Queues {
     /// From here on a call that would wait is told `EINTR`.
     ///
     /// # Errors
-    /// None but those of every call.
+    /// `ENOTSUP` for a server.
     pub fn stop(&self) -> Result<(), Error> {
         // SAFETY: the file is open.
         must(unsafe { raw::msgq_stop(self.at) }, "a stop")
     }
 
-    /// Saves, and lets go of the file. Where it can't be saved what has changed is lost.
+    /// Saves, and lets go of the file. Where it can't be saved what has changed is lost. Of a server it lets go without.
     ///
     /// # Errors
     /// Those of `save`.

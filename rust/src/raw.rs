@@ -55,6 +55,9 @@ extern "C" {
         limit: *const Timespec,
         queues: *mut Handle,
     ) -> c_int;
+    pub fn msgq_connect(socket: *const c_char, queues: *mut Handle) -> c_int;
+    pub fn msgq_attach(path: *const c_char, queues: *mut Handle) -> c_int;
+    pub fn msgq_is_served(queues: Handle) -> c_int;
     pub fn msgq_get(queues: Handle, key: i64, flags: c_int, id: *mut u32) -> c_int;
     pub fn msgq_send(
         queues: Handle,
@@ -75,6 +78,19 @@ extern "C" {
         limit: *const Timespec,
         got: *mut Message,
     ) -> c_int;
+    pub fn msgq_reserve(
+        queues: Handle,
+        id: u32,
+        mtype: i64,
+        room: *mut u8,
+        size: usize,
+        flags: c_int,
+        limit: *const Timespec,
+        got: *mut Message,
+        holding: *mut u32,
+    ) -> c_int;
+    pub fn msgq_acknowledge(queues: Handle, holding: u32) -> c_int;
+    pub fn msgq_release(queues: Handle, holding: u32) -> c_int;
     pub fn msgq_stat(queues: Handle, id: u32, info: *mut Info) -> c_int;
     pub fn msgq_set(queues: Handle, id: u32, change: *const Change) -> c_int;
     pub fn msgq_remove(queues: Handle, id: u32) -> c_int;

@@ -79,6 +79,18 @@ pub struct Message {
     pub serial: u64,
 }
 
+impl Message {
+    /// One whose bytes stand at the front of a room.
+    pub(crate) fn of(room: &[u8], got: &raw::Message) -> Message {
+        Message {
+            body: room[..got.length].to_vec(),
+            mtype: got.mtype,
+            sender: got.sender,
+            serial: got.serial,
+        }
+    }
+}
+
 /// What is known of a queue (`struct msqid_ds`).
 #[derive(Clone, Copy, Debug, PartialEq, Eq)]
 pub struct Info {
