@@ -6,13 +6,12 @@
  * Where the rules of docs/QUEUES.md differ from Linux, the call is of one of the kinds of `enum rule`, and what it is answered here
  * is typed from those rules. Each kind is counted, and there is no other. Bodies, keys and users are drawn so that a call falls
  * under a rule only where the program knows it. */
+#include "pairs.h"
+
 #include <errno.h>
 #include <grp.h>
 #include <limits.h>
 #include <signal.h>
-#include <stdarg.h>
-#include <stdbool.h>
-#include <stdint.h>
 #include <stdio.h>
 #include <stdlib.h>
 #include <string.h>
@@ -21,107 +20,17 @@
 #include <sys/time.h>
 #include <unistd.h>
 
-enum { MOST = 12, KEYS = 6, MOST_BODY = 1024, MOST_QBYTES = 65536, GONE_KEPT = 16, MANY = 900 };
-
-enum rule { ALIKE, REMOVED, LONG_BODY, EXCEPT_OR_COPY, HIGH_QBYTES, RAISES, RULES };
-static const char *const RULE_NAMES[] = {
-    "alike", "a removed id is EIDRM for ever", "a body over 1,024 bytes is EINVAL", "MSG_EXCEPT and MSG_COPY are EINVAL",
-    "qbytes over 65,536 are EPERM", "who is not user 0 raises qbytes: EPERM",
-};
-
-/* A queue here and its like of the system. */
-struct pair {
-    int ours, theirs;
-    key_t key;
-    unsigned long qbytes, count;
-    uid_t uid, cuid;
-};
+/* A queue that has as many is only received from: the limit of messages is a rule. */
+enum { MANY = 900 };
 
 struct message {
     long type;
     char body[MOST_BODY + 64];
 };
 
-static struct pair alive[MOST], gone[GONE_KEPT];
-static int alive_count, gone_count;
-static unsigned long rules[RULES], call_number;
+/* Keys from here on have no queue of the system's at the beginning; whether its root raises qbytes as far as here. */
 static key_t first_key;
-static uid_t user;
-static bool is_root, raises_far;
-static uint64_t seed;
-static const char *what = "";
-
-static unsigned draw(unsigned below) {
-    seed = seed * 6364136223846793005u + 1442695040888963407u;
-    return (unsigned)((seed >> 33) % below);
-}
-
-static bool one_in(unsigned many) {
-    return draw(many) == 0;
-}
-
-__attribute__((format(printf, 1, 2), noreturn)) static void fail(const char *format, ...) {
-    va_list words;
-    va_start(words, format);
-    printf("call %lu, %s: ", call_number, what);
-    (void)vprintf(format, words);
-    printf("\n");
-    va_end(words);
-    exit(1);
-}
-
-static const char *name_of(int wrong) {
-    return wrong == 0 ? "0" : strerrorname_np(wrong);
-}
-
-/* Compares what the two were answered, or what is answered here with what a rule says. */
-static void judge(enum rule rule, long ours, int our_errno, long theirs, int their_errno) {
-    if (ours != theirs || (ours < 0 && our_errno != their_errno))
-        fail("here %ld %s, and %s %ld %s", ours, name_of(ours < 0 ? our_errno : 0), rule == ALIKE ? "of the system" : "by rule",
-             theirs, name_of(theirs < 0 ? their_errno : 0));
-    rules[rule]++;
-}
-
-/* ---- who calls, and on what */
-
-static void become(uid_t next) {
-    if (!is_root || next == user)
-        return;
-    if (seteuid(0) != 0 || setegid(next) != 0 || seteuid(next) != 0)
-        fail("no user %u: %s", next, strerror(errno));
-    user = next;
-}
-
-/* A pair that is alive, one that is gone, or none that ever was: its place in `alive`, or -1. */
-static int choose(struct pair *it, bool *is_gone) {
-    *is_gone = false;
-    if (alive_count > 0 && !one_in(12)) {
-        int at = (int)draw((unsigned)alive_count);
-        *it = alive[at];
-        return at;
-    }
-    if (gone_count > 0 && !one_in(4)) {
-        *it = gone[draw((unsigned)gone_count)];
-        *is_gone = true;
-        return -1;
-    }
-    *it = (struct pair){.ours = one_in(2) ? -1 : INT_MAX};
-    it->theirs = it->ours;
-    return -1;
-}
-
-/* Of a removed one the system says EINVAL, unless something else is wrong before that. */
-static void judge_id(bool is_gone, long ours, int our_errno, long theirs, int their_errno) {
-    if (is_gone && theirs < 0 && their_errno == EINVAL)
-        judge(REMOVED, ours, our_errno, -1, EIDRM);
-    else
-        judge(ALIKE, ours, our_errno, theirs, their_errno);
-}
-
-static void note_gone(int at) {
-    gone[gone_count < GONE_KEPT ? gone_count++ : (int)draw(GONE_KEPT)] = alive[at];
-    alive[at] = alive[--alive_count];
-}
+static bool raises_far;
 
 /* ---- the calls */
 
@@ -129,27 +38,27 @@ static void try_get(void) {
     key_t key = one_in(4) ? IPC_PRIVATE : first_key + (key_t)draw(KEYS);
     int flags = (one_in(4) ? 0 : IPC_CREAT) | (one_in(4) ? IPC_EXCL : 0), at = 0;
     int mode = one_in(2) ? 0666 : (int)draw(0777 + 1);
-    while (at < alive_count && (key == IPC_PRIVATE || alive[at].key != key))
+    while (at < run.alive_count && (key == IPC_PRIVATE || run.alive[at].key != key))
         at++;
-    if (at == alive_count && alive_count == MOST)
+    if (at == run.alive_count && run.alive_count == MOST)
         return;
     /* That a queue which is there tests no permission is a rule. */
-    if (at < alive_count && user != 0)
+    if (at < run.alive_count && run.user != 0)
         mode = 0;
-    what = "msgget";
+    run.call = "msgget";
     long theirs = syscall(SYS_msgget, key, flags | mode);
     int their_errno = errno, ours = msgget(key, flags | mode), our_errno = errno;
     judge(ALIKE, ours < 0 ? -1 : 0, our_errno, theirs < 0 ? -1 : 0, their_errno);
     if (ours < 0)
         return;
-    if (at < alive_count && (alive[at].ours != ours || alive[at].theirs != (int)theirs))
-        fail("key %d leads to %d and %ld in the place of %d and %d", key, ours, theirs, alive[at].ours, alive[at].theirs);
-    for (int other = 0; other < alive_count; other++)
-        if (at == alive_count && alive[other].ours == ours)
+    if (at < run.alive_count && (run.alive[at].ours != ours || run.alive[at].theirs != (int)theirs))
+        fail("key %d leads to %d and %ld in the place of %d and %d", key, ours, theirs, run.alive[at].ours, run.alive[at].theirs);
+    for (int other = 0; other < run.alive_count; other++)
+        if (at == run.alive_count && run.alive[other].ours == ours)
             fail("id %d is given twice", ours);
-    if (at == alive_count)
-        alive[alive_count++] =
-            (struct pair){ours, (int)theirs, key, 16384, 0, user, user};
+    if (at == run.alive_count)
+        run.alive[run.alive_count++] =
+            (struct pair){ours, (int)theirs, key, 16384, 0, run.user, run.user};
 }
 
 static long draw_type(bool receives) {
@@ -179,8 +88,8 @@ static void try_send(void) {
     struct message message = {.type = draw_type(false)};
     const void *from = one_in(100) ? NULL : one_in(100) ? (void *)8 : &message;
     for (size_t byte = 0; byte < sizeof message.body; byte++)
-        message.body[byte] = (char)(call_number + byte * 7);
-    what = "msgsnd";
+        message.body[byte] = (char)(run.calls + byte * 7);
+    run.call = "msgsnd";
     if (one_in(50)) {
         try_long(&it, &message);
         return;
@@ -194,7 +103,7 @@ static void try_send(void) {
     long ours = msgsnd(it.ours, from, size, waits ? 0 : IPC_NOWAIT);
     judge_id(is_gone && message.type > 0, ours, errno, theirs, their_errno);
     if (ours == 0)
-        alive[at].count++;
+        run.alive[at].count++;
 }
 
 /* Flags that are refused here. */
@@ -213,7 +122,7 @@ static void try_receive(void) {
     int flags = one_in(3) ? MSG_NOERROR : 0;
     struct message one, two;
     bool is_bad = one_in(200);
-    what = "msgrcv";
+    run.call = "msgrcv";
     memset(&one, 0x55, sizeof one);
     memset(&two, 0x55, sizeof two);
     if (one_in(60)) {
@@ -229,7 +138,7 @@ static void try_receive(void) {
         fail("type %ld and %ld, or bytes that differ", one.type, two.type);
     /* (as it is lost where it can't be told) */
     if (ours >= 0 || (errno == EFAULT && at >= 0))
-        alive[at].count--;
+        run.alive[at].count--;
 }
 
 static void compare(const struct msqid_ds *one, const struct msqid_ds *two) {
@@ -260,7 +169,7 @@ static void try_stat(void) {
     struct msqid_ds one, two;
     bool is_gone, is_bad = one_in(50);
     (void)choose(&it, &is_gone);
-    what = "IPC_STAT";
+    run.call = "IPC_STAT";
     long theirs = syscall(SYS_msgctl, it.theirs, IPC_STAT, is_bad ? NULL : &two);
     int their_errno = errno;
     long ours = msgctl(it.ours, IPC_STAT, is_bad ? NULL : &one);
@@ -280,13 +189,13 @@ static void try_set(void) {
     struct msqid_ds one = {.msg_qbytes = 0};
     bool is_gone, is_bad = one_in(50);
     int at = choose(&it, &is_gone);
-    bool owns = at < 0 || user == 0 || user == it.uid || user == it.cuid;
+    bool owns = at < 0 || run.user == 0 || run.user == it.uid || run.user == it.cuid;
     one.msg_qbytes = draw_qbytes();
-    one.msg_perm.uid = is_root ? users[draw(3)] : user;
-    one.msg_perm.gid = is_root ? users[draw(3)] : getegid();
+    one.msg_perm.uid = run.is_root ? users[draw(3)] : run.user;
+    one.msg_perm.gid = run.is_root ? users[draw(3)] : getegid();
     one.msg_perm.mode = (unsigned short)(one_in(2) ? 0666 : draw(0777 + 1));
-    what = "IPC_SET";
-    if (at >= 0 && owns && user != 0 && one.msg_qbytes > it.qbytes) {
+    run.call = "IPC_SET";
+    if (at >= 0 && owns && run.user != 0 && one.msg_qbytes > it.qbytes) {
         long ours = msgctl(it.ours, IPC_SET, &one);
         judge(RAISES, ours, errno, -1, EPERM);
         return;
@@ -306,8 +215,8 @@ static void try_set(void) {
     long ours = msgctl(it.ours, IPC_SET, is_bad ? NULL : &one);
     judge_id(is_gone, ours, errno, theirs, their_errno);
     if (ours == 0) {
-        alive[at].qbytes = one.msg_qbytes;
-        alive[at].uid = one.msg_perm.uid;
+        run.alive[at].qbytes = one.msg_qbytes;
+        run.alive[at].uid = one.msg_perm.uid;
     }
 }
 
@@ -315,7 +224,7 @@ static void try_remove(void) {
     struct pair it;
     bool is_gone;
     int at = choose(&it, &is_gone);
-    what = "IPC_RMID";
+    run.call = "IPC_RMID";
     long theirs = syscall(SYS_msgctl, it.theirs, IPC_RMID, NULL);
     int their_errno = errno;
     long ours = msgctl(it.ours, IPC_RMID, NULL);
@@ -327,12 +236,12 @@ static void try_remove(void) {
 static void try_command(void) {
     struct msqid_ds room;
     int command = one_in(2) ? 99 : -1;
-    what = "msgctl with no command";
-    if (alive_count == 0)
+    run.call = "msgctl with no command";
+    if (run.alive_count == 0)
         return;
-    long theirs = syscall(SYS_msgctl, alive[0].theirs, command, &room);
+    long theirs = syscall(SYS_msgctl, run.alive[0].theirs, command, &room);
     int their_errno = errno;
-    long ours = msgctl(alive[0].ours, command, &room);
+    long ours = msgctl(run.alive[0].ours, command, &room);
     judge(ALIKE, ours, errno, theirs, their_errno);
 }
 
@@ -345,15 +254,15 @@ static void try_wait(void) {
     const struct sigaction action = {.sa_handler = nothing, .sa_flags = SA_RESTART};
     const struct itimerval soon = {{0, 2000}, {0, 2000}}, never = {{0, 0}, {0, 0}};
     struct message one;
-    what = "a wait";
+    run.call = "a wait";
     become(0);
-    if (alive_count == 0 || alive[0].count > 0 || user != 0)
+    if (run.alive_count == 0 || run.alive[0].count > 0 || run.user != 0)
         return;
     if (sigaction(SIGALRM, &action, NULL) != 0 || setitimer(ITIMER_REAL, &soon, NULL) != 0)
         fail("%s", strerror(errno));
-    long theirs = syscall(SYS_msgrcv, alive[0].theirs, &one, (size_t)MOST_BODY, 0L, 0);
+    long theirs = syscall(SYS_msgrcv, run.alive[0].theirs, &one, (size_t)MOST_BODY, 0L, 0);
     int their_errno = errno;
-    long ours = msgrcv(alive[0].ours, &one, MOST_BODY, 0, 0);
+    long ours = msgrcv(run.alive[0].ours, &one, MOST_BODY, 0, 0);
     int our_errno = errno;
     if (setitimer(ITIMER_REAL, &never, NULL) != 0)
         fail("%s", strerror(errno));
@@ -380,18 +289,18 @@ static void try_one(void) {
 
 static void remove_all(void) {
     become(0);
-    for (int at = 0; at < alive_count; at++) {
-        (void)syscall(SYS_msgctl, alive[at].theirs, IPC_RMID, NULL);
-        (void)msgctl(alive[at].ours, IPC_RMID, NULL);
+    for (int at = 0; at < run.alive_count; at++) {
+        (void)syscall(SYS_msgctl, run.alive[at].theirs, IPC_RMID, NULL);
+        (void)msgctl(run.alive[at].ours, IPC_RMID, NULL);
     }
 }
 
 /* Keys that the system has no queue for, and whether its root may raise qbytes as far as here. */
 static void begin(void) {
-    is_root = geteuid() == 0;
-    user = geteuid();
-    if (is_root && setgroups(0, NULL) != 0)
-        is_root = false;
+    run.is_root = geteuid() == 0;
+    run.user = geteuid();
+    if (run.is_root && setgroups(0, NULL) != 0)
+        run.is_root = false;
     for (first_key = 0x6d730000 + getpid() % 1000 * KEYS;; first_key += KEYS) {
         int taken = 0;
         for (int at = 0; at < KEYS; at++)
@@ -401,25 +310,30 @@ static void begin(void) {
     }
     struct msqid_ds high = {.msg_qbytes = MOST_QBYTES};
     int id = (int)syscall(SYS_msgget, IPC_PRIVATE, 0600);
-    raises_far = is_root && id >= 0 && syscall(SYS_msgctl, id, IPC_SET, &high) == 0;
+    raises_far = run.is_root && id >= 0 && syscall(SYS_msgctl, id, IPC_SET, &high) == 0;
     if (id < 0 || syscall(SYS_msgctl, id, IPC_RMID, NULL) != 0)
         fail("the system has no queues: %s", strerror(errno));
     (void)atexit(remove_all);
+}
+
+static unsigned long all_rules(void) {
+    unsigned long count = 0;
+    for (int rule = 0; rule < RULES; rule++)
+        count += run.rules[rule];
+    return count;
 }
 
 int main(int argc, char **argv) {
     unsigned long calls = argc > 1 ? strtoul(argv[1], NULL, 10) : 0;
     if (argc != 3 || calls == 0)
         return fprintf(stderr, "usage: beside CALLS SEED\n"), 2;
-    seed = strtoull(argv[2], NULL, 10);
+    run.seed = strtoull(argv[2], NULL, 10);
     begin();
-    while (rules[ALIKE] + rules[REMOVED] + rules[LONG_BODY] + rules[EXCEPT_OR_COPY] + rules[HIGH_QBYTES] + rules[RAISES] < calls) {
-        call_number++;
+    while (all_rules() < calls) {
+        run.calls++;
         try_one();
     }
-    printf("%lu calls as user %s:", calls, is_root ? "0 and two others" : "that it is run by");
-    for (int rule = 0; rule < RULES; rule++)
-        printf("%s %lu %s", rule == 0 ? "" : ",", rules[rule], RULE_NAMES[rule]);
-    printf("\n");
+    printf("%lu calls as user %s:", calls, run.is_root ? "0 and two others" : "that it is run by");
+    print_rules();
     return 0;
 }

@@ -29,12 +29,16 @@ struct message {
 
 static struct message message = {1, "hello"};
 
-static int make(void) {
-    int id = msgget(IPC_PRIVATE, IPC_CREAT | 0600);
-    if (id < 0) {
-        perror("msgget");
+static void must(bool is_done) {
+    if (!is_done) {
+        perror("pitfalls");
         exit(1);
     }
+}
+
+static int make(void) {
+    int id = msgget(IPC_PRIVATE, IPC_CREAT | 0600);
+    must(id >= 0);
     return id;
 }
 
@@ -49,20 +53,17 @@ static long left(int id) {
 }
 
 static void end(int id) {
-    if (msgctl(id, IPC_RMID, NULL) != 0)
-        perror("IPC_RMID");
+    must(msgctl(id, IPC_RMID, NULL) == 0);
 }
 
 static void handle(int number, void (*handler)(int), int flags) {
     const struct sigaction action = {.sa_handler = handler, .sa_flags = flags};
-    if (sigaction(number, &action, NULL) != 0)
-        perror("sigaction");
+    must(sigaction(number, &action, NULL) == 0);
 }
 
 static void tick(long first, long every) {
     const struct itimerval timer = {{0, every}, {0, first}};
-    if (setitimer(ITIMER_REAL, &timer, NULL) != 0)
-        perror("setitimer");
+    must(setitimer(ITIMER_REAL, &timer, NULL) == 0);
 }
 
 static void nothing(int number) {
@@ -189,14 +190,13 @@ static void closed(void) {
     char name[] = "/tmp/pitfalls.XXXXXX";
     say("before", msgsnd(id, &message, 5, 0));
     (void)syscall(SYS_close_range, 3U, ~0U, 0U);
-    if ((file = mkstemp(name)) < 0 || unlink(name) != 0)
-        perror(name);
+    must((file = mkstemp(name)) >= 0 && unlink(name) == 0);
     for (int n = 0; n < 600; n++)
         (void)!dup(file);
     say("all others are closed, and their numbers taken", msgsnd(id, &message, 5, 0));
     say("receive", msgrcv(id, &message, ROOM, 0, 0));
-    if (fstat(file, &found) == 0)
-        printf("closed: %ld bytes in a stranger\n", (long)found.st_size);
+    must(fstat(file, &found) == 0);
+    printf("closed: %ld bytes in a stranger\n", (long)found.st_size);
     (void)syscall(SYS_close_range, 3U, ~0U, 0U);
     end(id);
 }
@@ -355,25 +355,7 @@ static void removed(void) {
     (void)waitpid(child, NULL, 0);
 }
 
-/* ---- memory */
-
-static void fault(void) {
-    int id = make();
-    void *bad = (void *)8;
-    say("msgsnd of NULL", msgsnd(id, NULL, 5, 0));
-    say("msgsnd of 8", msgsnd(id, bad, 5, 0));
-    say("msgsnd of -1 bytes", msgsnd(id, &message, (size_t)-1, 0));
-    say("msgsnd of -1 bytes of NULL", msgsnd(id, NULL, (size_t)-1, 0));
-    say("msgsnd to -1", msgsnd(-1, &message, 1, 0));
-    say("IPC_STAT to 8", msgctl(id, IPC_STAT, bad));
-    say("IPC_SET of 8", msgctl(id, IPC_SET, bad));
-    say("IPC_INFO to 8", msgctl(id, IPC_INFO, bad));
-    say("msgsnd", msgsnd(id, &message, 5, 0));
-    say("msgrcv to 8", msgrcv(id, bad, 5, 0, 0));
-    printf("fault: left %ld\n", left(id));
-    say("msgsnd once more", msgsnd(id, &message, 5, 0));
-    end(id);
-}
+/* ---- extensions */
 
 /* An extension that is opened with RTLD_DEEPBIND, as PHP does: DEEP names it. It tells whether it sees the queue. */
 static void deep(void) {
@@ -392,7 +374,7 @@ static const struct {
 } ALL[] = {
     {"storm", storm},     {"restart", restart}, {"jump", jump},     {"stay", stay},       {"handler", handler}, {"closed", closed},
     {"daemon", daemon_like}, {"forks", forks},  {"vforks", vforks}, {"threads", threads}, {"cancel", cancel},   {"death", death},
-    {"exec", exec},       {"removed", removed}, {"fault", fault},   {"deep", deep},
+    {"exec", exec},       {"removed", removed}, {"deep", deep},
 };
 
 int main(int argc, char **argv) {
