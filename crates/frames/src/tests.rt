@@ -57,33 +57,7 @@ const OPERATIONS: [&str; 15] = [
 /// What a frame of `OPERATIONS` asks for.
 fn wanted(alloc: Global, case: usize) -> Result<Operation, Fail> {
     Ok(match case {
-        0 => Operation::Call(get(Some(7), true, 0o600)),
-        1 => Operation::Call(get(None, false, 0)),
-        2 => Operation::Call(Call::Send(SendArguments {
-            id: 3,
-            mtype: 5,
-            body: Body::new(Vec::from_slice(alloc, b"abc")?),
-            nowait: true,
-            moment: NOON,
-        })),
-        3 => Operation::Call(Call::Receive(ReceiveArguments {
-            id: 3,
-            size: 9,
-            mtype: -2,
-            nowait: true,
-            noerror: true,
-            moment: NOON,
-        })),
-        4 => Operation::Call(Call::Stat { id: 3 }),
-        5 => Operation::Call(Call::Set(SetArguments {
-            id: 3,
-            qbytes: 70_000,
-            uid: Some(1_000),
-            gid: None,
-            mode: Some(0o640),
-            moment: NOON,
-        })),
-        6 => Operation::Call(Call::Remove { id: 3 }),
+        0..=6 => Operation::Call(wanted_call(alloc, case)?),
         7 => Operation::Next { after: 3 },
         8 => Operation::Nth { place: 2 },
         9 => Operation::Save,
@@ -96,6 +70,39 @@ fn wanted(alloc: Global, case: usize) -> Result<Operation, Fail> {
         },
         13 => Operation::Acknowledge { id: 8 },
         _ => Operation::Release { id: 8 },
+    })
+}
+
+/// The call that one of the first frames asks for.
+fn wanted_call(alloc: Global, case: usize) -> Result<Call, Fail> {
+    Ok(match case {
+        0 => get(Some(7), true, 0o600),
+        1 => get(None, false, 0),
+        2 => Call::Send(SendArguments {
+            id: 3,
+            mtype: 5,
+            body: Body::new(Vec::from_slice(alloc, b"abc")?),
+            nowait: true,
+            moment: NOON,
+        }),
+        3 => Call::Receive(ReceiveArguments {
+            id: 3,
+            size: 9,
+            mtype: -2,
+            nowait: true,
+            noerror: true,
+            moment: NOON,
+        }),
+        4 => Call::Stat { id: 3 },
+        5 => Call::Set(SetArguments {
+            id: 3,
+            qbytes: 70_000,
+            uid: Some(1_000),
+            gid: None,
+            mode: Some(0o640),
+            moment: NOON,
+        }),
+        _ => Call::Remove { id: 3 },
     })
 }
 
@@ -255,23 +262,6 @@ fn each_answer_is_told(rt: HostRuntime) -> Result<(), Fail> {
         &held,
         &["2a000000", held_bytes, "0300000000000000 6162"],
     )?;
-    let wrong = Reply::Number {
-        code: 203,
-        value: 0,
-    };
-    tells(&rt, &wrong, &["10000000", "cb000000 00000000"])?;
-    let counts = Counts {
-        calls: 1,
-        saves: 2,
-        tries: 3,
-        queues: 4,
-        waiting: 5,
-        pages: 258,
-        highest: 7,
-    };
-    let counted = "00000000 00000000 0100000000000000 0200000000000000 0300000000000000";
-    let others = "04000000 05000000 02010000 07000000";
-    tells(&rt, &Reply::Info(&counts), &["38000000", counted, others])?;
     let received = "00000000 02000000 0500000000000000 64000000 00000000";
     answers(
         &rt,
@@ -290,6 +280,27 @@ fn each_answer_is_told(rt: HostRuntime) -> Result<(), Fail> {
         Answer::Refused(Errno::EAGAIN),
         &["10000000", "02000000 00000000"],
     )
+}
+
+#[test]
+fn codes_and_counts_are_told(rt: HostRuntime) -> Result<(), Fail> {
+    let wrong = Reply::Number {
+        code: 203,
+        value: 0,
+    };
+    tells(&rt, &wrong, &["10000000", "cb000000 00000000"])?;
+    let counts = Counts {
+        calls: 1,
+        saves: 2,
+        tries: 3,
+        queues: 4,
+        waiting: 5,
+        pages: 258,
+        highest: 7,
+    };
+    let counted = "00000000 00000000 0100000000000000 0200000000000000 0300000000000000";
+    let others = "04000000 05000000 02010000 07000000";
+    tells(&rt, &Reply::Info(&counts), &["38000000", counted, others])
 }
 
 #[test]
