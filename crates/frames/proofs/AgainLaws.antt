@@ -1,6 +1,6 @@
 -- An operation is read from its frame, at the moment that is handed in.
-use Rattle.std.proofs.Common.{◌≡◌, ℕ, ◌+◌, ◌^◌, ◌<◌, ◌≤◌, ◌==◌, Bool, true, false, not, ◌&&◌, Option, Some, None, ℤ, List, [], ◌∷◌, ◌++◌, length, drop, refl, sym, ap, ◌∙◌, arith}
-use Rattle.std.specs.Prelude.{nat_le, is_some, IfSome}
+use Rattle.std.proofs.Common.{◌≡◌, ℕ, ◌+◌, ◌^◌, ◌<◌, ◌≤◌, Bool, true, false, Option, Some, None, ℤ, [], ◌++◌, length, refl, sym, ap, ◌∙◌, arith}
+use Rattle.std.specs.Prelude.{is_some, IfSome}
 use Rattle.std.proofs.lemmas.Bool.{le-leb}
 use Rattle.std.proofs.lemmas.List.{append-nil, length-append}
 use Rattle.numbers.specs.declared.limits.TheConstants.{MAX_BODY}
@@ -12,11 +12,11 @@ use Rattle.queue_model.specs.declared.call.Call.TheVariants.{Get, Send, Receive,
 use Rattle.frames.specs.declared.frame.Frame.{Frame}
 use Rattle.frames.specs.declared.incoming.Operation.{Operation}
 use Rattle.frames.specs.declared.incoming.Operation.TheVariants as operations
-use Rattle.frames.specs.Little.{four, eight, four_at, eight_at}
+use Rattle.frames.specs.Little.{four, eight, four_at}
 use Rattle.frames.specs.Frames.{FitsFour}
 use Rattle.frames.specs.Requests.{FitsOperation, FitsSet, FitsType, call_frame, flag, frame_of, or_zero, type_number}
 use Rattle.frames.specs.Records.{operation_at}
-use Rattle.frames.specs.Reading.{get_flags, get_of, given, has, is_get, is_receive, is_reserve, is_send, is_set, kept, operation_of, receive_of, reserve_of, send_of, set_flags, set_of, type_of}
+use Rattle.frames.specs.Reading.{get_flags, get_of, given, has, is_get, is_receive, is_reserve, is_send, is_set, kept, operation_of, receive_of, send_of, set_flags, set_of}
 use Rattle.frames.proofs.LittleLaws.{length-four, length-eight}
 use Rattle.frames.proofs.PartLaws.{four_next, type_next}
 use Rattle.frames.proofs.FrameLaws.{and_true, is_same}
@@ -67,10 +67,14 @@ zero_small (Some n) fits = fits
 four_alone : (n : ℕ) → n < 2 ^ 32 → four_at 0 (four n) ≡ n
 four_alone n small = (four_next 0 n (four n) [] (sym (append-nil (four n))) small).0
 
+-- an operation is read from its frame, at this moment
+abbrev IsReadAgain : ℕ → ℕ → Operation → Type 0
+IsReadAgain n moment op = operation_of moment (frame_of n op) ≡ Some (operation_at moment op)
+
 -- ---- calls
 
 get_again : (n moment : ℕ) (a : GetArguments) → IfSome a.key FitsFour
-    → operation_of moment (frame_of n (operations.Call (Get a))) ≡ Some (operation_at moment (operations.Call (Get a)))
+    → IsReadAgain n moment (operations.Call (Get a))
 get_again n moment a fits =
     let f : Frame = call_frame n (Get a) in
     let bits = get_bits a.create a.excl (is_some a.key) in
@@ -91,7 +95,7 @@ get_again n moment a fits =
     λ i. kept (passes i) (operations.Call (Get (same moment i)))
 
 send_again : (n moment : ℕ) (a : SendArguments) → FitsType a.mtype → length a.body ≤ MAX_BODY
-    → operation_of moment (frame_of n (operations.Call (Send a))) ≡ Some (operation_at moment (operations.Call (Send a)))
+    → IsReadAgain n moment (operations.Call (Send a))
 send_again n moment a fits short =
     let f : Frame = call_frame n (Send a) in
     let bit = one_bit a.nowait in
@@ -113,7 +117,7 @@ send_again n moment a fits short =
     λ i. kept (passes i) (operations.Call (Send (same i)))
 
 receive_again : (n moment : ℕ) (a : ReceiveArguments) → FitsType a.mtype → FitsFour a.size
-    → operation_of moment (frame_of n (operations.Call (Receive a))) ≡ Some (operation_at moment (operations.Call (Receive a)))
+    → IsReadAgain n moment (operations.Call (Receive a))
 receive_again n moment a fits small =
     let f : Frame = call_frame n (Receive a) in
     let bits = wait_bits a.nowait a.noerror in
@@ -135,7 +139,7 @@ receive_again n moment a fits small =
     λ i. kept (passes i) (operations.Call (Receive (same i)))
 
 set_again : (n moment : ℕ) (a : SetArguments) → FitsSet a
-    → operation_of moment (frame_of n (operations.Call (Set a))) ≡ Some (operation_at moment (operations.Call (Set a)))
+    → IsReadAgain n moment (operations.Call (Set a))
 set_again n moment a fits =
     let f : Frame = call_frame n (Set a) in
     let bits = set_bits (is_some a.uid) (is_some a.gid) (is_some a.mode) in
@@ -171,7 +175,7 @@ set_again n moment a fits =
     λ i. kept (passes i) (operations.Call (Set (same moment i)))
 
 reserve_again : (n moment id : ℕ) (mtype : ℤ) (nowait : Bool) → FitsType mtype
-    → operation_of moment (frame_of n (operations.Reserve id mtype nowait)) ≡ Some (operations.Reserve id mtype nowait)
+    → IsReadAgain n moment (operations.Reserve id mtype nowait)
 reserve_again n moment id mtype nowait fits =
     let f : Frame = frame_of n (operations.Reserve id mtype nowait) in
     let bit = one_bit nowait in

@@ -1,16 +1,15 @@
 -- A record and a frame are read from their bytes, and their bytes are those of what is read.
-use Rattle.std.proofs.Common.{◌≡◌, ℕ, ◌+◌, ◌-◌, ◌^◌, ◌<◌, ◌≤◌, ◌==◌, Bool, true, false, ◌&&◌, List, [], ◌∷◌, ◌++◌, length, drop, slice_index, refl, sym, ap, ◌∙◌, arith}
+use Rattle.std.proofs.Common.{◌≡◌, ℕ, ◌+◌, ◌-◌, ◌^◌, ◌<◌, ◌≤◌, ◌==◌, Bool, true, ◌&&◌, List, [], ◌∷◌, ◌++◌, length, drop, sym, ap, ◌∙◌, arith}
 use Rattle.std.specs.Prelude.{nat_le}
 use Rattle.std.proofs.lemmas.Bool.{eqb-true, leb-true, le-leb}
 use Rattle.std.proofs.lemmas.Bool.Decides.{nat_tests}
 use Rattle.std.proofs.lemmas.List.{append-nil, append_assoc, length-append, length-drop}
 use Rattle.numbers.proofs.NumberLaws.{IsBytes}
 use Rattle.numbers.proofs.Tests.{both_true}
-use Rattle.queue_model.specs.declared.caller.Caller.{Caller}
 use Rattle.frames.specs.declared.frame.Frame.{Frame}
 use Rattle.frames.specs.declared.head.Head.{Head}
-use Rattle.frames.specs.Little.{two, four, two_at, four_at}
-use Rattle.frames.specs.Frames.{FitsFrame, FitsHead, counted, frame_bytes, head_bytes, joined}
+use Rattle.frames.specs.Little.{four, four_at}
+use Rattle.frames.specs.Frames.{FitsFrame, FitsHead, frame_bytes, head_bytes, joined}
 use Rattle.frames.specs.Reading.{frame_at, head_at, is_head}
 use Rattle.frames.proofs.LittleLaws.{length-two, length-four}
 use Rattle.frames.proofs.PartLaws.{byte_next, byte_then, four_next, four_then, two_next, two_then}

@@ -1,8 +1,8 @@
 -- The parts of a record: what stands at a place, and behind it.
-use Rattle.std.proofs.Common.{◌≡◌, ℕ, zero, suc, ◌+◌, ◌-◌, ◌*◌, ◌^◌, ◌<◌, ◌≤◌, ℤ, pos, negsuc, List, [], ◌∷◌, ◌++◌, length, drop, slice_index, refl, sym, ap, ◌∙◌, arith, w64}
+use Rattle.std.proofs.Common.{◌≡◌, ℕ, ◌+◌, ◌^◌, ◌<◌, ◌≤◌, ℤ, pos, negsuc, List, [], ◌∷◌, ◌++◌, length, drop, slice_index, refl, sym, ap, ◌∙◌, arith, w64}
 use Rattle.std.specs.Prelude.{FitsSigned}
 use Rattle.std.proofs.lemmas.Int.{of_z-to_z, to_z-of_z}
-use Rattle.std.proofs.lemmas.List.{append-nil, append_assoc, length-append, length-drop, nil_from_length, get_or-drop}
+use Rattle.std.proofs.lemmas.List.{length-drop, nil_from_length, get_or-drop}
 use Rattle.numbers.proofs.NumberLaws.{IsBytes, past, after_part}
 use Rattle.frames.specs.Little.{two, four, eight, two_at, four_at, eight_at}
 use Rattle.frames.specs.Requests.{type_number}

@@ -1,13 +1,12 @@
 -- A record is read as it is spelled, and refused where it is none.
-use Rattle.std.proofs.Common.{◌≡◌, ◌≢◌, ◌++◌, ℕ, ◌+◌, ◌<◌, ◌≤◌, ◌^◌, ◌==◌, Bool, true, false, Option, Some, None, Result, Ok, Err, List, [], ◌∷◌, length, refl, sym, ap, subst, ◌∙◌, arith}
-use Rattle.std.specs.Prelude.{if◌then◌else◌, nat_le, IfOk, IfErr}
+use Rattle.std.proofs.Common.{◌≡◌, ◌≢◌, ◌++◌, ℕ, ◌+◌, ◌≤◌, ◌==◌, true, false, Option, Some, None, Result, Ok, Err, List, [], length, refl, sym, ap, subst, ◌∙◌, arith}
+use Rattle.std.specs.Prelude.{if◌then◌else◌, IfOk, IfErr}
 use Rattle.std.proofs.lemmas.Bool.{eqb-true, le-leb}
 use Rattle.std.proofs.lemmas.Bool.Decides.{nat_tests}
 use Rattle.std.proofs.lemmas.List.{length-append, nil_from_length}
 use Rattle.numbers.proofs.NumberLaws.{IsBytes, IsBytes-drop}
 use Rattle.queue_model.specs.declared.caller.Caller.{Caller}
 use Rattle.queue_model.specs.declared.call.Call.TheVariants.{Get, Send, Receive, Stat, Set, Remove}
-use Rattle.frames.specs.declared.frame.Frame.{Frame}
 use Rattle.frames.specs.declared.head.Head.{Head}
 use Rattle.frames.specs.declared.incoming.Incoming.{Incoming}
 use Rattle.frames.specs.declared.incoming.Kind.{Kind}
@@ -19,7 +18,7 @@ use Rattle.frames.specs.declared.incoming.Unread.TheVariants.{Broken, Wrong, NoM
 use Rattle.frames.specs.Little.{four, eight, four_at}
 use Rattle.frames.specs.Frames.{FitsHead, frame_bytes, head_bytes}
 use Rattle.frames.specs.Requests.{FitsOperation, frame_of, or_zero, type_number}
-use Rattle.frames.specs.Records.{Fits, FitsKind, IsFrameOf, IsRecord, Measures, ReadsAs, Says, at_moment, operation_at, head_of, kind_at, kind_bytes, kind_number, spelled}
+use Rattle.frames.specs.Records.{Fits, FitsKind, IsFrameOf, Measures, ReadsAs, Says, at_moment, operation_at, head_of, kind_at, kind_bytes, kind_number, spelled}
 use Rattle.frames.specs.Reading.{Gives, IsAsked, IsAskedIn, bare_of, frame_at, head_at, incoming_of, is_asked, is_head, kind_of, operation_of, request_of, with_kind, with_operation}
 use Rattle.frames.proofs.LittleLaws.{length-four, length-eight}
 use Rattle.frames.proofs.FrameLaws.{frame_again, frame_spells, head_again, head_first, head_spells, is_same, length-frame, length-head}
@@ -46,7 +45,8 @@ module _ (moment : ℕ) (h : Head) (all : IsBytes h.rest) where
   with_told is long None right =
       record { kind = eqb-true _ _ is; long = long; connection_is = refl; number_is = refl }
   with_told is long (Some operation) right =
-      let request : Operation → Kind = λ op. kinds.Request (record { number = (frame_at h.rest).number; operation = op }) in
+      let f = frame_at h.rest in
+      let request : Operation → Kind = λ op. kinds.Request (record { number = f.number; operation = op }) in
       (sym (eqb-true _ _ is), ap frame_bytes right.0 ∙ frame_spells h.rest all long, ap request right.1)
 
   request_told : (h.kind == 0) ≡ true → Told moment h (request_of moment h)
@@ -172,7 +172,8 @@ few_fields n (operations.Call (Send a)) fits =
     let short = fits.1 in
     omega (arith, short, length-append (eight (type_number a.mtype)) a.body, length-eight (type_number a.mtype))
 few_fields n (operations.Call (Receive a)) fits =
-    omega (arith, length-append (eight (type_number a.mtype)) (four a.size), length-eight (type_number a.mtype), length-four a.size)
+    let mtype = type_number a.mtype in
+    omega (arith, length-append (eight mtype) (four a.size), length-eight mtype, length-four a.size)
 few_fields n (operations.Call (Stat id)) fits = omega arith
 few_fields n (operations.Call (Set a)) fits =
     let user = or_zero a.uid in
@@ -287,6 +288,7 @@ found_first bytes r measured i rest fits is = found r measured where
 pub one_incoming : (a b : Incoming) (moment : ℕ) → Fits a → Fits b → spelled a ≡ spelled b
     → at_moment moment a ≡ at_moment moment b
 one_incoming a b moment first second same =
-    is_one (sym (incoming_again moment (spelled b) a first same) ∙ incoming_again moment (spelled b) b second refl) where
+    let other = incoming_again moment (spelled b) b second refl in
+    is_one (sym (incoming_again moment (spelled b) a first same) ∙ other) where
       is_one : {x y : Incoming} → ◌≡◌ {A = Result Incoming Unread} (Ok x) (Ok y) → x ≡ y
       is_one is = cc

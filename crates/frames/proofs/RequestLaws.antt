@@ -1,27 +1,20 @@
 -- An operation is read from its frame, and its frame is that of what is read.
-use Rattle.std.proofs.Common.{◌≡◌, ℕ, ◌+◌, ◌^◌, ◌<◌, ◌≤◌, ◌==◌, Bool, true, false, not, ◌&&◌, Option, Some, None, List, [], ◌∷◌, ◌++◌, length, drop, refl, sym, ap, ◌∙◌, arith}
-use Rattle.std.specs.Prelude.{nat_le, if◌then◌else◌, is_some, IfSome, bit_and, ⊤}
-use Rattle.std.proofs.lemmas.Bool.{eqb-true, leb-true, le-leb}
-use Rattle.std.proofs.lemmas.List.{append-nil, length-append, nil_from_length}
-use Rattle.numbers.specs.declared.limits.TheConstants.{MAX_BODY}
+use Rattle.std.proofs.Common.{◌≡◌, ℕ, ◌+◌, ◌≤◌, ◌==◌, Bool, true, false, Option, Some, None, List, [], ◌++◌, length, drop, refl, sym, ap, ◌∙◌, arith}
+use Rattle.std.specs.Prelude.{if◌then◌else◌, ⊤}
+use Rattle.std.proofs.lemmas.Bool.{eqb-true, leb-true}
+use Rattle.std.proofs.lemmas.List.{append-nil, nil_from_length}
 use Rattle.numbers.proofs.NumberLaws.{IsBytes}
 use Rattle.numbers.proofs.Tests.{both_true}
-use Rattle.queue_model.specs.declared.call.GetArguments.{GetArguments}
-use Rattle.queue_model.specs.declared.call.SendArguments.{SendArguments}
-use Rattle.queue_model.specs.declared.call.ReceiveArguments.{ReceiveArguments}
-use Rattle.queue_model.specs.declared.call.SetArguments.{SetArguments}
-use Rattle.queue_model.specs.declared.call.Call.TheVariants.{Get, Send, Receive, Stat, Set, Remove}
+use Rattle.queue_model.specs.declared.call.Call.TheVariants.{Get, Send, Receive, Set}
 use Rattle.frames.specs.declared.frame.Frame.{Frame}
 use Rattle.frames.specs.declared.incoming.Operation.{Operation}
 use Rattle.frames.specs.declared.incoming.Operation.TheVariants as operations
 use Rattle.frames.specs.Little.{four, eight, four_at, eight_at}
-use Rattle.frames.specs.Frames.{FitsFour}
-use Rattle.frames.specs.Requests.{FitsCall, FitsOperation, FitsType, call_frame, flag, frame_of, or_zero, type_number}
+use Rattle.frames.specs.Requests.{flag, frame_of, or_zero, type_number}
 use Rattle.frames.specs.Records.{operation_at}
-use Rattle.frames.specs.Reading.{get_flags, get_of, given, has, is_get, is_plain, is_receive, is_reserve, is_send, is_set, kept, operation_of, plain_of, receive_of, reserve_of, send_of, set_flags, set_of, small_of, type_of}
-use Rattle.frames.proofs.LittleLaws.{eight_small, length-four, length-eight}
-use Rattle.frames.proofs.PartLaws.{eight_then, ends, four_next, four_then, type_again, type_back, type_next}
-use Rattle.frames.proofs.FrameLaws.{and_true, is_same}
+use Rattle.frames.specs.Reading.{get_flags, get_of, has, is_get, is_plain, is_receive, is_reserve, is_send, is_set, operation_of, plain_of, receive_of, reserve_of, send_of, set_flags, set_of, small_of, type_of}
+use Rattle.frames.proofs.LittleLaws.{eight_small}
+use Rattle.frames.proofs.PartLaws.{eight_then, ends, four_then, type_back}
 
 -- ---- what is read has the frame
 
@@ -191,8 +184,10 @@ module _ (moment : ℕ) (f : Frame) (all : IsBytes f.fields) where
       chosen P (f.code == 6) (λ is. (plain_row 6 h is, refl)) (λ other.
       chosen P (f.code == 7) (λ is. (plain_row 7 h is, refl)) (λ other.
       chosen P (f.code == 8) (λ is. (plain_row 8 h is, refl)) (λ other.
-      chosen P (f.code == 9) (λ is. chosen P (f.id == 0) (λ blank. (blank_row 9 h is blank, refl)) (λ some. tt)) (λ other.
-      chosen P (f.code == 10) (λ is. chosen P (f.id == 0) (λ blank. (blank_row 10 h is blank, refl)) (λ some. tt)) (λ other.
+      chosen P (f.code == 9) (λ is.
+      chosen P (f.id == 0) (λ blank. (blank_row 9 h is blank, refl)) (λ some. tt)) (λ other.
+      chosen P (f.code == 10) (λ is.
+      chosen P (f.id == 0) (λ blank. (blank_row 10 h is blank, refl)) (λ some. tt)) (λ other.
       chosen P (f.code == 11) (λ is. (plain_row 11 h is, refl)) (λ other.
       chosen P (f.code == 13) (λ is. (plain_row 13 h is, refl)) (λ other.
       chosen P (f.code == 14) (λ is. (plain_row 14 h is, refl)) (λ other. tt)))))))))

@@ -1,5 +1,5 @@
 -- What is read from bytes, and the tests that they have to pass.
-use Rattle.std.specs.Prelude.{◌≡◌, ℕ, ◌+◌, ◌-◌, ◌==◌, nat_le, nat_lt, Bool, true, false, not, is_some, ◌&&◌, ◌||◌, if◌then◌else◌, ℤ, List, length, drop, slice_index, bit_and, Option, Some, None, Result, Ok, Err}
+use Rattle.std.specs.Prelude.{◌≡◌, ℕ, ◌+◌, ◌-◌, ◌==◌, nat_le, Bool, true, not, is_some, ◌&&◌, if◌then◌else◌, ℤ, List, length, drop, slice_index, bit_and, Option, Some, None, Result, Ok, Err}
 use Rattle.std.specs.Int.{w64, cast_signed}
 use Rattle.numbers.specs.declared.limits.TheConstants.{MAX_BODY}
 use Rattle.queue_model.specs.declared.call.GetArguments.{GetArguments}

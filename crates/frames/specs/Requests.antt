@@ -1,5 +1,5 @@
 -- The frame of each operation: a row each of docs/PROTOCOL.md, "Requests".
-use Rattle.std.specs.Prelude.{ℕ, ◌+◌, ◌<◌, ◌≤◌, ◌^◌, Bool, if◌then◌else◌, is_some, IfSome, unwrap_or, Option, List, [], ◌++◌, length, ℤ, FitsSigned, ⊤}
+use Rattle.std.specs.Prelude.{ℕ, ◌+◌, ◌≤◌, Bool, if◌then◌else◌, is_some, IfSome, unwrap_or, Option, List, [], ◌++◌, length, ℤ, FitsSigned, ⊤}
 use Rattle.std.specs.Int.{w64, cast_unsigned}
 use Rattle.numbers.specs.declared.limits.TheConstants.{MAX_BODY}
 use Rattle.queue_model.specs.declared.call.SetArguments.{SetArguments}

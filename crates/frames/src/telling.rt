@@ -95,7 +95,7 @@ fn put_reply(into: &mut Vec<u8>, reply: &Reply)
 
 /// Puts a code and a value.
 fn put_code(into: &mut Vec<u8>, code: u32, value: u32)
-    requires room { length into.old.items + 8 ≤ vec_capacity into.old }
+    requires { length into.old.items + 8 ≤ vec_capacity into.old }
     ensures value { into.new.items ≡ into.old.items ++ four code ++ four value }
     ensures len { length into.new.items ≡ length into.old.items + 8 }
     ensures room { vec_capacity into.old ≤ vec_capacity into.new }
@@ -131,7 +131,7 @@ fn put_answer(into: &mut Vec<u8>, answer: &Answer)
 
 /// Puts the fields of a message.
 fn put_message(into: &mut Vec<u8>, message: &Message)
-    requires room { length into.old.items + (24 + length message.now.bytes) ≤ vec_capacity into.old }
+    requires { length into.old.items + (24 + length message.now.bytes) ≤ vec_capacity into.old }
     ensures { into.new.items ≡ appended into.old.items (message_parts message.now) }
 {
     put_eight(into, message.serial);
@@ -143,7 +143,7 @@ fn put_message(into: &mut Vec<u8>, message: &Message)
 
 /// Puts what Stat tells.
 fn put_stat(into: &mut Vec<u8>, info: &QueueInfo)
-    requires room { length into.old.items + 72 ≤ vec_capacity into.old }
+    requires { length into.old.items + 72 ≤ vec_capacity into.old }
     ensures { into.new.items ≡ appended into.old.items (stat_parts info.now) }
 {
     put_eight(into, info.stime);
@@ -166,7 +166,7 @@ fn put_stat(into: &mut Vec<u8>, info: &QueueInfo)
 
 /// Puts what Info tells.
 fn put_counts(into: &mut Vec<u8>, counts: &Counts)
-    requires room { length into.old.items + 40 ≤ vec_capacity into.old }
+    requires { length into.old.items + 40 ≤ vec_capacity into.old }
     ensures { into.new.items ≡ appended into.old.items (counts_parts counts.now) }
 {
     put_eight(into, counts.calls);
