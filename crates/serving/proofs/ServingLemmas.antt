@@ -3,7 +3,7 @@ use Rattle.std.proofs.Common.{◌≡◌, ℕ, refl, sym, ap, ◌∙◌, subst, a
 use Rattle.safe_device.specs.Left.{Left}
 use Rattle.durable_desk.specs.Durable.{DurableState}
 use Rattle.durable_desk.specs.History.{Event, HappenAlong, Happens, NoneFails, is_failure}
-use Rattle.serving.specs.Serving.{Comes, Deed, Says, ServerState, Works, events, said, said_by}
+use Rattle.serving.specs.Serving.{Comes, Deed, GoesOn, Says, ServerState, Works, events, said, said_by}
 use Rattle.serving.specs.Told.{note_parts, record_to}
 use Rattle.serving.specs.declared.note.Note.{Note}
 
@@ -74,3 +74,25 @@ module _ {P : Type 0} (honest : Bool) (moment : P → ℕ) (left_since : P → �
       held = grows comes.deeds (Says client note) first.held old.held new.held comes.held held;
       durability = durability ∙ comes.durability;
     }
+
+  -- so it goes on
+  module _ (old new : ServerState P) (durability : new.durability ≡ old.durability) where
+    pub goes_told : (desk : DurableState P) (e : Event) →
+        Happens honest moment left_since may_leave e old.desk desk → is_failure e ≡ false → new.desk ≡ desk →
+        new.held ≡ old.held ++ said_by (Works e) → GoesOn honest moment left_since may_leave old new
+    goes_told desk e happens fine is held first comes =
+        works first old new comes durability e
+        (subst (λ (d : DurableState P). Happens honest moment left_since may_leave e old.desk d) (sym is) happens) fine
+        held
+
+    -- where nobody is told
+    pub goes_untold : (e : Event) → Happens honest moment left_since may_leave e old.desk new.desk →
+        is_failure e ≡ false → said_by (Works e) ≡ [] → new.held ≡ old.held →
+        GoesOn honest moment left_since may_leave old new
+    goes_untold e happens fine none held first comes =
+        works first old new comes durability e happens fine
+        (held ∙ sym (append-nil old.held) ∙ ap (λ (bytes : List ℕ). old.held ++ bytes) (sym none))
+
+    pub goes_said : (client : ℕ) (note : Note) → new.desk ≡ old.desk →
+        new.held ≡ old.held ++ record_to client (note_parts note) → GoesOn honest moment left_since may_leave old new
+    goes_said client note same held first comes = says first old new comes durability client note same held
