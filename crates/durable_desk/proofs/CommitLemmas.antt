@@ -1,6 +1,7 @@
 -- A commit, step by step: the pages are written, the device is synced, and it is noted.
 use Rattle.std.proofs.Common.{arith, ℕ, ◌≡◌, ◌≤◌, ◌<◌, ◌+◌, inl, inr, ⊎_elim, IsTrue, refl, sym, ap, ◌∙◌, subst, Bool, true, false, List, [], Option, Some, None, Result, Ok, Err, length, slice_index_or}
 use Rattle.std.specs.Prelude.{IsErrOf, IfErr, nat_lt, slice_set, is_err}
+use Rattle.std.proofs.lemmas.Bool.Decides.{nat_tests}
 use Rattle.page_device.specs.Device.{DiffersAtMostAt, HasCause, HasRisen, MayMeetTheEnd, MayOnlyFail}
 use Rattle.page_device.specs.declared.fault.DeviceFault.{DeviceFault}
 use Rattle.page_device.specs.declared.fault.DeviceFault.TheVariants as devices
@@ -33,8 +34,12 @@ on old mid new first then = record {
 }
 
 -- the fault that a call tells
-told_as : (fault other : DeviceFault) → fault ≡ other → IsErrOf {T = Unit {0}} (Err fault) other
+pub told_as : (fault other : DeviceFault) → fault ≡ other → IsErrOf {T = Unit {0}} (Err fault) other
 told_as fault other same = let told : DeviceFault → Result (Unit {0}) DeviceFault = λ f. Err f in ap told same
+
+-- no page was written
+pub zero_of : (n : ℕ) → nat_lt 0 n ≡ false → n ≡ 0
+zero_of n none = grind (arith, nat_tests)
 
 risen_since : (a b c : ℕ) → a ≤ b → HasRisen b c → HasRisen a c
 risen_since a b c le risen = ⊎_elim (λ more. inl (omega arith)) (λ most. inr most) risen
