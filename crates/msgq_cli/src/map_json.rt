@@ -70,22 +70,22 @@ fn map_object(alloc: Global, map: &FileMap) -> Result<Value, NoMemory>
 /// The object of a map, of which these are the buckets, the entries and the free pages.
 fn object_of(
     alloc: Global,
-    map: &FileMap,
+    file: &FileMap,
     buckets: Vec<Value>,
     entries: Vec<Value>,
     free: Vec<Value>,
 ) -> Result<Value, NoMemory>
-    ensures { IfOk result (λ value. view value ≡ map_of map.now
+    ensures { IfOk result (λ value. view value ≡ map_of file.now
         (map view buckets.items) (map view entries.items) (map view free.items)) }
 {
     let mut members = Map::new(alloc);
     put(&mut members, alloc, "buckets", Value::Array(buckets))?;
-    put_count(&mut members, alloc, "depth", u64::from(map.depth))?;
+    put_count(&mut members, alloc, "depth", u64::from(file.depth))?;
     put(&mut members, alloc, "entries", Value::Array(entries))?;
     put(&mut members, alloc, "free", Value::Array(free))?;
-    put_count(&mut members, alloc, "messages", map.messages)?;
-    put_count(&mut members, alloc, "pages", u64::from(map.pages))?;
-    put_count(&mut members, alloc, "queues", map.queues)?;
+    put_count(&mut members, alloc, "messages", file.messages)?;
+    put_count(&mut members, alloc, "pages", u64::from(file.pages))?;
+    put_count(&mut members, alloc, "queues", file.queues)?;
     Ok(Value::Object(members))
 }
 

@@ -4,6 +4,7 @@ use Rattle.msgq_cli.proofs.metrics.print_family.Goals as goal
 
 pub returns : goal.returns
 returns g c =
-    let last = c.print_samples.new.output in
-    Prints-then c.args.output.now c.print_help.new.output last _ _ c.print_help.ensures
-    (Prints-then c.print_help.new.output c.print_kind.new.output last _ _ c.print_kind.ensures c.print_samples.ensures)
+    let start = c.args.output.now in
+    let kind = c.print_kind.new.output in
+    let head = Prints-then start c.print_help.new.output kind _ _ c.print_help.ensures c.print_kind.ensures in
+    Prints-then start kind c.print_samples.new.output _ _ head c.print_samples.ensures
