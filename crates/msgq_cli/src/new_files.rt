@@ -310,7 +310,10 @@ fn is_same<R: Files>(rt: &R, one: &str, other: &str) -> bool {
 }
 
 /// Refuses a name that something has, or the journal of a file of this name.
-fn expect_neither<R: Files + AllocGlobal>(rt: &R, name: &str) -> Result<(), Unmade> {
+fn expect_neither<R>(rt: &R, name: &str) -> Result<(), Unmade>
+where
+    R: Files<File = File> + AllocGlobal,
+{
     expect_none(rt, name)?;
     match is_left_behind(rt, name) {
         Ok(true) => Err(Unmade::LeftBehind),
