@@ -1,5 +1,8 @@
 /* A connection to a server's socket. What only asks the kernel goes there by its number: another library that is loaded before this one
  * may have functions of the same names, which make calls of queues themselves; and a close is no place to be cancelled at. */
+#ifndef _GNU_SOURCE
+#define _GNU_SOURCE /* for O_PATH */
+#endif
 #include "wire.h"
 
 #include <errno.h>
@@ -124,7 +127,7 @@ static int address_of(const char *socket, struct sockaddr_un *address, int *fold
     if (strlen(socket) >= sizeof name)
         return ENAMETOOLONG;
     strcpy(name, socket);
-    *folder = open(dirname(name), O_RDONLY | O_DIRECTORY | O_CLOEXEC);
+    *folder = open(dirname(name), O_PATH | O_DIRECTORY | O_CLOEXEC);
     if (*folder < 0)
         return errno;
     const char *last = strrchr(socket, '/');

@@ -132,8 +132,8 @@ class System:
         return made.id, got
 
     def holding(self, caller, id):
-        queue = self.queue(id)
-        if not queue.held_of:
+        queue = self.queues.get(id)
+        if queue is None or not queue.held_of:
             raise Refused(f.EINVAL)
         if not queue.is_owner(caller):
             raise Refused(f.EPERM)

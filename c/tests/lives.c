@@ -285,6 +285,16 @@ static void paths(void) {
     is(asks(), 0, "a request");
     is(next_descriptor(), next, "what was opened for the name is closed");
     end("a long name");
+    if (geteuid() == 0) {
+        /* Another user may not list the folder. */
+        serves(one);
+        is(chmod(path, 0666) == 0 && rename(path, whole) == 0 && chmod(folder, 0711) == 0, true, "a socket for all");
+        is(server_begin(whole, 1000, &server), 0, "begin");
+        is(seteuid(65534), 0, "another user");
+        is(asks(), 0, "a request");
+        is(seteuid(0), 0, "back");
+        end("a long name, and another user");
+    }
     serves(one);
     is(getcwd(before, sizeof before) != NULL, 1, "here");
     char *last = strrchr(path, '/');
