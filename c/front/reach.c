@@ -16,13 +16,14 @@
 static int test(const char *path) {
     struct stat found;
     if (stat(path, &found) != 0)
-        return errno == EACCES ? EACCES : ENOENT;
+        return errno;
     return S_ISREG(found.st_mode) && access(path, X_OK) == 0 ? 0 : EACCES;
 }
 
 int find_command(const char *name, char *path) {
     const char *folders = getenv("PATH");
     int wrong = ENOENT;
+    struct stat there;
     if (strchr(name, '/') != NULL || *name == '\0') {
         (void)snprintf(path, COMMAND_BYTES, "%s", name);
         return *name == '\0' ? ENOENT : test(path);
@@ -33,7 +34,8 @@ int find_command(const char *name, char *path) {
         int found = made > 0 && made < COMMAND_BYTES ? test(path) : ENOENT;
         if (found == 0)
             return 0;
-        if (found == EACCES)
+        /* (a folder that can't be looked into has none) */
+        if (found == EACCES && stat(path, &there) == 0)
             wrong = EACCES;
         at += length;
         if (*at == '\0')

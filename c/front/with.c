@@ -220,6 +220,16 @@ static int run(const struct order *it, const struct paths *paths) {
 
 /* ---- the verb */
 
+/* Sees to it that no file that is opened gets the number of a standard stream that is closed; it is closed for the command. */
+static bool open_standard(void) {
+    int file = 0;
+    while (file >= 0 && file <= STDERR_FILENO)
+        file = open("/dev/null", O_RDWR | O_CLOEXEC);
+    if (file >= 0)
+        (void)close(file);
+    return file >= 0;
+}
+
 /* Ends as the command has, without a second image of memory. */
 static int end_as(int status) {
     const struct rlimit none = {0, 0};
@@ -245,7 +255,7 @@ int with_run(int count, char **words) {
     const char *why = why_not_reached(paths.program);
     if (why != NULL)
         complain("%s: %s: its queues are the system's, and not those of %s", paths.program, why, it.file);
-    if (!find_library(&paths) || !find_file(&it, &paths))
+    if (!open_standard() || !find_library(&paths) || !find_file(&it, &paths))
         return FAULT;
     status = hold_begin(&hold, paths.file, paths.socket);
     if (status == DONE)

@@ -22,6 +22,11 @@ int msgget(key_t key, int flags) {
     return (int)id;
 }
 
+/* What a call is told that may wait. One that was hung up by a jump, and not left, has been interrupted by a handler. */
+static int end_wait(unsigned jumps, int wrong) {
+    return wrong == -ECONNRESET && jumps != xsi_jumps() ? -EINTR : wrong;
+}
+
 /* EFAULT where there is no type at all, as the system says before it looks at anything else. */
 static int refuse_send(const void *message) {
     long type;
@@ -39,11 +44,12 @@ int msgsnd(int id, const void *message, size_t size, int flags) {
         return refuse_send(message);
     const struct iovec whole = {(void *)(uintptr_t)message, sizeof(long) + size};
     const struct waiting how = {.waits = (flags & IPC_NOWAIT) == 0};
+    unsigned jumps = xsi_jumps();
     int wrong = server == NULL
         ? -ENOMEM
         : request_send(server, (uint32_t)id, flags & IPC_NOWAIT ? NO_WAIT : 0, &whole, 1, &how, &serial);
     if (wrong != 0)
-        return xsi_refuse(wrong);
+        return xsi_refuse(end_wait(jumps, wrong));
     errno = was;
     return 0;
 }
@@ -67,9 +73,10 @@ ssize_t msgrcv(int id, void *message, size_t size, long type, int flags) {
         .parts = 1,
     };
     struct taken told;
+    unsigned jumps = xsi_jumps();
     int wrong = server == NULL ? -ENOMEM : request_receive(server, &it, &how, &told);
     if (wrong != 0)
-        return xsi_refuse(wrong);
+        return xsi_refuse(end_wait(jumps, wrong));
     errno = was;
     return (ssize_t)told.length;
 }

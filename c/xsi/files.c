@@ -16,7 +16,8 @@ struct file {
     int limit; /* what it has, 0 for the list of queues */
 };
 
-static const struct file *find(const char *path) {
+/* The file of a path that is opened to be read; NULL for any other. */
+static const struct file *find(const char *path, bool reads) {
     static const struct file files[] = {
         {"/proc/sysvipc/msg", 0},
         {"/proc/sys/kernel/msgmax", XSI_BODY},
@@ -24,8 +25,7 @@ static const struct file *find(const char *path) {
         {"/proc/sys/kernel/msgmni", XSI_QUEUES},
     };
     /* (nobody else pays for more than this) */
-    if (path == NULL || strncmp(path, "/proc/sys", 9) != 0 || !xsi_is_served()
-        || xsi_server() == NULL)
+    if (path == NULL || !reads || strncmp(path, "/proc/sys", 9) != 0 || !xsi_is_served() || xsi_server() == NULL)
         return NULL;
     for (size_t at = 0; at < sizeof files / sizeof *files; at++)
         if (strcmp(path, files[at].path) == 0)
@@ -85,12 +85,12 @@ static int copy_of(const struct file *file, int flags) {
 }
 
 #define OPENS_STREAM(NAME)                                                                            \
-    FILE *NAME(const char *path, const char *how) {                                                  \
-        const struct file *file = find(path);                                                        \
-        if (file == NULL)                                                                            \
-            return BEHIND(NAME)(path, how);           \
-        int fd = copy_of(file, O_CLOEXEC);                                                           \
-        return fd < 0 ? NULL : fdopen(fd, "r");                                                      \
+    FILE *NAME(const char *path, const char *how) {                                                   \
+        const struct file *file = find(path, how != NULL && how[0] == 'r' && strchr(how, '+') == NULL); \
+        if (file == NULL)                                                                             \
+            return BEHIND(NAME)(path, how);                                                           \
+        int fd = copy_of(file, O_CLOEXEC);                                                            \
+        return fd < 0 ? NULL : fdopen(fd, "r");                                                       \
     }
 OPENS_STREAM(fopen)
 OPENS_STREAM(fopen64)
@@ -101,27 +101,27 @@ static bool has_mode(int flags) {
 
 /* A call of a path, and one of a folder and a path: AT names the folder where there is one. */
 #define OPENS(NAME, FOLDER, AT)                                                                       \
-    int NAME(FOLDER const char *path, int flags, ...) {                                              \
-        const struct file *file = find(path);                                                        \
-        mode_t mode = 0;                                                                             \
-        if (has_mode(flags)) {                                                                       \
-            va_list more;                                                                            \
-            va_start(more, flags);                                                                   \
-            mode = va_arg(more, mode_t);                                                             \
-            va_end(more);                                                                            \
-        }                                                                                            \
-        if (file != NULL)                                                                            \
-            return copy_of(file, flags);                                                             \
-        return BEHIND(NAME)(AT path, flags, mode);    \
+    int NAME(FOLDER const char *path, int flags, ...) {                                               \
+        const struct file *file = find(path, (flags & O_ACCMODE) == O_RDONLY);                        \
+        mode_t mode = 0;                                                                              \
+        if (has_mode(flags)) {                                                                        \
+            va_list more;                                                                             \
+            va_start(more, flags);                                                                    \
+            mode = va_arg(more, mode_t);                                                              \
+            va_end(more);                                                                             \
+        }                                                                                             \
+        if (file != NULL)                                                                             \
+            return copy_of(file, flags);                                                              \
+        return BEHIND(NAME)(AT path, flags, mode);                                                    \
     }
 /* And those that a program calls which is built with _FORTIFY_SOURCE. */
 #define OPENS_SAFELY(NAME, FOLDER, AT)                                                                \
-    int NAME(FOLDER const char *path, int flags);                                                    \
-    int NAME(FOLDER const char *path, int flags) {                                                   \
-        const struct file *file = find(path);                                                        \
-        if (file != NULL)                                                                            \
-            return copy_of(file, flags);                                                             \
-        return BEHIND(NAME)(AT path, flags);               \
+    int NAME(FOLDER const char *path, int flags);                                                     \
+    int NAME(FOLDER const char *path, int flags) {                                                    \
+        const struct file *file = find(path, (flags & O_ACCMODE) == O_RDONLY);                        \
+        if (file != NULL)                                                                             \
+            return copy_of(file, flags);                                                              \
+        return BEHIND(NAME)(AT path, flags);                                                          \
     }
 #define NOTHING
 #define A_FOLDER int folder,

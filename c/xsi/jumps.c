@@ -6,11 +6,11 @@
 
 /* What waited must not be taken for nobody. */
 #define JUMPS(NAME)                                                                                   \
-    _Noreturn void NAME(struct __jmp_buf_tag where[1], int value);                                   \
-    _Noreturn void NAME(struct __jmp_buf_tag where[1], int value) {                                  \
-        xsi_leave();                                                                                 \
-        BEHIND(NAME)(where, value);                    \
-        __builtin_unreachable();                                                                     \
+    _Noreturn void NAME(struct __jmp_buf_tag where[1], int value);                                    \
+    _Noreturn void NAME(struct __jmp_buf_tag where[1], int value) {                                   \
+        xsi_leave();                                                                                  \
+        BEHIND(NAME)(where, value);                                                                   \
+        __builtin_unreachable();                                                                      \
     }
 JUMPS(longjmp)
 JUMPS(_longjmp)

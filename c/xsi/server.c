@@ -50,9 +50,16 @@ struct server *xsi_server(void) {
     return process.server;
 }
 
+static _Thread_local unsigned jumps;
+
 void xsi_leave(void) {
+    jumps++;
     if (process.server != NULL)
         server_leave(process.server);
+}
+
+unsigned xsi_jumps(void) {
+    return jumps;
 }
 
 void *xsi_behind(const char *name, void *_Atomic *known) {

@@ -24,8 +24,9 @@ bool xsi_is_served(void);
 /* That server; NULL where there was no memory for it, and then every call is refused. */
 struct server *xsi_server(void);
 
-/* Hangs up the calls of this thread that a longjmp leaves. */
+/* Hangs up the calls of this thread that a longjmp leaves; and how often that was done. */
 void xsi_leave(void);
+unsigned xsi_jumps(void);
 
 /* Sets errno to what the system's calls say in the place of this number, which is not 0. Gives -1. */
 int xsi_refuse(int wrong);
@@ -33,9 +34,9 @@ int xsi_refuse(int wrong);
 /* The function of this name that stands behind this library's, which is looked for once. */
 void *xsi_behind(const char *name, void *_Atomic *known);
 #define BEHIND(NAME)                                                                                  \
-    ((__typeof__(&(NAME)))({                                                                         \
-        static void *_Atomic known_##NAME;                                                           \
-        xsi_behind(#NAME, &known_##NAME);                                                            \
+    ((__typeof__(&(NAME)))({                                                                          \
+        static void *_Atomic known_##NAME;                                                            \
+        xsi_behind(#NAME, &known_##NAME);                                                             \
     }))
 
 /* Copies as the system does: -EFAULT where the program's memory is none, and 0. */

@@ -158,8 +158,8 @@ static void stay(void) {
     int id = make();
     handle(SIGALRM, jump_inside, 0);
     tick(20000, 0);
-    say("a jump inside of a handler", msgsnd(id, &message, 4, 0));
-    (void)usleep(40000);
+    say("a wait around a jump inside of a handler", msgrcv(id, &message, ROOM, 0, 0));
+    say("and behind it", msgsnd(id, &message, 4, 0));
     say("nothing is lost", receive(id));
     end(id);
 }
