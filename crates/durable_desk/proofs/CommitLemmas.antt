@@ -1,24 +1,23 @@
 -- A commit, step by step: the pages are written, the device is synced, and it is noted.
-use Rattle.std.proofs.Common.{arith, ℕ, ◌≡◌, ◌≤◌, ◌<◌, ◌+◌, inl, inr, ⊎_elim, IsTrue, refl, sym, ap, ◌∙◌, subst, Bool, true, false, List, [], Option, Some, None, Result, Ok, Err, length, slice_index_or}
-use Rattle.std.specs.Prelude.{IsErrOf, IfErr, nat_lt, slice_set, is_err}
+use Rattle.std.proofs.Common.{arith, ℕ, ◌≡◌, ◌≤◌, ◌<◌, ◌+◌, inl, inr, ⊎_elim, IsTrue, refl, sym, ap, ◌∙◌, subst, Bool, true, false, List, Option, Some, None, Result, Err, length}
+use Rattle.std.specs.Prelude.{IsErrOf, nat_lt, slice_set}
 use Rattle.std.proofs.lemmas.Bool.Decides.{nat_tests}
-use Rattle.page_device.specs.Device.{DiffersAtMostAt, HasCause, HasRisen, MayMeetTheEnd, MayOnlyFail}
+use Rattle.page_device.specs.Device.{DiffersAtMostAt, HasCause, HasRisen, MayMeetTheEnd}
 use Rattle.page_device.specs.declared.fault.DeviceFault.{DeviceFault}
 use Rattle.page_device.specs.declared.fault.DeviceFault.TheVariants as devices
 use Rattle.safe_device.specs.Crash.{Keeps, LeavesOnly}
 use Rattle.safe_device.specs.Device.{Commits, DeviceState, StaysCommitted}
-use Rattle.safe_device.specs.Left.{Left, recovered}
+use Rattle.safe_device.specs.Left.{Left}
 use Rattle.safe_device.specs.Safe.{IsEither, StandsFor, committed}
 use Rattle.safe_device.specs.declared.journal.Journal.{Journal}
 use Rattle.bucket_page.specs.Pseudokeys.{sha_key}
 use Rattle.interleavings.specs.LoneKernelWords.{IsFileOf, State, restarted}
-use Rattle.session.specs.Session.{AreItsPages, AreSaved, GivesPage, NotesSave, PagesAreTheFile, SessionState, TellsChanges, pages_of, saved_of}
+use Rattle.session.specs.Session.{AreItsPages, AreSaved, GivesPage, NotesSave, PagesAreTheFile, TellsChanges, pages_of, saved_of}
 use Rattle.desk.specs.Desk.{DeskState, KeepsServing, Serves}
 use Rattle.durable_desk.specs.Durable.{FailsToCommit, HasCommitted, IsCommitted, IsCutShortOn, IsLastOrFile}
 use Rattle.durable_desk.specs.Commit.{HasWritten, LeavesTheLast}
-use Rattle.durable_desk.specs.declared.commit.Uncommitted.{Uncommitted}
-use Rattle.durable_desk.specs.declared.commit.Uncommitted.TheVariants.{Device, Desk, Earlier}
-use Rattle.durable_desk.proofs.MomentLemmas.{joined, started, weaker}
+use Rattle.durable_desk.specs.declared.commit.Uncommitted.TheVariants.{Device}
+use Rattle.durable_desk.proofs.MomentLemmas.{joined, started}
 use Rattle.durable_desk.proofs.WriteLemmas.{AreWrittenTo, Pages, all_written, none_written, one_more, same_pages, still_its, up_to}
 
 -- ---- words
@@ -53,14 +52,6 @@ write_failed devices.PastEnd page many a b within may past failed =
     let le = past refl in absurd (omega (arith, le))
 write_failed devices.DeviceFull page many a b within may past failed = absurd may
 write_failed devices.NoMemory page many a b within may past failed = absurd may
-
-sync_failed : (fault : DeviceFault) (a b : ℕ) → MayOnlyFail fault → (fault ≡ devices.Device → HasRisen a b) →
-    HasRisen a b
-sync_failed devices.Device a b may failed = failed refl
-sync_failed devices.BadDigest a b may failed = absurd may
-sync_failed devices.PastEnd a b may failed = absurd may
-sync_failed devices.DeviceFull a b may failed = absurd may
-sync_failed devices.NoMemory a b may failed = absurd may
 
 module _ {P : Type 0} (honest : Bool) (file : P → Pages) (journal : P → Option Journal) (moment : P → ℕ)
     (left_since : P → ℕ → Left → Type 0) (may_leave : P → Left → Type 0) where
@@ -176,11 +167,6 @@ module _ {P : Type 0} (honest : Bool) (file : P → Pages) (journal : P → Opti
           (StandsFor (committed file journal then.pair)) (StandsFor device.content) (so_far.unseen sound)
           (stays.any_moment sound so_far.usable) (λ c has. has) (λ c has. has ∙ so_far.stays sound)
 
-    -- or the desk fails
-    pub not_given : (page : ℕ) (after : DeskState) → GivesPage page None now.session after.session →
-        after.session.failed ≡ true
-    not_given page after gives = (gives.becomes is.served serves_now.holds).failed
-
     -- ---- all are
 
     all_are : (some : Bool) → pages_of desk.session ≡ length (saved_of desk.session) →
@@ -261,19 +247,6 @@ module _ {P : Type 0} (honest : Bool) (file : P → Pages) (journal : P → Opti
         all : AreSaved is.served mid.session after.session
         all = notes.becomes is.served serves_mid.holds
 
-    pub not_noted : (after : DeskState) → NotesSave false mid.session after.session → after.session.failed ≡ true
-    not_noted after notes = (notes.becomes is.served (wrote.keeps.serves is.served is.serves).holds).failed
-
-    pub not_synced : (next : DeviceState P) (fault : DeviceFault) →
-        HasCause {T = Unit {0}} MayOnlyFail then.failed next.failed (Err fault) →
-        FailsToCommit Device desk mid device next
-    not_synced next fault cause = (
-      wrote.keeps,
-      risen_since device.failed then.failed next.failed wrote.later
-          (sync_failed fault then.failed next.failed cause.told
-          (λ is. cause.failed (told_as fault devices.Device is))),
-    )
-
     -- a crash meanwhile
     pub cut_short : (succeeded : Bool) (next : DeviceState P) → LeavesTheLast honest moment left_since device then →
         Commits honest file journal moment left_since succeeded then next →
@@ -284,10 +257,3 @@ module _ {P : Type 0} (honest : Bool) (file : P → Pages) (journal : P → Opti
         (commits.any_moment sound wrote.usable) (λ c has. inl has)
         (λ c has. ⊎_elim (λ last. inl (last ∙ wrote.stays sound)) (λ now.
         inr (subst (λ (pages : Pages). IsFileOf sha_key pages (restarted s)) (sym now) (is_file sound s serves))) has)
-
-  -- where nothing but the last commit is left
-  pub leaves_the_last : (desk : DeskState) (device then : DeviceState P) →
-      LeavesTheLast honest moment left_since device then → IsCutShortOn honest moment left_since desk device then
-  leaves_the_last desk device then unseen sound s serves =
-      weaker moment left_since device.pair then.pair (StandsFor device.content) (IsLastOrFile device.content s)
-      (unseen sound) (λ c has. inl has)

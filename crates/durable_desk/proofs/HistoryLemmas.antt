@@ -1,5 +1,5 @@
 -- What is done with a durable desk, one after another, is found after a crash up to some entry.
-use Rattle.std.proofs.Common.{arith, ℕ, ◌≡◌, ◌≤◌, ◌+◌, inl, inr, ⊎_elim, IsTrue, refl, sym, ap, ◌∙◌, subst, append-nil, append_assoc, Bool, true, false, List, [], ◌∷◌, ◌++◌, Result, Ok, Err}
+use Rattle.std.proofs.Common.{arith, ℕ, ◌≡◌, ⊎_elim, IsTrue, refl, sym, ap, ◌∙◌, subst, append-nil, append_assoc, Bool, true, false, List, [], ◌∷◌, ◌++◌, Result, Ok, Err}
 use Rattle.std.specs.Prelude.{◌||◌}
 use Rattle.std.specs.List.{count_by}
 use Rattle.bucket_page.specs.Pseudokeys.{sha_key}
@@ -9,11 +9,10 @@ use Rattle.safe_device.specs.Left.{Left, recovered}
 use Rattle.interleavings.specs.LoneKernelWords.{IsFileOf, State, restarted}
 use Rattle.desk.specs.Desk.{DeskState, KeepsServing, Serves}
 use Rattle.desk.specs.History.{AnswersByTheRules, Entry, IsServed, LeadsAlong, Saved, fails}
-use Rattle.desk.specs.History as desks
 use Rattle.desk.specs.declared.asking.Asking.{Asking}
 use Rattle.desk.proofs.HistoryLemmas.{joined as served_on, leads_on}
-use Rattle.durable_desk.specs.Durable.{DurableState, HasCommitted, IsCommitted, IsCutShort, IsLastOrFile, OpensFile}
-use Rattle.durable_desk.specs.History.{AllOutlastACrash, Commit, Does, Event, HappenAlong, Happens, IsDone, IsFileAfterSome, IsNeverLost, IsTried, IsUpToDate, NoneFails, NoneIsLost, OpensUpToDate, OutlastsACrash, at_desk, deed_of, is_failure}
+use Rattle.durable_desk.specs.Durable.{DurableState, IsCutShort, IsLastOrFile}
+use Rattle.durable_desk.specs.History.{AllOutlastACrash, Commit, Does, Event, HappenAlong, Happens, IsFileAfterSome, IsTried, NoneFails, NoneIsLost, OpensUpToDate, at_desk, deed_of, is_failure}
 use Rattle.durable_desk.specs.declared.commit.Uncommitted.{Uncommitted}
 use Rattle.durable_desk.specs.declared.commit.Uncommitted.TheVariants.{Device, Desk, Earlier}
 use Rattle.durable_desk.proofs.MomentLemmas.{joined, started, weaker}

@@ -2,5 +2,4 @@ pub mod MomentLemmas
 pub mod WriteLemmas
 pub mod CommitLemmas
 pub mod ServingLemmas
-pub mod OpenLemmas
 pub mod HistoryLemmas

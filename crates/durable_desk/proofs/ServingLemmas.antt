@@ -1,13 +1,13 @@
 -- A desk that serves a system stays on the file of the last commit, whatever is asked of it.
-use Rattle.std.proofs.Common.{ℕ, ◌≡◌, IsTrue, refl, sym, ap, ◌∙◌, subst, Bool, true, false, List, Option, Some, None, Result, Ok, Err, length}
+use Rattle.std.proofs.Common.{◌≡◌, refl, sym, ap, ◌∙◌, Bool, true, false, Option, Some, None, Result, Ok, Err, length}
 use Rattle.std.specs.Prelude.{◌||◌}
 use Rattle.safe_device.specs.Device.{DeviceState}
 use Rattle.safe_device.specs.Left.{Left}
 use Rattle.interleavings.specs.LoneKernelWords.{Answer, State}
-use Rattle.session.specs.Session.{SessionState, saved_of}
+use Rattle.session.specs.Session.{saved_of}
 use Rattle.session.specs.declared.unanswered.Unanswered.{Unanswered}
 use Rattle.session.specs.declared.unanswered.Unanswered.TheVariants.{Waits, NoRoom, NoMemory, Failed}
-use Rattle.desk.specs.Desk.{Asks, Becomes, DeskState, Serves, Stops, Tells, Withdraws}
+use Rattle.desk.specs.Desk.{Asks, Becomes, DeskState, Serves, Tells}
 use Rattle.desk.specs.History.{Next, fails, is_failure}
 use Rattle.desk.specs.declared.asking.Asking.{Asking}
 use Rattle.desk.specs.declared.asking.Told.{Told}
@@ -66,21 +66,4 @@ module _ {P : Type 0} (honest : Bool) (may_leave : P → Left → Type 0) (old n
           let was = is.sound fine.0 in
           let after = told_after told fine.1 tells was.served was.serves in
           stays was after.0 after.1 tells.saved;
-    }
-
-    pub withdrawn_durable : (test : Asking → Bool) (some failed : Bool) → IsDurable honest may_leave old device failed →
-        Withdraws test some old new → IsDurable honest may_leave new device failed
-    withdrawn_durable test some failed is withdraws = record {
-      sound = λ none.
-          let was = is.sound none in
-          stays was was.served (withdraws.serves was.served was.serves)
-          (ap (λ (k : SessionState). saved_of k) withdraws.session);
-    }
-
-    pub stopped_durable : (failed : Bool) → IsDurable honest may_leave old device failed → Stops old new →
-        IsDurable honest may_leave new device failed
-    stopped_durable failed is stops = record {
-      sound = λ none.
-          let was = is.sound none in
-          stays was (record was.served { stopped = true }) (stops.serves was.served was.serves) stops.saved;
     }

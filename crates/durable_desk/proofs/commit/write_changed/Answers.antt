@@ -1,7 +1,7 @@
-use Rattle.std.proofs.Common.{◌≡◌, ◌≤◌, ◌<◌, ◌∙◌, arith, sym, refl, length, false}
+use Rattle.std.proofs.Common.{◌≤◌, ◌∙◌, arith, sym, refl}
 use Rattle.std.specs.Prelude.{nat_lt}
 use Rattle.page_device.specs.declared.fault.DeviceFault.TheVariants as devices
-use Rattle.session.specs.Session.{pages_of, saved_of}
+use Rattle.session.specs.Session.{pages_of}
 use Rattle.durable_desk.proofs.CommitLemmas.{begun, none_behind, none_left, not_written, one_written, told_as, unseen_still, zero_of}
 use Rattle.durable_desk.proofs.commit.write_changed.Goals as goal
 

@@ -12,7 +12,7 @@ invariant_of-self g c =
     let had = c.self.inside.has_failed in
     let told = is_failure c.ask-reply.result in
     let is : c.if-self.self ≡ (had || told) = elim c.if-self.branch [
-      then-self w ↦ w.self-is ∙ sym (ap (λ (b : Bool). b || told) w.if-self.true)
+      | then-self w ↦ w.self-is ∙ w.if-self.true ∙ sym (ap (λ (b : Bool). b || told) w.if-self.true)
       | else-self w ↦ w.self-is ∙ w.is_failure-self-inside.ensures ∙ sym (ap (λ (b : Bool). b || told) w.if-self.false)
     ] in
     subst (λ (b : Bool). IsDurable g.P.PagePair.is_honest g.P.PagePair.may_leave c.ask-reply.new.self
