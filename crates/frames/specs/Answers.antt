@@ -1,5 +1,5 @@
 -- What the core answers, as bytes (docs/PROTOCOL.md, "Answers").
-use Rattle.std.specs.Prelude.{ℕ, Bool, true, nat_le, List, [], ◌∷◌, ◌++◌, length, is_some}
+use Rattle.std.specs.Prelude.{ℕ, ◌+◌, Bool, true, nat_le, List, [], ◌∷◌, ◌++◌, length, is_some}
 use Rattle.numbers.specs.declared.limits.TheConstants.{MAX_BODY}
 use Rattle.queue_model.specs.declared.answer.Answer.{Answer}
 use Rattle.queue_model.specs.declared.answer.Answer.TheVariants as answers
@@ -60,6 +60,21 @@ told connection number reply =
 abbrev pub appended : List ℕ → List (List ℕ) → List ℕ
 appended front [] = front
 appended front (part ∷ parts) = appended (front ++ part) parts
+
+-- how many bytes an answer has from its code on
+abbrev pub answer_len : Answer → ℕ
+answer_len (answers.Id id) = 8
+answer_len (answers.Sent serial) = 16
+answer_len (answers.Received m) = 32 + length m.bytes
+answer_len (answers.Info q) = 80
+answer_len answers.Done = 8
+answer_len (answers.Refused errno) = 8
+
+abbrev pub reply_len : Reply → ℕ
+reply_len (replies.Answer answer) = answer_len answer.now
+reply_len (replies.Held id message) = 32 + length message.now.bytes
+reply_len (replies.Number code value) = 8
+reply_len (replies.Info counts) = 48
 
 -- its body is as long as that of a message may be
 abbrev pub is_short : Message → Bool

@@ -1,5 +1,5 @@
 -- What is read from bytes, and the tests that they have to pass.
-use Rattle.std.specs.Prelude.{◌≡◌, ℕ, ◌+◌, ◌-◌, ◌==◌, nat_le, nat_lt, Bool, true, false, not, is_some, ◌&&◌, ◌||◌, if◌then◌else◌, ℤ, List, length, drop, slice_index, bit_and, Option, Some, None, Result, Ok, Err}
+use Rattle.std.specs.Prelude.{◌≡◌, ℕ, ◌+◌, ◌-◌, ◌==◌, nat_le, Bool, true, not, is_some, ◌&&◌, if◌then◌else◌, ℤ, List, length, drop, slice_index, bit_and, Option, Some, None, Result, Ok, Err}
 use Rattle.std.specs.Int.{w64, cast_signed}
 use Rattle.numbers.specs.declared.limits.TheConstants.{MAX_BODY}
 use Rattle.queue_model.specs.declared.call.GetArguments.{GetArguments}
@@ -206,10 +206,21 @@ abbrev pub incoming_of : ℕ → List ℕ → Result Incoming Unread
 incoming_of moment bytes =
     if is_head bytes then with_kind (head_at bytes) (kind_of moment (head_at bytes)) else Err Broken
 
--- this came of a head, or memory lacked for the frame behind it
-abbrev pub Gives : {X : Type 0} → Head → Result X Unread → Result X Unread → Type 0
-Gives h want (Ok x) = want ≡ Ok x
-Gives h want (Err Broken) = want ≡ Err Broken
-Gives h want (Err (Wrong connection number)) = want ≡ Err (Wrong connection number)
-Gives h want (Err (NoMemory connection number)) =
-    (is_asked h ≡ true) × (connection ≡ h.connection) × (number ≡ four_at 0 h.rest)
+-- a client's frame of this connection and number stands behind a head
+pub record IsAsked (h : Head) (connection number : ℕ) : Type 0 where
+  pub kind : h.kind ≡ 0
+  pub long : is_asked h ≡ true
+  pub connection_is : connection ≡ h.connection
+  pub number_is : number ≡ four_at 0 h.rest
+
+-- the same of a record
+pub record IsAskedIn (bytes : List ℕ) (connection number : ℕ) : Type 0 where
+  pub head : is_head bytes ≡ true
+  pub asked : IsAsked (head_at bytes) connection number
+
+-- this came out, or memory lacked for the frame that was asked
+abbrev pub Gives : {X : Type 0} → (ℕ → ℕ → Type 0) → Result X Unread → Result X Unread → Type 0
+Gives asked want (Ok x) = want ≡ Ok x
+Gives asked want (Err Broken) = want ≡ Err Broken
+Gives asked want (Err (Wrong connection number)) = want ≡ Err (Wrong connection number)
+Gives asked want (Err (NoMemory connection number)) = asked connection number

@@ -1,5 +1,5 @@
 -- What the relay tells, as bytes (docs/PROTOCOL.md, "Between the relay and the core").
-use Rattle.std.specs.Prelude.{◌≡◌, ◌≢◌, ℕ, ◌≤◌, List, [], length, Result, Ok, Err, ⊤}
+use Rattle.std.specs.Prelude.{◌≡◌, ◌≢◌, ℕ, ◌+◌, ◌<◌, ◌≤◌, List, [], length, Option, Some, None, Result, Ok, Err, ⊤}
 use Rattle.queue_model.specs.declared.caller.Caller.{Caller}
 use Rattle.queue_model.specs.declared.call.Call.{Call}
 use Rattle.queue_model.specs.declared.call.Call.TheVariants.{Get, Send, Receive, Stat, Set, Remove}
@@ -12,6 +12,9 @@ use Rattle.frames.specs.declared.incoming.Operation.{Operation}
 use Rattle.frames.specs.declared.incoming.Operation.TheVariants as operations
 use Rattle.frames.specs.declared.incoming.Unread.{Unread}
 use Rattle.frames.specs.declared.incoming.Unread.TheVariants.{Broken, Wrong, NoMemory}
+use Rattle.frames.specs.declared.head.TheConstants.{HEAD_BYTES}
+use Rattle.frames.specs.declared.reading.TheConstants.{MAX_RECORD}
+use Rattle.frames.specs.Little.{four_at}
 use Rattle.frames.specs.Frames.{FitsFour, FitsCaller, FitsFrame, FitsHead, frame_bytes, head_bytes}
 use Rattle.frames.specs.Requests.{FitsOperation, frame_of}
 
@@ -121,3 +124,32 @@ abbrev pub Says : List ℕ → Unread → Type 0
 Says bytes Broken = (h : Head) → IsRecord h bytes → ⊥
 Says bytes (Wrong connection number) = IsFrameOf connection number bytes
 Says bytes (NoMemory connection number) = IsFrameOf connection number bytes
+
+-- ---- the first record of a stream
+
+-- the size that bytes begin with, with its own four bytes
+abbrev pub size_at : List ℕ → ℕ
+size_at bytes = 4 + four_at 0 bytes
+
+-- the first record has this size, and is whole
+pub record IsFirst (bytes : List ℕ) (size : ℕ) : Type 0 where
+  pub counted : size ≡ size_at bytes
+  pub low : HEAD_BYTES ≤ size
+  pub high : size ≤ MAX_RECORD
+  pub within : size ≤ length bytes
+
+-- bytes of the first record have not come
+pub record IsCut (bytes : List ℕ) : Type 0 where
+  pub few : length bytes < MAX_RECORD
+  pub more : 4 ≤ length bytes → length bytes < size_at bytes
+
+-- no record has the size that these bytes begin with
+pub record HasNoSize (bytes : List ℕ) : Type 0 where
+  pub counted : 4 ≤ length bytes
+  pub out : HEAD_BYTES ≤ size_at bytes → MAX_RECORD < size_at bytes
+
+-- what is found at the front of a stream
+abbrev pub Measures : List ℕ → Result (Option ℕ) Unread → Type 0
+Measures bytes (Ok None) = IsCut bytes
+Measures bytes (Ok (Some size)) = IsFirst bytes size
+Measures bytes (Err unread) = (unread ≡ Broken) × HasNoSize bytes

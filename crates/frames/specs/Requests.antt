@@ -1,7 +1,8 @@
 -- The frame of each operation: a row each of docs/PROTOCOL.md, "Requests".
-use Rattle.std.specs.Prelude.{ℕ, ◌+◌, ◌<◌, ◌≤◌, ◌^◌, Bool, if◌then◌else◌, is_some, IfSome, unwrap_or, Option, List, [], ◌++◌, length, ℤ, FitsSigned, ⊤}
+use Rattle.std.specs.Prelude.{ℕ, ◌+◌, ◌≤◌, Bool, if◌then◌else◌, is_some, IfSome, unwrap_or, Option, List, [], ◌++◌, length, ℤ, FitsSigned, ⊤}
 use Rattle.std.specs.Int.{w64, cast_unsigned}
 use Rattle.numbers.specs.declared.limits.TheConstants.{MAX_BODY}
+use Rattle.queue_model.specs.declared.call.SetArguments.{SetArguments}
 use Rattle.queue_model.specs.declared.call.Call.{Call}
 use Rattle.queue_model.specs.declared.call.Call.TheVariants.{Get, Send, Receive, Stat, Set, Remove}
 use Rattle.frames.specs.declared.frame.Frame.{Frame}
@@ -58,18 +59,23 @@ frame_of n (operations.Reserve id mtype nowait) =
 frame_of n (operations.Acknowledge id) = row n 13 0 0 id []
 frame_of n (operations.Release id) = row n 14 0 0 id []
 
--- ---- numbers that fit the fields of an operation, as those of each value of the program do
+-- ---- numbers that fit the fields of an operation, as those of each value of the program do,
+-- and a body that is no longer than one may be
 
 abbrev pub FitsType : ℤ → Type 0
 FitsType mtype = FitsSigned w64 mtype
 
+pub record FitsSet (a : SetArguments) : Type 0 where
+  pub qbytes : FitsFour a.qbytes
+  pub uid : IfSome a.uid FitsFour
+  pub gid : IfSome a.gid FitsFour
+
 abbrev pub FitsCall : Call → Type 0
 FitsCall (Get a) = IfSome a.key FitsFour
--- the one limit that no type has: that of bodies
 FitsCall (Send a) = FitsType a.mtype × (length a.body ≤ MAX_BODY)
 FitsCall (Receive a) = FitsType a.mtype × FitsFour a.size
 FitsCall (Stat id) = ⊤
-FitsCall (Set a) = FitsFour a.qbytes × IfSome a.uid FitsFour × IfSome a.gid FitsFour
+FitsCall (Set a) = FitsSet a
 FitsCall (Remove id) = ⊤
 
 abbrev pub FitsOperation : Operation → Type 0

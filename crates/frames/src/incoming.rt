@@ -84,8 +84,8 @@ pub enum Operation {
 /// Why a record was not read.
 #[derive(Clone, Copy, Debug, PartialEq, Eq, Error)]
 pub enum Unread {
-    /// The relay's record is none: shorter than its head, or not as long as it says, or of no kind
-    /// that there is, or with more behind its head than its kind has.
+    /// The relay's record is none: shorter than its head, not as long as it says, of no kind that
+    /// there is, or with less or more behind its head than its kind has.
     #[error("the record of the relay is none")]
     Broken,
     /// The frame of the client is none.

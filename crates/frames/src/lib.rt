@@ -9,6 +9,7 @@ mod codes;
 mod frame;
 mod head;
 mod incoming;
+mod laws;
 mod little;
 mod operations;
 mod reading;
@@ -19,7 +20,8 @@ mod tests;
 
 pub use codes::{CANCELLED, DONE, ENDS, FAILED, NO_MEMORY, NO_ROOM, WRONG};
 pub use incoming::{Incoming, Kind, Operation, Request, Unread};
+pub use laws::a_record_is_of_one_incoming;
 pub use numbers::faults::NoMemory;
-pub use reading::{read, whole};
+pub use reading::{MAX_RECORD, read, whole};
 pub use reply::{Counts, Reply};
-pub use telling::put;
+pub use telling::{MAX_TOLD, put};

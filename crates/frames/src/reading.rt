@@ -2,8 +2,8 @@
 
 ghost use Rattle.std.specs.Prelude.{◌≡◌, ℕ, List, ◌++◌, length, Ok, Err, Some, IfOk, IfErr};
 ghost use Rattle.frames.specs.declared.incoming.Incoming.{Incoming};
-ghost use Rattle.frames.specs.Reading.{Gives, incoming_of, kind_of, head_at, request_of, bare_of};
-ghost use Rattle.frames.specs.Records.{Fits, ReadsAs, Says, at_moment, spelled};
+ghost use Rattle.frames.specs.Reading.{Gives, IsAsked, IsAskedIn, bare_of, incoming_of, kind_of, request_of};
+ghost use Rattle.frames.specs.Records.{Fits, Measures, ReadsAs, Says, at_moment, spelled};
 
 use crate::frame::Frame;
 use crate::head::{HEAD_BYTES, Head};
@@ -16,13 +16,27 @@ use std::alloc::Global;
 pub const MAX_RECORD: usize = HEAD_BYTES + 20 + MAX_BODY;
 
 /// How many bytes the first record of these has, with its length; none where not all of them have
-/// come. `Broken` where its length is one that no record has.
-pub fn whole(bytes: &[u8]) -> Result<Option<usize>, Unread> {
+/// come, which are fewer than `MAX_RECORD` then. `Broken` where its length is one that no record
+/// has.
+pub fn whole(bytes: &[u8]) -> Result<Option<usize>, Unread>
+    ensures size { Measures bytes.now result }
+    ensures only { (incoming : Incoming) (rest : List ℕ) → Fits incoming →
+        bytes.now ≡ spelled incoming ++ rest → result ≡ Ok (Some (length (spelled incoming))) }
+{
+    measure(bytes)
+}
+
+fn measure(bytes: &[u8]) -> Result<Option<usize>, Unread>
+    ensures { Measures bytes.now result }
+{
     if bytes.len() < 4 {
         return Ok(None);
     }
     let size = 4 + four_at(bytes, 0) as usize;
-    if size < HEAD_BYTES || size > MAX_RECORD {
+    if size < HEAD_BYTES {
+        return Err(Unread::Broken);
+    }
+    if size > MAX_RECORD {
         return Err(Unread::Broken);
     }
     if bytes.len() < size {
@@ -45,7 +59,7 @@ pub fn read(alloc: Global, bytes: &[u8], moment: u64) -> Result<Incoming, Unread
 }
 
 fn incoming(alloc: Global, bytes: &[u8], moment: u64) -> Result<Incoming, Unread>
-    ensures { Gives (head_at bytes.now) (incoming_of moment bytes.now) result }
+    ensures { Gives (IsAskedIn bytes.now) (incoming_of moment bytes.now) result }
 {
     let Some(head) = Head::read(bytes) else {
         return Err(Unread::Broken);
@@ -60,7 +74,7 @@ fn incoming(alloc: Global, bytes: &[u8], moment: u64) -> Result<Incoming, Unread
 
 /// What the record of this head tells.
 fn kind(alloc: Global, head: &Head, moment: u64) -> Result<Kind, Unread>
-    ensures { Gives head.now (kind_of moment head.now) result }
+    ensures { Gives (IsAsked head.now) (kind_of moment head.now) result }
 {
     if head.kind == 0 {
         return request(alloc, head, moment);
@@ -85,7 +99,8 @@ fn bare(kind: u32) -> Result<Kind, Unread>
 
 /// The request of a client that stands behind a head.
 fn request(alloc: Global, head: &Head, moment: u64) -> Result<Kind, Unread>
-    ensures { Gives head.now (request_of moment head.now) result }
+    requires { head.now.kind ≡ 0 }
+    ensures { Gives (IsAsked head.now) (request_of moment head.now) result }
 {
     let Some(frame) = Frame::read(head.rest.as_slice()) else {
         return Err(Unread::Broken);

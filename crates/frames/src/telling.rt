@@ -1,10 +1,9 @@
 //! Answers as bytes, behind others (docs/PROTOCOL.md, "Answers").
 
-ghost use Rattle.std.specs.Prelude.{◌≡◌, ◌≤◌, ◌+◌, ◌++◌, true, length, OnOk, OnErr};
-ghost use Rattle.std.specs.Vec.{vec_capacity};
+ghost use Rattle.std.specs.Prelude.{◌≡◌, ◌≤◌, ◌+◌, ◌++◌, true, length, IsOk, OnOk, OnErr};
+ghost use Rattle.std.specs.Vec.{vec_capacity, vec_len};
 ghost use Rattle.frames.specs.Little.{four};
-ghost use Rattle.frames.specs.Frames.{joined};
-ghost use Rattle.frames.specs.Answers.{answer_parts, appended, counts_parts, is_short_answer, is_short_reply, message_parts, reply_parts, stat_parts, told};
+ghost use Rattle.frames.specs.Answers.{answer_len, answer_parts, appended, counts_parts, is_short_answer, is_short_reply, message_parts, reply_len, reply_parts, stat_parts, told};
 
 use crate::codes::DONE;
 use crate::little::{put_all, put_eight, put_four, put_two};
@@ -12,10 +11,15 @@ use crate::reply::{Counts, Reply};
 use numbers::limits::MAX_BODY;
 use queue_model::{Answer, Message, NoMemory, QueueInfo};
 
+/// The most bytes of an answer's record, with its length: those of a receive of the longest body.
+pub const MAX_TOLD: usize = 44 + MAX_BODY;
+
 /// Puts the record of an answer last. Without memory for it nothing is put; nor is a message of
 /// more than `MAX_BODY` bytes, which no lawful system has.
 pub fn put(into: &mut Vec<u8>, connection: u32, number: u32, reply: &Reply) -> Result<(), NoMemory>
     ensures ok { OnOk result (into.new.items ≡ into.old.items ++ told connection number reply.now) }
+    ensures room { vec_len into.old + MAX_TOLD ≤ vec_capacity into.old →
+        is_short_reply reply.now ≡ true → IsOk result }
     ensures err { OnErr result (into.new.items ≡ into.old.items) }
 {
     if !is_short(reply) {
@@ -44,7 +48,8 @@ fn is_short(reply: &Reply) -> bool
 /// How many bytes a reply has from its code on.
 fn len_of(reply: &Reply) -> usize
     requires { is_short_reply reply.now ≡ true }
-    ensures { result ≡ length (joined (reply_parts reply.now)) }
+    ensures value { result ≡ reply_len reply.now }
+    ensures within { result ≤ 32 + MAX_BODY }
 {
     match reply {
         Reply::Answer(answer) => len_of_answer(answer),
@@ -57,7 +62,8 @@ fn len_of(reply: &Reply) -> usize
 /// How many bytes the answer to a call has from its code on.
 fn len_of_answer(answer: &Answer) -> usize
     requires { is_short_answer answer.now ≡ true }
-    ensures { result ≡ length (joined (answer_parts answer.now)) }
+    ensures value { result ≡ answer_len answer.now }
+    ensures within { result ≤ 32 + MAX_BODY }
 {
     match answer {
         Answer::Sent(_) => 16,
@@ -69,7 +75,8 @@ fn len_of_answer(answer: &Answer) -> usize
 
 /// Puts a reply from its code on.
 fn put_reply(into: &mut Vec<u8>, reply: &Reply)
-    requires room { length into.old.items + length (joined (reply_parts reply.now)) ≤ vec_capacity into.old }
+    requires short { is_short_reply reply.now ≡ true }
+    requires room { length into.old.items + reply_len reply.now ≤ vec_capacity into.old }
     ensures { into.new.items ≡ appended into.old.items (reply_parts reply.now) }
 {
     match reply {
@@ -88,7 +95,7 @@ fn put_reply(into: &mut Vec<u8>, reply: &Reply)
 
 /// Puts a code and a value.
 fn put_code(into: &mut Vec<u8>, code: u32, value: u32)
-    requires room { length into.old.items + 8 ≤ vec_capacity into.old }
+    requires { length into.old.items + 8 ≤ vec_capacity into.old }
     ensures value { into.new.items ≡ into.old.items ++ four code ++ four value }
     ensures len { length into.new.items ≡ length into.old.items + 8 }
     ensures room { vec_capacity into.old ≤ vec_capacity into.new }
@@ -99,7 +106,8 @@ fn put_code(into: &mut Vec<u8>, code: u32, value: u32)
 
 /// Puts the answer to a call.
 fn put_answer(into: &mut Vec<u8>, answer: &Answer)
-    requires room { length into.old.items + length (joined (answer_parts answer.now)) ≤ vec_capacity into.old }
+    requires short { is_short_answer answer.now ≡ true }
+    requires room { length into.old.items + answer_len answer.now ≤ vec_capacity into.old }
     ensures { into.new.items ≡ appended into.old.items (answer_parts answer.now) }
 {
     match answer {
@@ -123,7 +131,7 @@ fn put_answer(into: &mut Vec<u8>, answer: &Answer)
 
 /// Puts the fields of a message.
 fn put_message(into: &mut Vec<u8>, message: &Message)
-    requires room { length into.old.items + (24 + length message.now.bytes) ≤ vec_capacity into.old }
+    requires { length into.old.items + (24 + length message.now.bytes) ≤ vec_capacity into.old }
     ensures { into.new.items ≡ appended into.old.items (message_parts message.now) }
 {
     put_eight(into, message.serial);
@@ -135,7 +143,7 @@ fn put_message(into: &mut Vec<u8>, message: &Message)
 
 /// Puts what Stat tells.
 fn put_stat(into: &mut Vec<u8>, info: &QueueInfo)
-    requires room { length into.old.items + 72 ≤ vec_capacity into.old }
+    requires { length into.old.items + 72 ≤ vec_capacity into.old }
     ensures { into.new.items ≡ appended into.old.items (stat_parts info.now) }
 {
     put_eight(into, info.stime);
@@ -158,7 +166,7 @@ fn put_stat(into: &mut Vec<u8>, info: &QueueInfo)
 
 /// Puts what Info tells.
 fn put_counts(into: &mut Vec<u8>, counts: &Counts)
-    requires room { length into.old.items + 40 ≤ vec_capacity into.old }
+    requires { length into.old.items + 40 ≤ vec_capacity into.old }
     ensures { into.new.items ≡ appended into.old.items (counts_parts counts.now) }
 {
     put_eight(into, counts.calls);
