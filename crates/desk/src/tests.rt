@@ -54,8 +54,9 @@ enum Row {
     Next(u32, Want),
     /// `next` tells nobody.
     Nobody,
-    /// The calls of a client are withdrawn; whether there was one.
+    /// The calls of a client, or of all of a connection, are withdrawn; whether there was one.
     Cancelled(u32, bool),
+    Left(u32, bool),
     /// The system is stopped.
     Stopped,
     /// So many wait.
@@ -64,10 +65,9 @@ enum Row {
     Tries(u64),
 }
 
-use Row::{Asked, Cancelled, Next, Nobody, Stopped, Tries, Wait};
+use Row::{Asked, Cancelled, Left, Next, Nobody, Stopped, Tries, Wait};
 
-/// Two receives wait: the one that came first is told first, each message is told once, and nobody
-/// is told where none is left.
+/// Who came first is told first, each message once, and nobody where none is left.
 const IN_ORDER: [Row; 12] = [
     Asked(1, Get(7), Id(1)),
     Asked(2, Receive(1, 0), WAITS),
@@ -114,17 +114,18 @@ const BY_TYPE: [Row; 12] = [
 ];
 
 /// A call that is withdrawn leaves nothing: what comes then stays for others.
-const WITHDRAWN: [Row; 10] = [
+const WITHDRAWN: [Row; 11] = [
     Asked(1, Get(7), Id(1)),
     Asked(2, Receive(1, 0), WAITS),
     Asked(3, Receive(1, 2), WAITS),
     Cancelled(2, true),
     Cancelled(2, false),
+    Asked(102, Receive(1, 0), WAITS),
+    Left(1, true),
     Wait(1),
     Asked(4, Send(1, 1, "a"), Sent(1)),
     Nobody,
     Asked(5, Receive(1, 0), Received(1, 4, 1, "a")),
-    Nobody,
 ];
 
 /// Once two wait no third may; and a call that need not wait is answered.
@@ -191,8 +192,7 @@ const RIGHTS: [Row; 6] = [
     Nobody,
 ];
 
-/// A message that is too long is refused to the first, and stays for the second, who may take it
-/// cut no more than the first: E2BIG each.
+/// A message that is too long is refused E2BIG to each, and stays.
 const TOO_LONG: [Row; 6] = [
     Asked(1, Get(7), Id(1)),
     Asked(2, Receive(1, 0), WAITS),
@@ -302,15 +302,16 @@ fn does(alloc: Global, desk: &mut Desk, row: Row) -> Result<bool, Fail> {
     Ok(match row {
         Row::Asked(client, asks, want) => {
             let call = asks.to_call(alloc)?;
-            let reply = desk.ask(u64::from(client), caller_of(client), call);
+            let reply = desk.ask(number_of(client), caller_of(client), call);
             want.is_met(alloc, &reply)?
         }
         Row::Next(client, want) => match desk.next() {
             None => false,
-            Some(told) => { told.client == u64::from(client) && want.is_met(alloc, &told.reply)? }
+            Some(told) => { told.client == number_of(client) && want.is_met(alloc, &told.reply)? }
         },
         Row::Nobody => desk.next().is_none(),
-        Row::Cancelled(client, some) => desk.cancel(u64::from(client)) == some,
+        Row::Cancelled(client, some) => desk.cancel(number_of(client)) == some,
+        Row::Left(connection, some) => desk.leave(connection) == some,
         Row::Stopped => {
             desk.stop();
             true
@@ -318,6 +319,11 @@ fn does(alloc: Global, desk: &mut Desk, row: Row) -> Result<bool, Fail> {
         Row::Wait(many) => desk.waiting() == many,
         Row::Tries(many) => desk.tries() == many,
     })
+}
+
+/// A hundred clients are of one connection.
+fn number_of(client: u32) -> u64 {
+    u64::from(client / 100) << 32 | u64::from(client)
 }
 
 /// Whose calls a client makes.

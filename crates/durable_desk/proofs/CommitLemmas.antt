@@ -1,23 +1,23 @@
 -- A commit, step by step: the pages are written, the device is synced, and it is noted.
-use Rattle.std.proofs.Common.{arith, ℕ, ◌≡◌, ◌≤◌, ◌<◌, ◌+◌, inl, inr, ⊎_elim, IsTrue, refl, sym, ap, ◌∙◌, subst, Bool, true, false, List, [], Option, Some, None, Result, Ok, Err, length, slice_index_or}
-use Rattle.std.specs.Prelude.{IsErrOf, IfErr, nat_lt, slice_set, is_err}
-use Rattle.page_device.specs.Device.{DiffersAtMostAt, HasCause, HasRisen, MayMeetTheEnd, MayOnlyFail}
+use Rattle.std.proofs.Common.{arith, ℕ, ◌≡◌, ◌≤◌, ◌<◌, ◌+◌, inl, inr, ⊎_elim, IsTrue, refl, sym, ap, ◌∙◌, subst, Bool, true, false, List, Option, Some, None, Result, Err, length}
+use Rattle.std.specs.Prelude.{IsErrOf, nat_lt, slice_set}
+use Rattle.std.proofs.lemmas.Bool.Decides.{nat_tests}
+use Rattle.page_device.specs.Device.{DiffersAtMostAt, HasCause, HasRisen, MayMeetTheEnd}
 use Rattle.page_device.specs.declared.fault.DeviceFault.{DeviceFault}
 use Rattle.page_device.specs.declared.fault.DeviceFault.TheVariants as devices
 use Rattle.safe_device.specs.Crash.{Keeps, LeavesOnly}
 use Rattle.safe_device.specs.Device.{Commits, DeviceState, StaysCommitted}
-use Rattle.safe_device.specs.Left.{Left, recovered}
+use Rattle.safe_device.specs.Left.{Left}
 use Rattle.safe_device.specs.Safe.{IsEither, StandsFor, committed}
 use Rattle.safe_device.specs.declared.journal.Journal.{Journal}
 use Rattle.bucket_page.specs.Pseudokeys.{sha_key}
 use Rattle.interleavings.specs.LoneKernelWords.{IsFileOf, State, restarted}
-use Rattle.session.specs.Session.{AreItsPages, AreSaved, GivesPage, NotesSave, PagesAreTheFile, SessionState, TellsChanges, pages_of, saved_of}
+use Rattle.session.specs.Session.{AreItsPages, AreSaved, GivesPage, NotesSave, PagesAreTheFile, TellsChanges, pages_of, saved_of}
 use Rattle.desk.specs.Desk.{DeskState, KeepsServing, Serves}
 use Rattle.durable_desk.specs.Durable.{FailsToCommit, HasCommitted, IsCommitted, IsCutShortOn, IsLastOrFile}
 use Rattle.durable_desk.specs.Commit.{HasWritten, LeavesTheLast}
-use Rattle.durable_desk.specs.declared.commit.Uncommitted.{Uncommitted}
-use Rattle.durable_desk.specs.declared.commit.Uncommitted.TheVariants.{Device, Desk, Earlier}
-use Rattle.durable_desk.proofs.MomentLemmas.{joined, started, weaker}
+use Rattle.durable_desk.specs.declared.commit.Uncommitted.TheVariants.{Device}
+use Rattle.durable_desk.proofs.MomentLemmas.{joined, started}
 use Rattle.durable_desk.proofs.WriteLemmas.{AreWrittenTo, Pages, all_written, none_written, one_more, same_pages, still_its, up_to}
 
 -- ---- words
@@ -32,6 +32,14 @@ on old mid new first then = record {
   most = then.most ∙ first.most;
 }
 
+-- the fault that a call tells
+pub told_as : (fault other : DeviceFault) → fault ≡ other → IsErrOf {T = Unit {0}} (Err fault) other
+told_as fault other same = let told : DeviceFault → Result (Unit {0}) DeviceFault = λ f. Err f in ap told same
+
+-- no page was written
+pub zero_of : (n : ℕ) → nat_lt 0 n ≡ false → n ≡ 0
+zero_of n none = grind (arith, nat_tests)
+
 risen_since : (a b c : ℕ) → a ≤ b → HasRisen b c → HasRisen a c
 risen_since a b c le risen = ⊎_elim (λ more. inl (omega arith)) (λ most. inr most) risen
 
@@ -44,14 +52,6 @@ write_failed devices.PastEnd page many a b within may past failed =
     let le = past refl in absurd (omega (arith, le))
 write_failed devices.DeviceFull page many a b within may past failed = absurd may
 write_failed devices.NoMemory page many a b within may past failed = absurd may
-
-sync_failed : (fault : DeviceFault) (a b : ℕ) → MayOnlyFail fault → (fault ≡ devices.Device → HasRisen a b) →
-    HasRisen a b
-sync_failed devices.Device a b may failed = failed refl
-sync_failed devices.BadDigest a b may failed = absurd may
-sync_failed devices.PastEnd a b may failed = absurd may
-sync_failed devices.DeviceFull a b may failed = absurd may
-sync_failed devices.NoMemory a b may failed = absurd may
 
 module _ {P : Type 0} (honest : Bool) (file : P → Pages) (journal : P → Option Journal) (moment : P → ℕ)
     (left_since : P → ℕ → Left → Type 0) (may_leave : P → Left → Type 0) where
@@ -82,12 +82,13 @@ module _ {P : Type 0} (honest : Bool) (file : P → Pages) (journal : P → Opti
     usable = is.usable;
     later = omega arith;
     stays = λ sound. is.kept sound _ (seen sound);
-    unseen = λ sound. started moment left_since may_leave device.pair (StandsFor device.content) only_now (is.kept sound);
+    unseen = λ sound.
+        started moment left_since may_leave device.pair (StandsFor device.content) only_now (is.kept sound);
     none = λ zero. (refl, refl);
   }
 
-  module _ (from : ℕ) (desk now : DeskState) (device then : DeviceState P) (is : IsCommitted honest may_leave desk device)
-      (so_far : IsWriting from desk now device then) where
+  module _ (from : ℕ) (desk now : DeskState) (device then : DeviceState P)
+      (is : IsCommitted honest may_leave desk device) (so_far : IsWriting from desk now device then) where
     serves_now : Serves is.served now
     serves_now = so_far.keeps.serves is.served is.serves
 
@@ -150,14 +151,14 @@ module _ {P : Type 0} (honest : Bool) (file : P → Pages) (journal : P → Opti
 
       -- or its write fails
       pub not_written : (fault : DeviceFault) →
-          HasCause MayMeetTheEnd then.failed next.failed (Err {T = Unit {0}} fault) →
-          (IsErrOf (Err {T = Unit {0}} fault) devices.PastEnd → length then.content ≤ page) →
-          FailsToCommit Device desk after device next
-      not_written fault cause past =
-          (on desk now after so_far.keeps kept,
-          risen_since device.failed then.failed next.failed so_far.later
-          (write_failed fault page (length then.content) then.failed next.failed ((is_there page count told).1) cause.told
-          past cause.failed))
+          HasCause {T = Unit {0}} MayMeetTheEnd then.failed next.failed (Err fault) →
+          (fault ≡ devices.PastEnd → length then.content ≤ page) → FailsToCommit Device desk after device next
+      not_written fault cause past = (
+        on desk now after so_far.keeps kept,
+        risen_since device.failed then.failed next.failed so_far.later
+            (write_failed fault page (length then.content) then.failed next.failed ((is_there page count told).1)
+            cause.told past (λ is. cause.failed (told_as fault devices.Device is))),
+      )
 
       pub unseen_still : StaysCommitted honest file journal moment left_since false then next →
           LeavesTheLast honest moment left_since device next
@@ -165,11 +166,6 @@ module _ {P : Type 0} (honest : Bool) (file : P → Pages) (journal : P → Opti
           joined moment left_since device.pair then.pair next.pair (StandsFor device.content)
           (StandsFor (committed file journal then.pair)) (StandsFor device.content) (so_far.unseen sound)
           (stays.any_moment sound so_far.usable) (λ c has. has) (λ c has. has ∙ so_far.stays sound)
-
-    -- or the desk fails
-    pub not_given : (page : ℕ) (after : DeskState) → GivesPage page None now.session after.session →
-        after.session.failed ≡ true
-    not_given page after gives = (gives.becomes is.served serves_now.holds).failed
 
     -- ---- all are
 
@@ -204,7 +200,8 @@ module _ {P : Type 0} (honest : Bool) (file : P → Pages) (journal : P → Opti
 
   -- ---- they are synced, and it is noted
 
-  module _ (some : Bool) (desk mid : DeskState) (device then : DeviceState P) (is : IsCommitted honest may_leave desk device)
+  module _ (some : Bool) (desk mid : DeskState) (device then : DeviceState P)
+      (is : IsCommitted honest may_leave desk device)
       (wrote : HasWritten honest file journal some desk mid device then) (law : PagesAreTheFile) where
     is_file : IsTrue honest → (s : State) → Serves s desk → IsFileOf sha_key then.content (restarted s)
     is_file sound s serves =
@@ -236,7 +233,8 @@ module _ {P : Type 0} (honest : Bool) (file : P → Pages) (journal : P → Opti
         many = ap length same ∙ wrote.many ∙ sym notes.many ∙ sym all.all.many;
         saved = λ sound.
             same ∙ same_pages then.content (saved_of after.session) after.session
-            (still_its then.content mid.session after.session all.images notes.many (wrote.its sound is.served is.serves))
+            (still_its then.content mid.session after.session all.images notes.many
+            (wrote.its sound is.served is.serves))
             all.all;
         kept = λ sound.
             subst (λ (pages : Pages). Keeps (StandsFor pages) (may_leave next.pair)) (sym same) (durable sound);
@@ -249,16 +247,6 @@ module _ {P : Type 0} (honest : Bool) (file : P → Pages) (journal : P → Opti
         all : AreSaved is.served mid.session after.session
         all = notes.becomes is.served serves_mid.holds
 
-    pub not_noted : (after : DeskState) → NotesSave false mid.session after.session → after.session.failed ≡ true
-    not_noted after notes = (notes.becomes is.served (wrote.keeps.serves is.served is.serves).holds).failed
-
-    pub not_synced : (next : DeviceState P) (fault : DeviceFault) →
-        HasCause MayOnlyFail then.failed next.failed (Err {T = Unit {0}} fault) → FailsToCommit Device desk mid device next
-    not_synced next fault cause =
-        (wrote.keeps,
-        risen_since device.failed then.failed next.failed wrote.later
-        (sync_failed fault then.failed next.failed cause.told cause.failed))
-
     -- a crash meanwhile
     pub cut_short : (succeeded : Bool) (next : DeviceState P) → LeavesTheLast honest moment left_since device then →
         Commits honest file journal moment left_since succeeded then next →
@@ -269,10 +257,3 @@ module _ {P : Type 0} (honest : Bool) (file : P → Pages) (journal : P → Opti
         (commits.any_moment sound wrote.usable) (λ c has. inl has)
         (λ c has. ⊎_elim (λ last. inl (last ∙ wrote.stays sound)) (λ now.
         inr (subst (λ (pages : Pages). IsFileOf sha_key pages (restarted s)) (sym now) (is_file sound s serves))) has)
-
-  -- where nothing but the last commit is left
-  pub leaves_the_last : (desk : DeskState) (device then : DeviceState P) →
-      LeavesTheLast honest moment left_since device then → IsCutShortOn honest moment left_since desk device then
-  leaves_the_last desk device then unseen sound s serves =
-      weaker moment left_since device.pair then.pair (StandsFor device.content) (IsLastOrFile device.content s)
-      (unseen sound) (λ c has. inl has)

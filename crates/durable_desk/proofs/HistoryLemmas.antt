@@ -1,5 +1,5 @@
 -- What is done with a durable desk, one after another, is found after a crash up to some entry.
-use Rattle.std.proofs.Common.{arith, ℕ, ◌≡◌, ◌≤◌, ◌+◌, inl, inr, ⊎_elim, IsTrue, refl, sym, ap, ◌∙◌, subst, append-nil, append_assoc, Bool, true, false, List, [], ◌∷◌, ◌++◌, Result, Ok, Err}
+use Rattle.std.proofs.Common.{arith, ℕ, ◌≡◌, ⊎_elim, IsTrue, refl, sym, ap, ◌∙◌, subst, append-nil, append_assoc, Bool, true, false, List, [], ◌∷◌, ◌++◌, Result, Ok, Err}
 use Rattle.std.specs.Prelude.{◌||◌}
 use Rattle.std.specs.List.{count_by}
 use Rattle.bucket_page.specs.Pseudokeys.{sha_key}
@@ -9,11 +9,10 @@ use Rattle.safe_device.specs.Left.{Left, recovered}
 use Rattle.interleavings.specs.LoneKernelWords.{IsFileOf, State, restarted}
 use Rattle.desk.specs.Desk.{DeskState, KeepsServing, Serves}
 use Rattle.desk.specs.History.{AnswersByTheRules, Entry, IsServed, LeadsAlong, Saved, fails}
-use Rattle.desk.specs.History as desks
 use Rattle.desk.specs.declared.asking.Asking.{Asking}
 use Rattle.desk.proofs.HistoryLemmas.{joined as served_on, leads_on}
-use Rattle.durable_desk.specs.Durable.{DurableState, HasCommitted, IsCommitted, IsCutShort, IsLastOrFile, OpensFile}
-use Rattle.durable_desk.specs.History.{AllOutlastACrash, Commit, Does, Event, HappenAlong, Happens, IsDone, IsFileAfterSome, IsNeverLost, IsTried, IsUpToDate, NoneFails, NoneIsLost, OpensUpToDate, OutlastsACrash, at_desk, deed_of, is_failure}
+use Rattle.durable_desk.specs.Durable.{DurableState, IsCutShort, IsLastOrFile}
+use Rattle.durable_desk.specs.History.{AllOutlastACrash, Commit, Does, Event, HappenAlong, Happens, IsFileAfterSome, IsTried, NoneFails, NoneIsLost, OpensUpToDate, at_desk, deed_of, is_failure}
 use Rattle.durable_desk.specs.declared.commit.Uncommitted.{Uncommitted}
 use Rattle.durable_desk.specs.declared.commit.Uncommitted.TheVariants.{Device, Desk, Earlier}
 use Rattle.durable_desk.proofs.MomentLemmas.{joined, started, weaker}
@@ -176,9 +175,10 @@ module _ {P : Type 0} (honest : Bool) (moment : P → ℕ) (left_since : P → �
           now = λ sound none. more_lost s entries first.entries then.device.content
               (now_by entries t d then so_far e fine happens sound none);
         } in
-        let more = along es (entries ++ first.entries) first.after then new next rest others in
-        (served_on (deed_of e) (at_desk es) t d.desk then.desk new.desk first more.0,
-        subst (λ (all : List Entry). IsFound all new) (append_assoc entries first.entries more.0.entries) more.1)
+        let more = along es (entries ++ first.entries) first.after then new next rest others in (
+          served_on (deed_of e) (at_desk es) t d.desk then.desk new.desk first more.0,
+          subst (λ (all : List Entry). IsFound all new) (append_assoc entries first.entries more.0.entries) more.1,
+        )
 
 -- ---- the laws
 
@@ -214,17 +214,18 @@ module _ {P : Type 0} (honest : Bool) (moment : P → ℕ) (left_since : P → �
 pub opens_up_to_date : {P : Type 0} (honest : Bool) (may_leave : P → Left → Type 0) → OpensUpToDate P honest may_leave
 opens_up_to_date honest may_leave given most d opens =
     let is = opens.read.opens in
-    let running = is.file.system.has.running in
-    (is.system,
-    record {
-      serves = is.serves;
-      sound = opens.sound;
-      committed = opens.committed;
-      file = λ sound.
-          subst (λ (pages : List (List ℕ)). IsFileOf sha_key pages (restarted is.system))
-          (opens.read.same sound ∙ sym opens.same)
-          (subst (λ (x : State). IsFileOf sha_key opens.read.content x) (as_running is.system running) is.file);
-    })
+    let running = is.file.system.has.running in (
+      is.system,
+      record {
+        serves = is.serves;
+        sound = opens.sound;
+        committed = opens.committed;
+        file = λ sound.
+            subst (λ (pages : List (List ℕ)). IsFileOf sha_key pages (restarted is.system))
+            (opens.read.same sound ∙ sym opens.same)
+            (subst (λ (x : State). IsFileOf sha_key opens.read.content x) (as_running is.system running) is.file);
+      },
+    )
   where
     as_running : (s : State) → s.stopped ≡ false → s ≡ restarted s
     as_running s running = ap (λ (b : Bool). record s { stopped = b }) running

@@ -1,4 +1,5 @@
 pub mod MomentLemmas
 pub mod WriteLemmas
 pub mod CommitLemmas
+pub mod ServingLemmas
 pub mod HistoryLemmas

@@ -1,8 +1,7 @@
 -- How runs of calls on a pair follow one another.
-use Rattle.std.proofs.Common.{◌≡◌, inl, inr, ⊎_elim, ℕ, arith, List, sym, ◌∙◌}
-use Rattle.safe_device.specs.Left.{Left, recovered}
+use Rattle.std.proofs.Common.{inl, inr, ⊎_elim, ℕ, arith}
+use Rattle.safe_device.specs.Left.{Left}
 use Rattle.safe_device.specs.Crash.{Keeps, LeavesOnly}
-use Rattle.safe_device.specs.Safe.{StandsFor}
 
 module _ {P : Type 0} (moment : P → ℕ) (left_since : P → ℕ → Left → Type 0) (may_leave : P → Left → Type 0) where
   -- none

@@ -1,15 +1,15 @@
 -- The pages of a desk that have changed are written, one after another.
-use Rattle.std.proofs.Common.{arith, ℕ, ◌≡◌, ◌≢◌, ◌≤◌, ◌<◌, ◌+◌, inl, inr, ⊎_elim, IsTrue, refl, sym, ap, ◌∙◌, subst, List, [], ◌++◌, Option, length, slice_index_or, take, drop}
+use Rattle.std.proofs.Common.{arith, ℕ, ◌≡◌, ◌≢◌, ◌≤◌, ◌<◌, ◌+◌, ⊎_elim, sym, ap, ◌∙◌, subst, List, [], ◌++◌, length, slice_index_or, take, drop}
 use Rattle.std.specs.Prelude.{slice_set}
 use Rattle.std.proofs.lemmas.Bool.{cases_eq, cases_lt}
 use Rattle.std.proofs.lemmas.List.{ext_get_or, get_or-set_other, get_or-set_same, take-append-drop}
 use Rattle.page_device.specs.declared.page.TheConstants.{PAYLOAD_BYTES}
-use Rattle.page_device.specs.Sealed.{IsSealed, page_digest, payload_of}
+use Rattle.page_device.specs.Sealed.{page_digest, payload_of}
 use Rattle.buffer_pool.specs.Pool.{PoolState}
 use Rattle.interleaving_core.specs.Renewing.{IsPage}
 use Rattle.session.specs.Session.{AreAsSaved, AreItsPages, SessionState, pages_of, saved_of}
 
-abbrev Pages : Type 0
+abbrev pub Pages : Type 0
 Pages = List (List ℕ)
 
 -- ---- a page as it is to be written

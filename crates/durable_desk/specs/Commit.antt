@@ -1,9 +1,8 @@
 -- The steps of a commit: the pages that have changed are written, the device is synced, and it is noted.
-use Rattle.std.specs.Prelude.{ℕ, ◌≡◌, ◌≤◌, ◌<◌, Bool, true, false, List, [], Option, Result, Ok, Err, IsTrue, length, slice_index_or}
-use Rattle.page_device.specs.Device.{HasRisen}
-use Rattle.safe_device.specs.Crash.{Keeps, LeavesOnly}
+use Rattle.std.specs.Prelude.{ℕ, ◌≡◌, ◌≤◌, Bool, false, List, Option, Result, Ok, Err, IsTrue, length}
+use Rattle.safe_device.specs.Crash.{LeavesOnly}
 use Rattle.safe_device.specs.Device.{DeviceState}
-use Rattle.safe_device.specs.Left.{Left, recovered}
+use Rattle.safe_device.specs.Left.{Left}
 use Rattle.safe_device.specs.Safe.{StandsFor, committed}
 use Rattle.safe_device.specs.declared.journal.Journal.{Journal}
 use Rattle.interleavings.specs.LoneKernelWords.{State}

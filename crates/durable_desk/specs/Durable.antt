@@ -1,6 +1,6 @@
 -- A desk whose pages are brought to a file that a crash leaves as at a commit: what is so between two commits, and what
 -- its functions promise beside a desk's. docs/QUEUES.md, "Calls"; docs/FORMAT.md, "Pages".
-use Rattle.std.specs.Prelude.{ℕ, ◌≡◌, ◌<◌, ◌⊎◌, ◌||◌, Bool, true, false, List, [], Result, Ok, Err, IsTrue, length}
+use Rattle.std.specs.Prelude.{ℕ, ◌≡◌, ◌<◌, ◌⊎◌, ◌||◌, Bool, true, false, List, Result, Ok, Err, IsTrue, length}
 use Rattle.bucket_page.specs.Pseudokeys.{sha_key}
 use Rattle.page_device.specs.Device.{HasRisen}
 use Rattle.page_device.specs.declared.fault.DeviceFault.{DeviceFault}

@@ -1,5 +1,5 @@
 -- What is done with a durable desk, one after another, and what a crash leaves of it. docs/QUEUES.md, "Journals".
-use Rattle.std.specs.Prelude.{ℕ, ◌≡◌, Bool, true, false, List, [], ◌∷◌, ◌++◌, Option, Result, Ok, Err, IsTrue, ⊤}
+use Rattle.std.specs.Prelude.{ℕ, ◌≡◌, Bool, true, false, List, [], ◌∷◌, ◌++◌, Result, Ok, Err, IsTrue, ⊤}
 use Rattle.bucket_page.specs.Pseudokeys.{sha_key}
 use Rattle.safe_device.specs.Left.{Left, recovered}
 use Rattle.interleavings.specs.LoneKernelWords.{IsFileOf, State, restarted}

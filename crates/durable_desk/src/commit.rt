@@ -24,8 +24,8 @@ pub enum Uncommitted {
     Earlier,
 }
 
-/// Brings the pages of a desk that have changed since they were saved to where they outlast a crash,
-/// and notes that they are saved.
+/// Brings the pages of a desk that have changed since they were saved to where they outlast a
+/// crash, and notes that they are saved.
 pub(crate) fn bring<P: PagePair>(
     desk: &mut Desk,
     device: &mut SafeDevice<P>,

@@ -46,7 +46,7 @@ impl<P: PagePair> DurableDesk<P> {
     ///
     /// # Errors
     ///
-    /// The first thing that is wrong with the file, a transfer that failed, or a fault of no memory.
+    /// The first thing that is wrong with the file, a transfer that failed, or no memory.
     pub fn open(
         alloc: Global,
         device: SafeDevice<P>,

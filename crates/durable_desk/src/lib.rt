@@ -7,6 +7,8 @@ mod commit;
 mod durable;
 mod laws;
 mod opening;
+#[cfg(test)]
+mod tests;
 
 pub use commit::Uncommitted;
 pub use desk;

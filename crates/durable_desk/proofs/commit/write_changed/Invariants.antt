@@ -1,5 +1,5 @@
 -- The pages before the next are written, and a crash leaves the last commit.
-use Rattle.std.proofs.Common.{ℕ}
+use Rattle.std.proofs.Common.{◌-◌}
 use Rattle.durable_desk.proofs.CommitLemmas.{IsWriting}
 use Rattle.durable_desk.proofs.commit.write_changed.Given as goal
 
