@@ -7,8 +7,6 @@ mod commit;
 mod durable;
 mod laws;
 mod opening;
-#[cfg(test)]
-mod tests;
 
 pub use commit::Uncommitted;
 pub use desk;
