@@ -9,8 +9,8 @@ use crate::client::{connection_of, number_of};
 use crate::note::Note;
 use durable_desk::desk::session::Unanswered;
 use durable_desk::desk::session::queue_model::{Answer, Errno, NoMemory};
-use std::marker::Model;
 use frames::{ENDS, NO_MEMORY, NO_ROOM, Reply, put};
+use std::marker::Model;
 
 /// Records, one behind the other.
 #[derive(Drop)]
@@ -50,11 +50,7 @@ impl Outbox {
 
     /// A client is told what came of its call. One that waits is told nothing yet, and of a file
     /// that has failed the server tells when it gives up.
-    pub fn tell(
-        &mut self,
-        client: u64,
-        reply: &Result<Answer, Unanswered>,
-    ) -> Result<(), NoMemory>
+    pub fn tell(&mut self, client: u64, reply: &Result<Answer, Unanswered>) -> Result<(), NoMemory>
         ensures { OnOk result (self.new ≡ self.old ++ told_of client reply.now) }
     {
         match reply {

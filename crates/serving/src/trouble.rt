@@ -58,12 +58,22 @@ pub enum Unreleased {
 }
 
 impl From<Uncommitted> for Unreleased {
+    ghost use Rattle.std.specs.Prelude.{◌≡◌};
+    ghost use Rattle.serving.specs.declared.trouble.Unreleased.TheVariants.{Uncommitted};
+
+    ghost from_gives = { λ why given. given ≡ Uncommitted why };
+
     fn from(why: Uncommitted) -> Unreleased {
         Unreleased::Uncommitted(why)
     }
 }
 
 impl From<io::Error> for Unreleased {
+    ghost use Rattle.std.specs.Prelude.{◌≡◌};
+    ghost use Rattle.serving.specs.declared.trouble.Unreleased.TheVariants.{Refused};
+
+    ghost from_gives = { λ why given. given ≡ Refused why };
+
     fn from(why: io::Error) -> Unreleased {
         Unreleased::Refused(why)
     }

@@ -1,0 +1,7 @@
+-- It has gone on so far.
+use Rattle.serving.specs.Serving.{GoesOn}
+use Rattle.serving.proofs.server.Server.find_queues.Given as goal
+
+abbrev pub invariant-loop-id : goal.invariant-loop-id
+invariant-loop-id g l = GoesOn g.P.PagePair.is_honest g.P.PagePair.moment g.P.PagePair.left_since
+    g.P.PagePair.may_leave l.fn.self l.self
