@@ -64,19 +64,30 @@ impl<P: PagePair> Server<P> {
             self.old self.new) }
     {
         for id in 1..END_OF_IDS {
-            match self.ask(ITSELF, carrier(0), Call::Stat { id })? {
-                Ok(Answer::Info(info)) => {
-                    let Ok(()) = self.queues.insert(id) else {
-                        return Err(Unheard::NoMemory);
-                    };
-                    self.find_holding(&info, moment)?;
-                }
-                Ok(Answer::Refused(Errno::EIDRM)) => {}
-                Err(_) => return Err(Unheard::NoMemory),
-                Ok(_) => break,
+            if !self.find_queue(id, moment)? {
+                break;
             }
         }
         Ok(())
+    }
+
+    /// Notes that a queue is alive, where it is. Whether its id was ever given out.
+    fn find_queue(&mut self, id: u32, moment: u64) -> Result<bool, Unheard>
+        ensures { OnOk result (GoesOn P.is_honest P.moment P.left_since P.may_leave
+            self.old self.new) }
+    {
+        match self.ask(ITSELF, carrier(0), Call::Stat { id })? {
+            Ok(Answer::Info(info)) => {
+                let Ok(()) = self.queues.insert(id) else {
+                    return Err(Unheard::NoMemory);
+                };
+                self.find_holding(&info, moment)?;
+                Ok(true)
+            }
+            Ok(Answer::Refused(Errno::EIDRM)) => Ok(true),
+            Ok(_) => Ok(false),
+            Err(_) => Err(Unheard::NoMemory),
+        }
     }
 
     /// Notes that a message is to go back, where this is the holding queue of a server that ended.

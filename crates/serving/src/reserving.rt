@@ -283,7 +283,7 @@ impl<P: PagePair> Server<P> {
                 self.holdings.set(holding.queue, Stage::GoesBack);
                 some = true;
             }
-            place += 1;
+            place = place.saturating_add(1);
         }
         Ok(some)
     }
@@ -302,7 +302,7 @@ impl<P: PagePair> Server<P> {
             if holding.stage == Stage::GoesBack && self.give_back(holding, moment)? {
                 some = true;
             } else {
-                place += 1;
+                place = place.saturating_add(1);
             }
         }
         Ok(some)

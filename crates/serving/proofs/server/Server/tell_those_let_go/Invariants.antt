@@ -2,6 +2,6 @@
 use Rattle.serving.specs.Serving.{GoesOn}
 use Rattle.serving.proofs.server.Server.tell_those_let_go.Given as goal
 
-abbrev pub invariant-loop-self : goal.invariant-loop-self
-invariant-loop-self g l = GoesOn g.P.PagePair.is_honest g.P.PagePair.moment g.P.PagePair.left_since
+abbrev pub invariant-loop : goal.invariant-loop
+invariant-loop g l = GoesOn g.P.PagePair.is_honest g.P.PagePair.moment g.P.PagePair.left_since
     g.P.PagePair.may_leave l.fn.self l.self
