@@ -43,12 +43,11 @@ impl Inbox {
 
     /// Takes the next whole record; none where the rest of it is still to come.
     pub fn next(&mut self) -> Result<Option<&[u8]>, Unread> {
-        let rest = &self.bytes[self.start..self.end];
-        let Some(bytes) = whole(rest)? else {
+        let start = self.start;
+        let Some(bytes) = whole(&self.bytes[start..self.end])? else {
             return Ok(None);
         };
-        let record = &rest[..bytes];
-        self.start += bytes;
-        Ok(Some(record))
+        self.start = start + bytes;
+        Ok(Some(&self.bytes[start..start + bytes]))
     }
 }
