@@ -31,19 +31,25 @@ pub fn run(rt: &HostRuntime, task: &Task<'_>) -> ExitCode {
 
 /// Opens a file, tells the relay so or why not, and serves it.
 fn serve(rt: &HostRuntime, task: &Task<'_>) -> Result<(), Trouble> {
-    let opened = Inbox::new(rt.alloc())
-        .map_err(|_| Trouble::NoMemory)
-        .and_then(|inbox| Ok((inbox, open(rt, task)?)));
-    match opened {
-        Ok((inbox, server)) => {
-            greet(rt, DONE, server.pages())?;
-            attend(rt, server, inbox)
-        }
-        Err(trouble) => {
-            greet(rt, trouble.number(), 0)?;
-            Err(trouble)
-        }
+    let Ok(mut inbox) = Inbox::new(rt.alloc()) else {
+        return refuse(rt, Trouble::NoMemory);
+    };
+    match open(rt, task) {
+        Ok(mut server) => begin(rt, &mut server, &mut inbox),
+        Err(trouble) => refuse(rt, trouble),
     }
+}
+
+/// Tells the relay why the file is not open.
+fn refuse(rt: &HostRuntime, trouble: Trouble) -> Result<(), Trouble> {
+    greet(rt, trouble.number(), 0)?;
+    Err(trouble)
+}
+
+/// Tells the relay that the file is open, and serves it.
+fn begin(rt: &HostRuntime, server: &mut FileServer, inbox: &mut Inbox) -> Result<(), Trouble> {
+    greet(rt, DONE, server.pages())?;
+    attend(rt, server, inbox)
 }
 
 /// Opens the file once it has its turn.
@@ -71,30 +77,61 @@ fn greet(rt: &HostRuntime, code: u32, value: u32) -> Result<(), Trouble> {
 }
 
 /// Hears what the relay says, group by group, and tells it what may be told behind each.
-fn attend(rt: &HostRuntime, mut server: FileServer, mut inbox: Inbox) -> Result<(), Trouble> {
-    let mut input = rt.stdin();
-    let mut output = io::writer(rt);
+fn attend(rt: &HostRuntime, server: &mut FileServer, inbox: &mut Inbox) -> Result<(), Trouble> {
     for _ in 0..u64::MAX {
-        match inbox.fill(&mut input) {
-            Ok(0) => return server.save().map_err(Trouble::Uncommitted),
-            Ok(_) => {}
-            Err(error) if error.kind() == ErrorKind::Interrupted => continue,
-            Err(error) => return Err(Trouble::Input(error)),
-        }
-        let heard = match hear_all(&mut server, &mut inbox, moment(rt)?) {
-            Ok(heard) => heard,
-            Err(Unheard::Failed { client }) => {
-                server.give_up(client, &mut output)?;
-                return Err(Trouble::Failed);
+        match fill(rt, inbox)? {
+            Came::Nothing => {}
+            Came::Bytes => {
+                if answer(rt, server, inbox)? == Heard::Ending {
+                    return Ok(());
+                }
             }
-            Err(why) => return Err(Trouble::Unheard(why)),
-        };
-        server.release(&mut output)?;
-        if heard == Heard::Ending {
-            return Ok(());
+            Came::End => return save(server),
         }
     }
     Ok(())
+}
+
+/// What a read of the relay's records came to.
+#[derive(Clone, Copy, Debug, PartialEq, Eq)]
+enum Came {
+    /// A signal has ended it.
+    Nothing,
+    /// Some bytes.
+    Bytes,
+    /// The end of the input.
+    End,
+}
+
+/// Reads what the relay has said.
+fn fill(rt: &HostRuntime, inbox: &mut Inbox) -> Result<Came, Trouble> {
+    match inbox.fill(&mut rt.stdin()) {
+        Ok(0) => Ok(Came::End),
+        Ok(_) => Ok(Came::Bytes),
+        Err(error) if error.kind() == ErrorKind::Interrupted => Ok(Came::Nothing),
+        Err(error) => Err(Trouble::Input(error)),
+    }
+}
+
+/// Brings all that was decided to the file.
+fn save(server: &mut FileServer) -> Result<(), Trouble> {
+    server.save().map_err(Trouble::Uncommitted)
+}
+
+/// Hears the records that have come, and tells what may be told behind them.
+fn answer(rt: &HostRuntime, server: &mut FileServer, inbox: &mut Inbox) -> Result<Heard, Trouble> {
+    let now = moment(rt)?;
+    match hear_all(server, inbox, now) {
+        Ok(heard) => {
+            server.release(&mut io::writer(rt))?;
+            Ok(heard)
+        }
+        Err(Unheard::Failed { client }) => {
+            server.give_up(client, &mut io::writer(rt))?;
+            Err(Trouble::Failed)
+        }
+        Err(why) => Err(Trouble::Unheard(why)),
+    }
 }
 
 /// Hears each record that has come whole.
