@@ -27,8 +27,11 @@ def rows_of_sanitizers(room):
     made, no_do = room.path("sanitized"), room.path("no_do.c")
     # (so that it stands on no library)
     with open(no_do, "w") as file:
-        file.write(f'#include "{TOP}/c/front/front.h"\nint do_run(int count, char **words) {{ return count + (words == 0); }}\n')
-    parts = [f"{TOP}/c/front/{it}.c" for it in ("main", "programs", "words")]
+        file.write(f'#include "{TOP}/c/front/front.h"\n#include "{TOP}/c/front/served.h"\n')
+        for verb in ("do", "with", "list", "top"):
+            file.write(f"int {verb}_run(int count, char **words) {{ return count + (words == 0); }}\n")
+        file.write("bool served_run(int count, char **words, int *status) { return *status = count, words == 0; }\n")
+    parts = [f"{TOP}/c/front/{it}.c" for it in ("main", "programs", "proved", "groups", "words")]
     if compile(room, "the front", [*SANITIZED, "-o", made, no_do, *parts, *sources("relay")]):
         server = Server(room, room.file(), front=room.root("checked", room.core, made))
         for rows in clients.ROWS:
