@@ -3,6 +3,7 @@
 #include "served.h"
 
 #include <errno.h>
+#include <limits.h>
 #include <stdlib.h>
 #include <string.h>
 
@@ -29,11 +30,15 @@ int msgq_connect(const char *socket, msgq **queues) {
     return fails(no_server(served_connect(socket, socket, queues)), name, UNREACHED);
 }
 
-/* Connects to the server of a file; ENOENT or ECONNREFUSED where it has none. */
+/* Connects to the server of a file; ENOENT or ECONNREFUSED where it has none. The file need not be there: a server that is about to be
+ * started makes it, and one of another machine has it there. */
 static int connect_beside(const char *path, msgq **queues) {
     char socket[BESIDE_BYTES];
-    if (realpath(path, socket) == NULL)
-        return ENOENT;
+    if (realpath(path, socket) == NULL) {
+        if (errno != ENOENT || *path == '\0' || strlen(path) >= PATH_MAX)
+            return ENOENT;
+        strcpy(socket, path);
+    }
     strcat(socket, SUFFIX);
     return served_connect(socket, path, queues);
 }

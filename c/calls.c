@@ -85,43 +85,90 @@ uint64_t msgq_last_serial(void) {
     return last_serial;
 }
 
-int msgq_send(msgq *queues, uint32_t id, int64_t type, const void *body, size_t length, int flags,
-              const struct timespec *limit) {
-    static const uint8_t none;
-    struct timespec end;
-    nothing_is_wrong();
-    struct subject its = of_id(id);
-    if ((flags & ~(MSGQ_NOWAIT | MSGQ_AGAIN)) != 0)
-        return no_argument(queues, its, why(EINVAL, "0%o has flags that are none", (unsigned)flags));
+/* What is asked of a message that is sent, but for its type: that is the rules' to test. */
+static int test_body(const msgq *queues, uint32_t id, const void *body, size_t length) {
     if (body == NULL && length > 0)
-        return no_argument(queues, its, why(EINVAL, "there is no body"));
+        return no_argument(queues, of_id(id), why(EINVAL, "there is no body"));
     if (length > MSGQ_MAX_BODY)
-        return no_argument(queues, its, why(EINVAL, "the body has %zu bytes, and a message 1024 at most", length));
-    if (is_wrong_limit(limit))
-        return no_argument(queues, its, why(EINVAL, "the limit is none"));
-    struct sending it = {
+        return no_argument(queues, of_id(id), why(EINVAL, "the body has %zu bytes, and a message 1024 at most", length));
+    return 0;
+}
+
+static struct sending sending_of(uint32_t id, int64_t type, const void *body, size_t length, int flags) {
+    static const uint8_t none;
+    return (struct sending){
         .call = {.mtype = type, .id = id, .nowait = (flags & MSGQ_NOWAIT) != 0},
         .body = body == NULL ? &none : body,
         .length = length,
         .asks_again = (flags & MSGQ_AGAIN) != 0,
     };
-    int wrong = begin_wait(queues, limit, &end);
-    if (wrong != 0)
-        return wrong;
-    if (queues == NULL)
-        return no_queues();
-    wrong = queues->calls->send(queues, &it, limit == NULL ? NULL : &end);
-    if (wrong == 0)
-        last_serial = it.serial;
+}
+
+/* Notes the serial of a message that was sent, or says why it was not. */
+static int tell_sent(const msgq *queues, const struct sending *it, int wrong) {
+    if (it->serial != 0)
+        last_serial = it->serial;
     if (wrong == EAGAIN || wrong == ETIMEDOUT)
-        (void)no_room(wrong, &it);
-    else if (wrong == EINVAL && type < 1)
+        (void)no_room(wrong, it);
+    else if (wrong == EINVAL && it->call.mtype < 1)
         (void)why(wrong, "the type of a message is at least 1");
     else if (wrong == EACCES)
         (void)why(wrong, "its mode does not let the caller write");
     else
         (void)because(wrong);
-    return refuses(wrong, queues->name, its);
+    return refuses(wrong, queues->name, of_id(it->call.id));
+}
+
+int msgq_send(msgq *queues, uint32_t id, int64_t type, const void *body, size_t length, int flags,
+              const struct timespec *limit) {
+    struct timespec end;
+    nothing_is_wrong();
+    if ((flags & ~(MSGQ_NOWAIT | MSGQ_AGAIN)) != 0)
+        return no_argument(queues, of_id(id), why(EINVAL, "0%o has flags that are none", (unsigned)flags));
+    int wrong = test_body(queues, id, body, length);
+    if (wrong != 0)
+        return wrong;
+    if (is_wrong_limit(limit))
+        return no_argument(queues, of_id(id), why(EINVAL, "the limit is none"));
+    struct sending it = sending_of(id, type, body, length, flags);
+    if ((wrong = begin_wait(queues, limit, &end)) != 0)
+        return wrong;
+    if (queues == NULL)
+        return no_queues();
+    return tell_sent(queues, &it, queues->calls->send(queues, &it, limit == NULL ? NULL : &end));
+}
+
+/* Sends so many messages, up to MOST_TOGETHER. */
+static int send_some(msgq *queues, uint32_t id, struct msgq_outgoing *messages, size_t count) {
+    struct sending all[MOST_TOGETHER];
+    size_t first = count;
+    for (size_t n = 0; n < count; n++)
+        all[n] = sending_of(id, messages[n].type, messages[n].body, messages[n].length, MSGQ_NOWAIT);
+    int wrong = queues->calls->send_all(queues, all, count);
+    for (size_t n = 0; n < count; n++) {
+        messages[n].serial = all[n].serial;
+        if (all[n].serial != 0)
+            last_serial = all[n].serial;
+        else if (first == count)
+            first = n;
+    }
+    return tell_sent(queues, &all[first < count ? first : count - 1], wrong);
+}
+
+int msgq_send_all(msgq *queues, uint32_t id, struct msgq_outgoing *messages, size_t count) {
+    nothing_is_wrong();
+    int wrong = messages == NULL && count > 0 ? no_argument(queues, of_id(id), why(EINVAL, "there are no messages")) : 0;
+    for (size_t n = 0; wrong == 0 && n < count; n++) {
+        messages[n].serial = 0;
+        wrong = test_body(queues, id, messages[n].body, messages[n].length);
+    }
+    if (wrong == 0 && queues == NULL)
+        return no_queues();
+    for (size_t at = 0, some; wrong == 0 && at < count; at += some) {
+        some = count - at < MOST_TOGETHER ? count - at : MOST_TOGETHER;
+        wrong = send_some(queues, id, messages + at, some);
+    }
+    return wrong;
 }
 
 /* Why no message was taken. */

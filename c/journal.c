@@ -3,11 +3,13 @@
 #include "reason.h"
 
 #include <errno.h>
+#include <stdlib.h>
 #include <string.h>
 
 /* A head: magic (8), version (4), count of pages (4), number of the save (8), the first bytes of the digest in page 0 (24), digest of
  * all these (32); in version 1, in the place of these two, the digest of page 0 (32). An image: the number of a page (4), the page,
- * and the digest of the digest before and of both (32). Numbers are big-endian. */
+ * and the digest of the digest before and of both (32). Numbers are big-endian. In version 3 calls stand behind the head: their length
+ * with the highest bit set (4), so many bytes, and the digest of the digest before and of both (32). */
 #define HEAD_BYTES 80
 #define IMAGE_BYTES (4 + PAGE_BYTES + DIGEST_BYTES)
 #define SEAL_BYTES 24
@@ -50,7 +52,32 @@ static bool has_digest(const uint8_t *bytes, size_t count, const uint8_t *digest
 
 /* ---- heads */
 
-enum found { TORN, IS_ENDED, OTHER_VERSION, WHOLE };
+enum found { TORN, IS_ENDED, OTHER_VERSION, HAS_CALLS, WHOLE };
+
+/* The longest addition of calls. */
+#define MOST_CALLS 0x3fffffffu
+
+/* Whether calls stand whole behind a head. */
+static int test_calls(const struct opened *journal, const uint8_t *head, uint64_t size, bool *are_whole) {
+    uint8_t word[4], sum[DIGEST_BYTES];
+    *are_whole = false;
+    if (size < HEAD_BYTES + sizeof word + DIGEST_BYTES)
+        return 0;
+    int wrong = read_at(journal, word, sizeof word, HEAD_BYTES);
+    uint32_t length = number_at(word) & 0x7fffffff;
+    if (wrong != 0 || (word[0] & 0x80) == 0 || length > MOST_CALLS || size < HEAD_BYTES + sizeof word + length + DIGEST_BYTES)
+        return wrong;
+    size_t count = DIGEST_BYTES + sizeof word + length;
+    uint8_t *bytes = malloc(count);
+    if (bytes == NULL)
+        return ENOMEM;
+    memcpy(bytes, head + SUM_AT, DIGEST_BYTES);
+    if ((wrong = read_at(journal, bytes + DIGEST_BYTES, count - DIGEST_BYTES, HEAD_BYTES)) == 0
+        && (wrong = read_at(journal, sum, sizeof sum, HEAD_BYTES + count - DIGEST_BYTES)) == 0)
+        *are_whole = has_digest(bytes, count, sum);
+    free(bytes);
+    return wrong;
+}
 
 /* Spells a head of today's version, whose count and seal stand. */
 static void spell_head(uint8_t *head, const uint8_t *magic, uint64_t number) {
@@ -71,11 +98,16 @@ static int find_head(const struct opened *journal, uint8_t *head, uint64_t *size
     if (!has_digest(head, SUM_AT, head + SUM_AT))
         return 0;
     uint32_t version = number_at(head + VERSION_AT);
-    if (memcmp(head, UNDER_WAY, sizeof UNDER_WAY) == 0)
+    bool is_under_way = memcmp(head, UNDER_WAY, sizeof UNDER_WAY) == 0, has_calls = false;
+    if (is_under_way && version == 3) {
+        wrong = of_journal(test_calls(journal, head, *size, &has_calls));
+        *found = has_calls ? HAS_CALLS : TORN;
+    } else if (is_under_way) {
         *found = version == 1 || version == 2 ? WHOLE : OTHER_VERSION;
-    else if (memcmp(head, ENDED, sizeof ENDED) == 0 && version == 2)
+    }
+    if (memcmp(head, ENDED, sizeof ENDED) == 0 && version == 2)
         *found = IS_ENDED;
-    return 0;
+    return wrong;
 }
 
 /* The number of the save whose head that is; in version 1 it has none. */
@@ -109,6 +141,8 @@ static int read_head(struct left *left) {
         return wrong;
     if (left->found == OTHER_VERSION)
         return why(ENOTSUP, "its journal is of another version");
+    if (left->found == HAS_CALLS)
+        return why(ENOTSUP, "calls that a server has answered stand in its journal: any command of msgq on it brings them in, as 'msgq check'");
     left->count = number_at(left->head + COUNT_AT);
     left->images = (left->size - HEAD_BYTES) / IMAGE_BYTES;
     return 0;

@@ -23,8 +23,8 @@ struct journal {
 };
 
 /* Undoes what a save that was cut off has left; where that is nothing, sees to it that this is on the disk. A journal of another
- * file is EBADMSG, one of another version ENOTSUP. Before anything is written the whole journal was read: where a read fails
- * both files stay. */
+ * file is EBADMSG, one of another version, or with calls of a server, ENOTSUP. Before anything is written the whole journal was
+ * read: where a read fails both files stay. */
 int journal_recover(const struct opened *file, const struct opened *journal);
 
 /* Writes the head for a file of so many pages, whose page 0 ends with this digest. */

@@ -4,7 +4,7 @@
 
 #include <errno.h>
 #include <limits.h>
-#include <poll.h>
+#include <pthread.h>
 #include <stdlib.h>
 #include <string.h>
 #include <unistd.h>
@@ -14,36 +14,6 @@ struct server {
     struct timespec patience; /* with what ends, until the next serves */
     char socket[PATH_MAX];
 };
-
-/* ---- time */
-
-static const long SECOND = 1000000000; /* in nanoseconds */
-
-/* (This clock can always be read.) */
-static struct timespec now(void) {
-    struct timespec it = {0, 0};
-    (void)clock_gettime(CLOCK_MONOTONIC, &it);
-    return it;
-}
-
-static struct timespec later(struct timespec it, struct timespec by) {
-    it.tv_sec += by.tv_sec;
-    it.tv_nsec += by.tv_nsec;
-    if (it.tv_nsec >= SECOND) {
-        it.tv_sec++;
-        it.tv_nsec -= SECOND;
-    }
-    return it;
-}
-
-/* How long it is to a moment, in milliseconds and at most a thousand seconds: 0 once it is there. */
-static int left_until(const struct timespec *end) {
-    struct timespec moment = now();
-    if (end->tv_sec - moment.tv_sec > 1000)
-        return 1000000;
-    int64_t left = (int64_t)(end->tv_sec - moment.tv_sec) * SECOND + (end->tv_nsec - moment.tv_nsec);
-    return left <= 0 ? 0 : (int)((left + 999999) / 1000000);
-}
 
 /* ---- servers */
 
@@ -92,6 +62,14 @@ void server_leave(struct server *server) {
 
 /* ---- a request and its answer */
 
+/* A request that is made. Signals that may end it are held back from its beginning on, and let through where it waits: those that
+ * `open` has not. It is NULL for one that does not wait, upon which handlers run whenever they are due. */
+struct making {
+    const struct request *asked;
+    struct answer *told;
+    const sigset_t *open;
+};
+
 /* What becomes of a request, beside the numbers that it gives. */
 enum { NOT_READ = -10001, LOST = -10002 };
 
@@ -111,7 +89,7 @@ static void put_head(uint8_t *head, uint32_t number, const struct request *it, s
     put_number(head + 12, it->id, 4);
 }
 
-static int speak(struct line *line, const struct request *asked) {
+static int speak(struct line *line, uint32_t number, const struct request *asked) {
     uint8_t head[HEAD_BYTES];
     struct iovec parts[1 + MOST_PARTS] = {{head, sizeof head}};
     size_t length = 0;
@@ -119,7 +97,7 @@ static int speak(struct line *line, const struct request *asked) {
         parts[1 + n] = asked->fields[n];
         length += asked->fields[n].iov_len;
     }
-    put_head(head, line->number, asked, length);
+    put_head(head, number, asked, length);
     int wrong = wire_send(&line->wire, parts, 1 + asked->parts);
     return wrong == EPIPE ? NOT_READ : -wrong;
 }
@@ -129,20 +107,6 @@ static void cancel(struct line *line) {
     uint8_t head[HEAD_BYTES];
     put_head(head, 0, &(struct request){.operation = CANCEL, .id = line->number}, 0);
     (void)wire_send(&line->wire, &(struct iovec){head, sizeof head}, 1);
-}
-
-/* Waits until something is there: 0, EINTR or ETIMEDOUT. */
-static int wait_until(const struct line *line, const struct timespec *end) {
-    struct pollfd at = {.fd = line->wire.fd, .events = POLLIN};
-    for (;;) {
-        int left = left_until(end), ready = poll(&at, 1, left);
-        if (ready < 0)
-            return errno;
-        if (ready > 0)
-            return 0;
-        if (left == 0)
-            return ETIMEDOUT;
-    }
 }
 
 /* An answer that is read. */
@@ -182,14 +146,11 @@ static int without_more(struct reading *it, struct line *line, bool may_end, int
 }
 
 /* Reads more of an answer. The first wait for it is the one that a signal ends. */
-static int read_more(struct reading *it, struct line *line, const struct waiting *how) {
+static int read_more(struct reading *it, struct line *line, const struct making *what) {
     size_t more = 0;
-    int wrong = 0;
-    bool may_end = how->waits && it->got == 0 && it->why == 0;
-    if (may_end && how->end != NULL)
-        wrong = wait_until(line, how->end);
-    if (wrong == 0)
-        wrong = wire_receive(&line->wire, it->at, it->count, &more);
+    bool may_end = what->asked->how.waits && it->got == 0 && it->why == 0;
+    const struct endings endings = {may_end ? what->asked->how.end : NULL, what->open};
+    int wrong = wire_receive(&line->wire, it->at, it->count, &endings, &more);
     if (more == 0)
         return without_more(it, line, may_end, wrong);
     it->got += more;
@@ -200,11 +161,12 @@ static int read_more(struct reading *it, struct line *line, const struct waiting
 }
 
 /* Reads the one answer to its end: a request that is cancelled has one too, and the server decides which. */
-static int listen_to(struct line *line, const struct request *asked, struct answer *told) {
+static int listen_to(struct line *line, const struct making *what) {
+    struct answer *told = what->told;
     struct reading it;
     begin_reading(&it, line->number, told);
     while (it.got < it.whole) {
-        int wrong = read_more(&it, line, &asked->how);
+        int wrong = read_more(&it, line, what);
         if (wrong != 0)
             return wrong;
     }
@@ -217,43 +179,47 @@ static int listen_to(struct line *line, const struct request *asked, struct answ
     return code == CANCELLED ? -it.why : code == ENDS ? NOT_READ : (int)code;
 }
 
-/* A nap between two tries; EINTR where a signal has ended it and may. */
-static int nap(const struct waiting *how) {
-    static const struct timespec TIME = {0, 10000000};
-    return nanosleep(&TIME, NULL) != 0 && how->waits ? EINTR : 0;
-}
-
 /* Dials until somebody serves, or for as long as the patience and the request's end let it. */
-static int dial(struct server *server, struct line *line, const struct waiting *how) {
-    struct timespec until = later(now(), server->patience);
+static int dial(struct server *server, struct line *line, const struct making *what) {
+    const struct timespec *end = what->asked->how.end;
+    struct timespec until = moment_after(moment_now(), server->patience);
     for (;;) {
-        int wrong = wire_dial(&line->wire, server->socket);
+        int wrong = wire_dial(&line->wire, server->socket, what->open);
         if (wrong == ETIMEDOUT)
             /* (a limit has not ended: who has the socket does not greet) */
             return -ENOTCONN;
         if (wrong != ENOENT && wrong != ECONNREFUSED && wrong != ECONNRESET)
             return -wrong;
-        if (left_until(&until) == 0)
+        if (is_past(&until))
             return -ENOTCONN;
-        if (how->end != NULL && left_until(how->end) == 0)
+        if (end != NULL && is_past(end))
             return -ETIMEDOUT;
-        if (nap(how) != 0)
+        if (wire_nap(what->open) != 0)
             return -EINTR;
     }
 }
 
-/* One try of a request, on the thread's line. */
-static int try_once(struct server *server, struct line *line, const struct request *asked, struct answer *told) {
-    int done = 0;
+/* Sees to it that the thread's line is dialled, and to the numbers of so many requests: 0 is that of what has no answer. */
+static int be_ready(struct server *server, struct line *line, const struct making *what, uint32_t count) {
     if (!wire_is_own(&line->wire)) {
         wire_hang_up(&line->wire);
-        if ((done = dial(server, line, &asked->how)) != 0)
-            return done;
+        int wrong = dial(server, line, what);
+        if (wrong != 0)
+            return wrong;
     }
-    /* (0 is the number of what has no answer) */
-    line->number = line->number == UINT32_MAX ? 1 : line->number + 1;
-    if ((done = speak(line, asked)) == 0)
-        done = listen_to(line, asked, told);
+    if (line->number > UINT32_MAX - count)
+        line->number = 0;
+    line->number += count;
+    return 0;
+}
+
+/* One try of a request, on the thread's line. */
+static int try_once(struct server *server, struct line *line, const struct making *what) {
+    int done = be_ready(server, line, what, 1);
+    if (done != 0)
+        return done;
+    if ((done = speak(line, line->number, what->asked)) == 0)
+        done = listen_to(line, what);
     if (done < 0 && done != -EINTR && done != -ETIMEDOUT)
         wire_hang_up(&line->wire);
     return done;
@@ -266,22 +232,22 @@ struct ends {
 };
 
 /* Whether the request is made again, at the next server; else what it gives. */
-static bool asks_again(struct server *server, struct ends *it, const struct waiting *how, int *done) {
+static bool asks_again(struct server *server, struct ends *it, const struct making *what, int *done) {
     bool is_lost = *done == LOST;
-    if (*done != NOT_READ && !(is_lost && how->asks_again)) {
+    if (*done != NOT_READ && !(is_lost && what->asked->how.asks_again)) {
         if (is_lost || (*done == -ENOTCONN && !it->is_known))
             *done = -ECONNRESET;
         return false;
     }
-    struct timespec calm = later(it->last, server->patience);
-    if (!it->has_last || left_until(&calm) == 0)
-        it->until = later(now(), server->patience);
-    it->last = now();
+    struct timespec calm = moment_after(it->last, server->patience);
+    if (!it->has_last || is_past(&calm))
+        it->until = moment_after(moment_now(), server->patience);
+    it->last = moment_now();
     it->has_last = true;
     it->is_known = it->is_known && !is_lost;
-    if (left_until(&it->until) == 0)
+    if (is_past(&it->until))
         *done = it->is_known ? -ENOTCONN : -ECONNRESET;
-    else if (nap(how) != 0)
+    else if (wire_nap(what->open) != 0)
         *done = it->is_known ? -EINTR : -ECONNRESET;
     else
         return true;
@@ -289,16 +255,121 @@ static bool asks_again(struct server *server, struct ends *it, const struct wait
 }
 
 int server_ask(struct server *server, const struct request *asked, struct answer *told) {
+    sigset_t all, before;
+    struct making what = {asked, told, NULL};
     struct ends ends = {.is_known = true};
+    int done = -ENOMEM;
+    (void)sigfillset(&all);
+    if (asked->how.waits) {
+        if (pthread_sigmask(SIG_SETMASK, &all, &before) != 0)
+            return -EINVAL;
+        what.open = &before;
+    }
     struct line *line = line_begin(&server->lines, __builtin_frame_address(0));
-    int done;
+    if (line != NULL) {
+        do
+            done = try_once(server, line, &what);
+        while (asks_again(server, &ends, &what, &done));
+        line_end(&server->lines, line);
+    }
+    if (what.open != NULL)
+        (void)pthread_sigmask(SIG_SETMASK, &before, NULL);
+    return done;
+}
+
+/* ---- several at once */
+
+/* Requests under way, by their numbers from the first on, and their answers. */
+struct flight {
+    uint32_t first;
+    size_t count, left; /* how many there are, and are not answered */
+    struct answer *told;
+    int *done;
+};
+
+enum { UNDER_WAY = 1000000 };
+
+/* Takes one answer of so many bytes. */
+static bool take_answer(struct flight *it, const uint8_t *bytes, size_t whole) {
+    size_t place = (uint32_t)number_at(bytes + 4, 4) - it->first;
+    uint32_t code = (uint32_t)number_at(bytes + 8, 4);
+    if (place >= it->count || it->done[place] != UNDER_WAY || !is_code(code) || code == CANCELLED)
+        return false;
+    struct answer *told = &it->told[place];
+    told->length = whole - HEAD_BYTES;
+    if (code == DONE && told->length != told->least)
+        return false;
+    if (code == DONE)
+        memcpy(told->room->iov_base, bytes + HEAD_BYTES, told->length);
+    told->value = (uint32_t)number_at(bytes + 12, 4);
+    it->done[place] = code == ENDS ? -ENOTCONN : (int)code;
+    it->left--;
+    return true;
+}
+
+/* Hears answers until each request has one. */
+static int hear_all(struct line *line, struct flight *it) {
+    static const struct endings NEVER = {NULL, NULL};
+    uint8_t bytes[1024];
+    uint32_t number = line->number;
+    size_t count = 0, more, at, whole;
+    while (it->left > 0) {
+        const struct iovec rest = {bytes + count, sizeof bytes - count};
+        int wrong = wire_receive(&line->wire, &rest, 1, &NEVER, &more);
+        /* Behind a jump of a handler's that did not leave this, or in the child that it has made. */
+        if (line->number != number || line->wire.fd < 0 || !wire_is_of_process(&line->wire))
+            return -ECONNRESET;
+        if (wrong == EINTR)
+            continue;
+        if (wrong != 0 || more == 0)
+            return wrong == 0 ? -ECONNRESET : -wrong;
+        count += more;
+        for (at = 0; count - at >= HEAD_BYTES; at += whole) {
+            whole = 4 + (size_t)number_at(bytes + at, 4);
+            if (whole < HEAD_BYTES || whole > sizeof bytes)
+                return -EPROTO;
+            if (whole > count - at)
+                break;
+            if (!take_answer(it, bytes + at, whole))
+                return -EPROTO;
+        }
+        memmove(bytes, bytes + at, count - at);
+        count -= at;
+    }
+    return 0;
+}
+
+/* Sends all, and hears what is told of them. Where one can't be sent, neither is one behind it. */
+static int fly(struct line *line, const struct request *asked, struct flight *it) {
+    size_t sent = 0;
+    int wrong = 0, heard = -ECONNRESET;
+    for (; wrong == 0 && sent < it->count; sent += wrong == 0)
+        wrong = speak(line, it->first + (uint32_t)sent, &asked[sent]);
+    for (size_t n = 0; n < it->count; n++)
+        it->done[n] = n < sent ? UNDER_WAY : wrong == NOT_READ ? -ENOTCONN : wrong;
+    it->left = sent;
+    if (wrong != NOT_READ)
+        heard = hear_all(line, it);
+    for (size_t n = 0; n < it->count; n++)
+        if (it->done[n] == UNDER_WAY)
+            it->done[n] = heard;
+    return wrong != 0 ? wrong : heard;
+}
+
+int server_ask_all(struct server *server, const struct request *asked, struct answer *told, int *done, size_t count) {
+    const struct making what = {asked, told, NULL};
+    struct flight flight = {.count = count, .told = told, .done = done};
+    struct line *line = line_begin(&server->lines, __builtin_frame_address(0));
     if (line == NULL)
         return -ENOMEM;
-    do
-        done = try_once(server, line, asked, told);
-    while (asks_again(server, &ends, &asked->how, &done));
+    int wrong = be_ready(server, line, &what, (uint32_t)count);
+    if (wrong == 0) {
+        flight.first = line->number - (uint32_t)count + 1;
+        if (fly(line, asked, &flight) != 0)
+            wire_hang_up(&line->wire);
+    }
     line_end(&server->lines, line);
-    return done;
+    return wrong;
 }
 
 int server_greeting(struct server *server, struct greeting *greeting) {
@@ -308,7 +379,7 @@ int server_greeting(struct server *server, struct greeting *greeting) {
         return -ENOMEM;
     if (!wire_is_own(&line->wire)) {
         wire_hang_up(&line->wire);
-        wrong = wire_dial(&line->wire, server->socket);
+        wrong = wire_dial(&line->wire, server->socket, NULL);
     }
     *greeting = line->wire.greeting;
     line_end(&server->lines, line);

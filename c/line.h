@@ -79,6 +79,14 @@ void server_leave(struct server *server);
 /* Makes a request, and waits for its answer. */
 int server_ask(struct server *server, const struct request *asked, struct answer *told);
 
+/* At most so many requests are made at once. */
+enum { MOST_AT_ONCE = 32 };
+
+/* Makes requests that do not wait on one connection, one behind the other, and only then hears their answers, each of which has `least`
+ * bytes of fields where it is done, in one part of room. 0, and `done` tells of each what server_ask gives, or -ENOTCONN for one that was
+ * not made since its server ends; else the number of an error, and none was made. */
+int server_ask_all(struct server *server, const struct request *asked, struct answer *told, int *done, size_t count);
+
 /* ---- numbers in fields: little-endian */
 
 static inline void put_number(void *at, uint64_t number, int bytes) {

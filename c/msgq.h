@@ -120,6 +120,19 @@ int msgq_get(msgq *queues, int64_t key, int flags, uint32_t *id);
 int msgq_send(msgq *queues, uint32_t id, int64_t type, const void *body, size_t length, int flags,
               const struct timespec *limit);
 
+/* A message of several that are put. */
+struct msgq_outgoing {
+    int64_t type;
+    const void *body;
+    size_t length;
+    uint64_t serial; /* what is told: its number, or 0 where it was not put */
+};
+
+/* Puts messages on a queue in their order, as msgq_send does with MSGQ_NOWAIT, up to the first that is refused, and tells what that one is
+ * told. A server has up to 32 of them at once, and saves them together. Where others fill the queue meanwhile, a message behind the first
+ * that is refused may be put: it has a serial. ECONNRESET where a server is lost: of those without a serial it is not known then. */
+int msgq_send_all(msgq *queues, uint32_t id, struct msgq_outgoing *messages, size_t count);
+
 /* Takes the first message (type 0), the first of a type, or the first of the lowest type up to -type (type below 0). Waits as
  * msgq_send does. got may be NULL. */
 int msgq_receive(msgq *queues, uint32_t id, int64_t type, void *room, size_t size, int flags,

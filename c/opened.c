@@ -48,9 +48,18 @@ static int send(msgq *queues, struct sending *it, const struct timespec *end) {
     if (wrong != 0)
         return wrong;
     wrong = serve(file, send_now, it, end);
+    if (wrong != 0)
+        it->serial = 0;
     if (wrong == EAGAIN || wrong == ETIMEDOUT)
         it->has_met = msgq_session_stat(&file->session, it->call.id, &it->met) == DONE;
     return leave_changed(file, wrong);
+}
+
+static int send_all(msgq *queues, struct sending *all, size_t count) {
+    int wrong = 0;
+    for (size_t n = 0; wrong == 0 && n < count; n++)
+        wrong = send(queues, &all[n], NULL);
+    return wrong;
 }
 
 static uint32_t receive_now(struct opened_file *file, void *with) {
@@ -128,7 +137,7 @@ static int list(msgq *queues, uint32_t after, uint32_t *id) {
 }
 
 const struct calls OPENED_CALLS = {
-    .get = get, .send = send, .receive = receive, .reserve = reserve, .settle = settle,
+    .get = get, .send = send, .send_all = send_all, .receive = receive, .reserve = reserve, .settle = settle,
     .stat = stat, .set = set, .remove = remove_queue, .list = list,
     .save = opened_save, .stop = opened_stop, .close = opened_close, .abandon = opened_abandon,
 };

@@ -20,10 +20,12 @@ struct sending {
     const uint8_t *body;
     size_t length;
     bool asks_again;
-    uint64_t serial; /* of one that was sent */
+    uint64_t serial; /* of one that was sent, from 1 on */
     bool has_met; /* where there was no room: whether it is known what the queue was like */
     struct info met;
 };
+
+enum { MOST_TOGETHER = 32 };
 
 /* A message that is received or reserved. */
 struct receiving {
@@ -41,6 +43,8 @@ struct calls {
     bool is_served;
     int (*get)(msgq *, struct get_call *, uint32_t *id);
     int (*send)(msgq *, struct sending *, const struct timespec *end);
+    /* Up to MOST_TOGETHER that do not wait, in their order; each that was sent has a serial, and the others none. */
+    int (*send_all)(msgq *, struct sending *, size_t count);
     int (*receive)(msgq *, struct receiving *, const struct timespec *end);
     int (*reserve)(msgq *, struct receiving *, const struct timespec *end);
     int (*settle)(msgq *, uint32_t holding, bool is_done); /* acknowledged, or released */

@@ -51,7 +51,7 @@ int error_of(uint32_t code) {
     last_fault = code < WAITS ? code : 0;
     switch (code) {
     case NO_ROOM:
-        return why(ENOSPC, "the file has no room for a record: 'msgq copy' makes a larger one");
+        return why(ENOSPC, "the file has no room for a record: 'msgq grow' makes it larger");
     case NO_MEMORY:
         return why(ENOMEM, "out of memory");
     case FAILED:

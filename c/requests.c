@@ -38,6 +38,27 @@ int request_send(struct server *server, uint32_t id, uint8_t flags, const struct
     return done;
 }
 
+int request_send_all(struct server *server, uint32_t id, struct outgoing *all, size_t count) {
+    enum { SERIAL = 8 };
+    struct request asked[MOST_AT_ONCE] = {{0}};
+    struct answer told[MOST_AT_ONCE] = {{0}};
+    struct iovec room[MOST_AT_ONCE];
+    uint8_t fields[MOST_AT_ONCE][SERIAL];
+    int done[MOST_AT_ONCE];
+    for (size_t n = 0; n < count; n++) {
+        room[n] = (struct iovec){fields[n], SERIAL};
+        asked[n] = (struct request){
+            .operation = SEND, .flags = NO_WAIT, .id = id, .fields = all[n].message, .parts = 2, .how = SOON};
+        told[n] = (struct answer){.room = &room[n], .parts = 1, .least = SERIAL};
+    }
+    int wrong = server_ask_all(server, asked, told, done, count);
+    for (size_t n = 0; wrong == 0 && n < count; n++) {
+        all[n].done = done[n];
+        all[n].serial = done[n] == 0 ? number_at(fields[n], SERIAL) : 0;
+    }
+    return wrong;
+}
+
 /* Takes a message, by a request with so many bytes of fields. */
 static int take(struct server *server, const struct request *asked, const struct selection *it, struct taken *told) {
     enum { BEFORE = 16, TYPE = 8 };

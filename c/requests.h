@@ -39,6 +39,14 @@ int request_get(struct server *server, uint32_t key, uint8_t flags, uint16_t mod
 int request_send(struct server *server, uint32_t id, uint8_t flags, const struct iovec *message, size_t parts,
                  const struct waiting *how, uint64_t *serial);
 
+/* The same of several at once, up to MOST_AT_ONCE, which do not wait. 0, and `done` tells of each as server_ask_all does. */
+struct outgoing {
+    struct iovec message[2];
+    uint64_t serial;
+    int done;
+};
+int request_send_all(struct server *server, uint32_t id, struct outgoing *all, size_t count);
+
 /* What selects a message, and where it goes. */
 struct selection {
     uint32_t id;

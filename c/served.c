@@ -61,20 +61,66 @@ static struct waiting waiting_of(bool nowait, bool asks_again, const struct time
     return (struct waiting){.waits = !nowait, .asks_again = asks_again, .end = nowait ? NULL : end};
 }
 
-static int send(msgq *queues, struct sending *it, const struct timespec *end) {
-    uint8_t type[8];
+/* Where there was no room for a message it is asked what the queue is like. */
+static int meet(msgq *queues, struct sending *it, int wrong) {
     struct known known;
-    const struct iovec message[] = {{type, sizeof type}, {(void *)(uintptr_t)it->body, it->length}};
-    const struct waiting how = waiting_of(it->call.nowait, it->asks_again, end);
-    put_number(type, (uint64_t)it->call.mtype, 8);
-    int done = request_send(server_of(queues), it->call.id, it->call.nowait ? NO_WAIT : 0, message, 2, &how,
-                            &it->serial);
-    int wrong = error_of_request(queues, done);
     if ((wrong == EAGAIN || wrong == ETIMEDOUT) && request_stat(server_of(queues), it->call.id, &known) == 0) {
         it->has_met = true;
         tell_info(&it->met, &known);
     }
     return wrong;
+}
+
+static int send(msgq *queues, struct sending *it, const struct timespec *end) {
+    uint8_t type[8];
+    const struct iovec message[] = {{type, sizeof type}, {(void *)(uintptr_t)it->body, it->length}};
+    const struct waiting how = waiting_of(it->call.nowait, it->asks_again, end);
+    put_number(type, (uint64_t)it->call.mtype, 8);
+    int done = request_send(server_of(queues), it->call.id, it->call.nowait ? NO_WAIT : 0, message, 2, &how,
+                            &it->serial);
+    return meet(queues, it, error_of_request(queues, done));
+}
+
+/* Whether a queue has room for all of some messages, as far as nobody else sends to it. */
+static bool fits(msgq *queues, const struct sending *all, size_t count) {
+    enum { MOST_MESSAGES = 1024 };
+    struct known known;
+    size_t bytes = 0;
+    for (size_t n = 0; n < count; n++)
+        bytes += all[n].length;
+    return request_stat(server_of(queues), all->call.id, &known) == 0 && known.qnum + count <= MOST_MESSAGES
+        && known.cbytes + bytes <= known.qbytes;
+}
+
+_Static_assert((int)MOST_TOGETHER <= (int)MOST_AT_ONCE, "they may be under way at once");
+
+/* Has them all under way at once. */
+static int send_together(msgq *queues, const struct sending *all, size_t count, struct outgoing *outgoing) {
+    uint8_t types[MOST_TOGETHER][8];
+    for (size_t n = 0; n < count; n++) {
+        put_number(types[n], (uint64_t)all[n].call.mtype, 8);
+        outgoing[n] = (struct outgoing){
+            .message = {{types[n], 8}, {(void *)(uintptr_t)all[n].body, all[n].length}}, .done = -ENOTCONN};
+    }
+    return request_send_all(server_of(queues), all->call.id, outgoing, count);
+}
+
+/* Several at once where there is room for them, so that none that is shorter comes before one that is refused. */
+static int send_all(msgq *queues, struct sending *all, size_t count) {
+    struct outgoing outgoing[MOST_TOGETHER];
+    bool are_together = count > 1 && fits(queues, all, count) && send_together(queues, all, count, outgoing) == 0;
+    for (size_t n = 0; are_together && n < count; n++)
+        all[n].serial = outgoing[n].serial;
+    for (size_t n = 0; n < count; n++) {
+        if (all[n].serial != 0)
+            continue;
+        /* What was not made is made by itself, of the next server where this one ends. */
+        bool is_told = are_together && outgoing[n].done != -ENOTCONN;
+        int wrong = is_told ? meet(queues, &all[n], error_of_request(queues, outgoing[n].done)) : send(queues, &all[n], NULL);
+        if (wrong != 0)
+            return wrong;
+    }
+    return 0;
 }
 
 /* Takes a message by one of two requests. */
@@ -169,7 +215,7 @@ static int disconnect(msgq *queues) {
 
 static const struct calls CALLS = {
     .is_served = true,
-    .get = get, .send = send, .receive = receive, .reserve = reserve, .settle = settle,
+    .get = get, .send = send, .send_all = send_all, .receive = receive, .reserve = reserve, .settle = settle,
     .stat = stat, .set = set, .remove = remove_queue, .list = list,
     /* What was answered is the server's to save. */
     .save = save, .stop = stop, .close = disconnect, .abandon = disconnect,

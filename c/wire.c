@@ -1,7 +1,7 @@
 /* A connection to a server's socket. What only asks the kernel goes there by its number: another library that is loaded before this one
  * may have functions of the same names, which make calls of queues themselves; and a close is no place to be cancelled at. */
 #ifndef _GNU_SOURCE
-#define _GNU_SOURCE /* for O_PATH */
+#define _GNU_SOURCE /* for O_PATH and ppoll */
 #endif
 #include "wire.h"
 
@@ -9,13 +9,14 @@
 #include <fcntl.h>
 #include <libgen.h>
 #include <limits.h>
+#include <poll.h>
 #include <stdio.h>
 #include <string.h>
 #include <sys/socket.h>
 #include <sys/stat.h>
 #include <sys/syscall.h>
-#include <sys/time.h>
 #include <sys/un.h>
+#include <time.h>
 #include <unistd.h>
 
 enum { VERSION = 1, GREETING_BYTES = 36 };
@@ -52,6 +53,60 @@ void wire_hang_up(struct wire *it) {
     it->fd = -1;
 }
 
+/* ---- time */
+
+static const long SECOND = 1000000000; /* in nanoseconds */
+
+/* (This clock can always be read.) */
+struct timespec moment_now(void) {
+    struct timespec it = {0, 0};
+    (void)clock_gettime(CLOCK_MONOTONIC, &it);
+    return it;
+}
+
+struct timespec moment_after(struct timespec moment, struct timespec time) {
+    moment.tv_sec += time.tv_sec;
+    moment.tv_nsec += time.tv_nsec;
+    if (moment.tv_nsec >= SECOND) {
+        moment.tv_sec++;
+        moment.tv_nsec -= SECOND;
+    }
+    return moment;
+}
+
+struct timespec time_until(const struct timespec *moment) {
+    struct timespec left = moment_now();
+    left.tv_sec = moment->tv_sec - left.tv_sec;
+    left.tv_nsec = moment->tv_nsec - left.tv_nsec;
+    if (left.tv_nsec < 0) {
+        left.tv_sec--;
+        left.tv_nsec += SECOND;
+    }
+    return left.tv_sec < 0 ? (struct timespec){0, 0} : left;
+}
+
+bool is_past(const struct timespec *moment) {
+    struct timespec left = time_until(moment);
+    return left.tv_sec == 0 && left.tv_nsec == 0;
+}
+
+/* ---- waits */
+
+int wire_nap(const sigset_t *open) {
+    static const struct timespec TIME = {0, 10000000};
+    return ppoll(NULL, 0, &TIME, open) < 0 && open != NULL ? EINTR : 0;
+}
+
+/* Waits until a socket has something to be read, or room. */
+static int wait_for(int fd, short events, const struct endings *how) {
+    struct pollfd at = {.fd = fd, .events = events};
+    struct timespec left;
+    if (how->end != NULL)
+        left = time_until(how->end);
+    int ready = ppoll(&at, 1, how->end == NULL ? NULL : &left, how->open);
+    return ready < 0 ? errno : ready > 0 ? 0 : ETIMEDOUT;
+}
+
 /* ---- transfers */
 
 size_t parts_skip(struct iovec *parts, size_t count, size_t done, struct iovec **left) {
@@ -68,22 +123,27 @@ size_t parts_skip(struct iovec *parts, size_t count, size_t done, struct iovec *
     return count;
 }
 
+/* (For one request, and what cancels it, a socket always has room.) */
 int wire_send(const struct wire *it, struct iovec *parts, size_t count) {
     while (count > 0) {
         const struct msghdr message = {.msg_iov = parts, .msg_iovlen = count};
         ssize_t sent = sendmsg(it->fd, &message, MSG_NOSIGNAL);
-        if (sent < 0 && errno == EINTR)
-            continue;
-        if (sent < 0)
+        if (sent >= 0)
+            count = parts_skip(parts, count, (size_t)sent, &parts);
+        else if (errno == EAGAIN)
+            (void)wait_for(it->fd, POLLOUT, &(struct endings){NULL, NULL});
+        else if (errno != EINTR)
             return errno == ECONNRESET || errno == ENOTCONN ? EPIPE : errno;
-        count = parts_skip(parts, count, (size_t)sent, &parts);
     }
     return 0;
 }
 
-int wire_receive(const struct wire *it, const struct iovec *parts, size_t count, size_t *done) {
+int wire_receive(const struct wire *it, const struct iovec *parts, size_t count, const struct endings *how, size_t *done) {
     for (;;) {
         struct msghdr message = {.msg_iov = (struct iovec *)(uintptr_t)parts, .msg_iovlen = count};
+        int wrong = wait_for(it->fd, POLLIN, how);
+        if (wrong != 0)
+            return wrong;
         ssize_t more = recvmsg(it->fd, &message, 0);
         if (more >= 0) {
             *done = (size_t)more;
@@ -96,9 +156,9 @@ int wire_receive(const struct wire *it, const struct iovec *parts, size_t count,
 
 /* ---- dialling */
 
-/* A socket whose number is far from those that a program counts on. */
+/* A socket whose number is far from those that a program counts on. No call of it waits, but those that wait for it. */
 static int open_far(int *fd) {
-    int low = socket(AF_UNIX, SOCK_STREAM | SOCK_CLOEXEC, 0);
+    int low = socket(AF_UNIX, SOCK_STREAM | SOCK_CLOEXEC | SOCK_NONBLOCK, 0);
     if (low < 0)
         return errno;
     *fd = fcntl(low, F_DUPFD_CLOEXEC, FAR);
@@ -107,12 +167,6 @@ static int open_far(int *fd) {
     int wrong = *fd < 0 ? errno : 0;
     shut(low);
     return wrong;
-}
-
-/* Lets a receive end by itself after so long. With such a limit it is one of the calls that no handler restarts (signal(7)). */
-static int limit_to(int fd, time_t seconds) {
-    const struct timeval limit = {.tv_sec = seconds};
-    return setsockopt(fd, SOL_SOCKET, SO_RCVTIMEO, &limit, sizeof limit) == 0 ? 0 : errno;
 }
 
 /* Spells the address of a socket. One that is longer than an address may be is named from its folder, which is opened for it. */
@@ -136,12 +190,15 @@ static int address_of(const char *socket, struct sockaddr_un *address, int *fold
     return length < 0 || (size_t)length >= room ? ENAMETOOLONG : 0;
 }
 
-static int connect_to(int fd, const char *socket) {
+/* Connects; where too many are about to, that is tried again until the end. */
+static int connect_to(int fd, const char *socket, const struct endings *how) {
     struct sockaddr_un address;
     int folder, wrong = address_of(socket, &address, &folder);
     while (wrong == 0 && connect(fd, (const struct sockaddr *)&address, sizeof address) != 0)
-        if (errno != EINTR)
+        if (errno != EAGAIN && errno != EINTR)
             wrong = errno;
+        else
+            wrong = is_past(how->end) ? ETIMEDOUT : wire_nap(how->open);
     if (folder >= 0)
         shut(folder);
     return wrong == EISCONN ? 0 : wrong;
@@ -151,16 +208,15 @@ static uint32_t word_at(const uint8_t *at) {
     return at[0] | (uint32_t)at[1] << 8 | (uint32_t)at[2] << 16 | (uint32_t)at[3] << 24;
 }
 
-static int hear_greeting(struct wire *it) {
+static int hear_greeting(struct wire *it, const struct endings *how) {
     uint8_t frame[GREETING_BYTES];
     for (size_t got = 0, more; got < sizeof frame; got += more) {
-        struct msghdr message = {.msg_iov = &(struct iovec){frame + got, sizeof frame - got}, .msg_iovlen = 1};
-        ssize_t done = recvmsg(it->fd, &message, 0);
-        if (done < 0 && errno != EINTR)
-            return errno == EAGAIN ? ETIMEDOUT : errno;
-        if (done == 0)
-            return ECONNRESET;
-        more = done < 0 ? 0 : (size_t)done;
+        const struct iovec rest = {frame + got, sizeof frame - got};
+        int wrong = wire_receive(it, &rest, 1, how, &more);
+        if (wrong == EINTR && how->open == NULL)
+            more = 0;
+        else if (wrong != 0 || more == 0)
+            return wrong != 0 ? wrong : ECONNRESET;
     }
     it->greeting = (struct greeting){
         .version = word_at(frame + 12),
@@ -194,12 +250,14 @@ static int begin(struct wire *it) {
     return 0;
 }
 
-int wire_dial(struct wire *it, const char *socket) {
+int wire_dial(struct wire *it, const char *socket, const sigset_t *open) {
+    static const struct timespec LIMIT = {10, 0};
+    struct timespec end = moment_after(moment_now(), LIMIT);
+    const struct endings how = {&end, open};
     *it = NO_WIRE;
     int wrong = begin(it);
-    if (wrong == 0 && (wrong = limit_to(it->fd, 10)) == 0 && (wrong = connect_to(it->fd, socket)) == 0
-        && (wrong = hear_greeting(it)) == 0)
-        wrong = limit_to(it->fd, 3600);
+    if (wrong == 0 && (wrong = connect_to(it->fd, socket, &how)) == 0)
+        wrong = hear_greeting(it, &how);
     if (wrong != 0)
         wire_hang_up(it);
     return wrong;

@@ -65,6 +65,7 @@ def _record(**fields):
 
 _Timespec = _record(seconds=c_long, nanoseconds=c_long)
 _Message = _record(serial=c_uint64, type=c_int64, length=c_size_t, sender=c_uint32)
+_Outgoing = _record(type=c_int64, body=c_char_p, length=c_size_t, serial=c_uint64)
 _Info = _record(stime=c_uint64, rtime=c_uint64, ctime=c_uint64, id=c_uint32, key=c_int64, qnum=c_uint32, cbytes=c_uint32, qbytes=c_uint32,
                 lspid=c_uint32, lrpid=c_uint32, uid=c_uint32, gid=c_uint32, cuid=c_uint32, cgid=c_uint32, mode=c_uint16)
 _Change = _record(qbytes=c_uint32, uid=c_int64, gid=c_int64, mode=c_int32)
@@ -91,6 +92,7 @@ def _declared(library):
         "create": [c_char_p, number], "open": [c_char_p, POINTER(one)],
         "open_wait": [c_char_p, limit, POINTER(one)], "get": [one, c_int64, c_int, POINTER(number)],
         "send": [one, number, c_int64, c_char_p, c_size_t, c_int, limit],
+        "send_all": [one, number, POINTER(_Outgoing), c_size_t],
         "receive": [one, number, c_int64, c_char_p, c_size_t, c_int, limit, POINTER(_Message)],
         "connect": [c_char_p, POINTER(one)], "attach": [c_char_p, POINTER(one)], "is_served": [one],
         "reserve": [one, number, c_int64, c_char_p, c_size_t, c_int, limit, POINTER(_Message), POINTER(number)],
@@ -178,7 +180,7 @@ Message = namedtuple("Message", "body type sender serial")
 Info = namedtuple("Info", "id key qnum cbytes qbytes lspid lrpid stime rtime ctime uid gid cuid cgid mode")
 
 
-def create(path, pages=352):
+def create(path, pages=1000):
     """Makes a file of so many pages of 4,096 bytes, 258 to 65,536, without queues.
     FileExistsError where there is one of this name, Invalid for another number of pages, or what the system says."""
     _must(_lib.msgq_create(_path(path), _number(pages, _WORD, "pages")), path=path)
@@ -433,6 +435,20 @@ class Queue:
         body = bytes(memoryview(body))
         before = self.id, _number(type, _TYPE, "type"), body, len(body), (0 if wait else _NOWAIT) | (_AGAIN if again else 0)
         self._wait("send", self._waits(before, timeout))
+
+    def send_all(self, bodies, type=1):
+        """Puts messages of a type in their order, as `send` does that does not wait, and returns their serials. A server has up to 32 of them at
+        once, and saves them together.
+        What `send` raises for the first that is refused. The error's `serials` are of all, with 0 for each that was not put: on a file those
+        from that one on; at a server one behind it may be put where others fill the queue meanwhile."""
+        bodies, kind = [bytes(memoryview(body)) for body in bodies], _number(type, _TYPE, "type")
+        all = (_Outgoing * len(bodies))(*[(kind, body, len(body), 0) for body in bodies])
+        serials = lambda: [it.serial for it in all]
+        try:
+            return self._wait("send_all", [(self.id, all, len(all))], serials)
+        except OSError as error:
+            error.serials = serials()
+            raise
 
     def receive(self, type=0, *, size=_MAX_BODY, cut=False, wait=True, timeout=None, again=False):
         """Takes the first message (type 0), the first of a type, or the first of the lowest type up to -type; waits while there is none,

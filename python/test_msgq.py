@@ -45,7 +45,18 @@ with msgq.open(path) as queues:
     for body in (b"a", b"b", b"c"):
         queue.send(body)
     expect([message.body for message in queue], [b"a", b"b", b"c"], "the messages of a queue")
+    expect(queue.send_all([b"one\0two", bytearray(b"three"), b""], type=4), [6, 7, 8], "messages at once")
+    expect([(message.body, message.type) for message in queue], [(b"one\0two", 4), (b"three", 4), (b"", 4)], "what they are")
+    expect(queue.send_all([]), [], "no messages at once")
     queue.set(100, mode=0o600)
+    try:
+        queue.send_all([b"x" * 50, b"y" * 50, b"z"])
+        expect("nothing", "BlockingIOError", "what is raised")
+    except BlockingIOError as error:
+        expect(error.serials, [9, 10, 0], "what was put")
+    expect([message.body[:1] for message in queue], [b"x", b"y"], "what was put")
+    for wrong in ([5], ["text"], 5, [b"x" * 1025]):
+        expect(refusal(queue.send_all, wrong) in (TypeError, errno.EINVAL), True, f"send_all of {type(wrong)}")
     expect((queue.stat().qbytes, queue.stat().mode, queue.stat().key), (100, 0o600, 7), "what was set")
     other = queues.get()
     expect(other.stat().key, None, "a private queue")

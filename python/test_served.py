@@ -61,6 +61,12 @@ def calls(queues):
     return queue
 
 
+def many(queue):
+    serials = queue.send_all([b"%d" % n for n in range(70)], type=6)
+    expect(serials, list(range(serials[0], serials[0] + 70)), "seventy at once")
+    expect([int(message.body) for message in queue], list(range(70)), "in their order")
+
+
 def reservations(queue):
     queue.send(b"job", type=3)
     with queue.reserve() as job:
@@ -144,6 +150,7 @@ with msgq.connect(path + ".socket") as queues:
     expect(queues.is_served, True, "a server")
 queues = msgq.attach(path)
 queue = calls(queues)
+many(queue)
 reservations(queue)
 signals(queue)
 processes(queues, queue)

@@ -7,6 +7,13 @@ VERSION = 1
 MAX_BODY = 1024
 
 GET, SEND, RECEIVE, STAT, SET, REMOVE, NEXT, NTH, SAVE, INFO, CANCEL, RESERVE, ACKNOWLEDGE, RELEASE = range(1, 15)
+# Those that the relay answers by itself.
+COUNTS, FOLLOW = 32, 33
+A_MESSAGE, UNTOLD = 1, 2
+
+# What is counted.
+(BEGAN, CALLS, REFUSALS, CLIENTS, CAME, TURNED_AWAY, WAITS, WERE_SENT, WERE_RECEIVED, GROUPS, TIME_OF_GROUPS, FOLLOWERS,
+ WERE_UNTOLD) = range(1, 14)
 
 NOWAIT, NOERROR, CREATE, EXCLUSIVE, HAS_KEY, HAS_USER, HAS_GROUP, HAS_MODE = (1 << bit for bit in range(8))
 
@@ -27,6 +34,7 @@ Answer = collections.namedtuple("Answer", "number code value fields")
 Message = collections.namedtuple("Message", "serial sender type body")
 Stat = collections.namedtuple("Stat", "stime rtime ctime id key qnum cbytes qbytes lspid lrpid uid gid cuid cgid mode has_key")
 Info = collections.namedtuple("Info", "calls saves tries queues waiting pages highest")
+Event = collections.namedtuple("Event", "serial sender length type start")
 Record = collections.namedtuple("Record", "connection kind pid uid gid request")
 
 STAT_FORM, INFO_FORM, MESSAGE_FORM = "<3Q11I2H", "<3Q4I", "<QIIq"
@@ -115,6 +123,14 @@ def release(number, id):
     return request(number, RELEASE, id=id)
 
 
+def counts(number):
+    return request(number, COUNTS)
+
+
+def follow(number, id):
+    return request(number, FOLLOW, id=id)
+
+
 # ---- what a client gets
 
 
@@ -141,6 +157,15 @@ def read_stat(fields):
 
 def read_info(fields):
     return Info(*struct.unpack(INFO_FORM, fields))
+
+
+def read_counts(fields):
+    """Values by kind and label."""
+    return {(kind, label): value for kind, label, value in struct.iter_unpack("<IIQ", fields)}
+
+
+def read_event(fields):
+    return Event(*struct.unpack_from("<QIIq", fields), fields[24:])
 
 
 class Client:

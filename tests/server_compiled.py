@@ -5,6 +5,7 @@ import time
 
 import frames as f
 import server_clients as clients
+import server_watched as watched
 from serving import TOP, Server
 
 SANITIZED = ["-fsanitize=address,undefined", "-fno-sanitize-recover=all"]
@@ -28,13 +29,13 @@ def rows_of_sanitizers(room):
     # (so that it stands on no library)
     with open(no_do, "w") as file:
         file.write(f'#include "{TOP}/c/front/front.h"\n#include "{TOP}/c/front/served.h"\n')
-        for verb in ("do", "with", "list", "top"):
+        for verb in ("do", "with", "list", "stat", "top"):
             file.write(f"int {verb}_run(int count, char **words) {{ return count + (words == 0); }}\n")
         file.write("bool served_run(int count, char **words, int *status) { return *status = count, words == 0; }\n")
-    parts = [f"{TOP}/c/front/{it}.c" for it in ("main", "programs", "proved", "groups", "words")]
+    parts = [f"{TOP}/c/{it}.c" for it in ("wire", *(f"front/{it}" for it in ("main", "programs", "proved", "settling", "afar", "groups", "words")))]
     if compile(room, "the front", [*SANITIZED, "-o", made, no_do, *parts, *sources("relay")]):
         server = Server(room, room.file(), front=room.root("checked", room.core, made))
-        for rows in clients.ROWS:
+        for rows in (*clients.ROWS, *watched.ROWS):
             rows(room, server)
         room.judge("sanitized: it ends", (0, ""), (server.end(), server.said()))
         rows_of_pressure(room, room.root("pressed", f"{TOP}/tests/fake_core", made))
@@ -71,5 +72,31 @@ def rows_of_calls(room):
         if compile(room, f"relay.c, {name}", [*flags, "-o", root + "/bin/relay", *parts, *sources("relay"), *wraps]):
             done = subprocess.run([root + "/bin/relay", room.path("calls")], stdout=subprocess.PIPE, stderr=subprocess.STDOUT, text=True)
             room.judge(f"each call of the system fails in turn, {name}", (0, ", 0 failed\n"), (done.returncode, done.stdout[-11:]))
+            if done.returncode != 0:
+                print(done.stdout)
+
+
+def rows_of_asking(room):
+    """c/tests/afar.c, as it is and under sanitizers."""
+    parts = [f"{TOP}/c/{it}.c" for it in ("tests/afar", "front/afar", "front/census", "front/table", "wire")]
+    for name, flags in (("plain", []), ("sanitized", SANITIZED)):
+        made = room.path(f"afar-{name}")
+        if compile(room, f"afar.c, {name}", [*flags, "-o", made, *parts, "-Wl,--wrap=malloc,--wrap=realloc"]):
+            done = subprocess.run([made, room.path("afar")], stdout=subprocess.PIPE, stderr=subprocess.STDOUT, text=True)
+            room.judge(f"what a server is asked by itself, {name}", (0, ", 0 failed\n"), (done.returncode, done.stdout[-11:]))
+            if done.returncode != 0:
+                print(done.stdout)
+
+
+def rows_of_settling(room):
+    """c/tests/settling.c, as it is and under sanitizers."""
+    with open(f"{TOP}/c/tests/settling.wraps") as file:
+        wraps = file.read().split()
+    parts = [f"{TOP}/c/{it}.c" for it in ("tests/settling", "front/settling", "front/afar", "wire")]
+    for name, flags in (("plain", []), ("sanitized", SANITIZED)):
+        made = room.path(f"settling-{name}")
+        if compile(room, f"settling.c, {name}", [*flags, "-o", made, *parts, *wraps]):
+            done = subprocess.run([made, room.path("settled")], stdout=subprocess.PIPE, stderr=subprocess.STDOUT, text=True)
+            room.judge(f"calls in a journal that a command finds, {name}", (0, ", 0 failed\n"), (done.returncode, done.stdout[-11:]))
             if done.returncode != 0:
                 print(done.stdout)

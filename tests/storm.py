@@ -157,13 +157,15 @@ def rows(room):
     for name, log, there in (("received", taken, left[7]), ("reserved", kept, left[8])):
         sent, perhaps, got, lost = (log.get(it, []) for it in (SENT, PERHAPS, GOT, LOST))
         room.judge(f"storm, {name}: enough was done", True, len(sent) > 50 and len(got) > 20)
-        room.judge(f"storm, {name}: only what was sent", [], [it for it in got + there if it not in {*sent, *perhaps}])
-        room.judge(f"storm, {name}: nothing twice", (len(set(got)), len(set(there))), (len(got), len(there)))
-        room.judge(f"storm, {name}: what is gone is not there", [], [it for it in got if it in there])
-        lacks = [it for it in sent if it not in {*got, *there}]
+        known, found, taken_or_lost = {*sent, *perhaps}, {*there}, {*lost}
+        room.judge(f"storm, {name}: only what was sent", [], [it for it in got + there if it not in known])
+        room.judge(f"storm, {name}: nothing twice", (len(set(got)), len(found)), (len(got), len(there)))
+        room.judge(f"storm, {name}: what is gone is not there", [], [it for it in got if it in found])
+        gone_or_there = {*got, *there}
+        lacks = [it for it in sent if it not in gone_or_there]
         # A receive that was not answered may have taken one; of an acknowledgement it is known which.
         room.judge(f"storm, {name}: nothing is lost", True, len(lacks) <= len(lost))
         if name == "reserved":
-            room.judge("storm: nothing is lost but what was done with", [], [it for it in lacks if it not in lost])
+            room.judge("storm: nothing is lost but what was done with", [], [it for it in lacks if it not in taken_or_lost])
         room.judge(f"storm, {name}: no other refusal", [], [it for it in log if it.startswith("code")])
     print(f"storm: {sum(len(log.get(SENT, [])) for log in (taken, kept))} sends were answered, {len(taken.get(LOST, []))} receives were not")

@@ -6,6 +6,7 @@
 #include "jobs.h"
 #include "request.h"
 #include "served.h"
+#include "settling.h"
 #include "telling.h"
 #include "watch.h"
 
@@ -40,6 +41,7 @@ static const struct timespec *limit_of(const struct request *it) {
 
 /* Opens the file in its turn, and the lock file. */
 static int open_both(const struct request *it, msgq **queues, struct held *held) {
+    settle_file(it->file);
     int wrong = msgq_open_wait(it->file, limit_of(it), queues);
     if (wrong == 0 && (wrong = held_open(held, it->file)) != 0) {
         (void)msgq_abandon(*queues);
@@ -186,9 +188,11 @@ static int take_in_time(const struct request *it, struct held *held, struct job 
  * seconds. */
 static int open_again(const struct request *it, msgq **queues) {
     int wrong, left = PATIENCE * 5;
-    do
+    do {
+        /* (also where a server has had it meanwhile) */
+        settle_file(it->file);
         wrong = msgq_open_wait(it->file, msgq_within(200), queues);
-    while (wrong == ETIMEDOUT && (!signals_are_held() || --left > 0));
+    } while (wrong == ETIMEDOUT && (!signals_are_held() || --left > 0));
     return wrong;
 }
 

@@ -8,7 +8,10 @@
 #include <string.h>
 
 /* Which verbs an option is of. */
-enum { OF_SEND = 1 << SENDS, OF_RECEIVE = 1 << RECEIVES, OF_MAKE = 1 << MAKES, OF_SET = 1 << SETS };
+enum {
+    OF_SEND = 1 << SENDS, OF_RECEIVE = 1 << RECEIVES, OF_MAKE = 1 << MAKES, OF_SET = 1 << SETS,
+    OF_ALL = OF_SEND | OF_RECEIVE | OF_MAKE | 1 << REMOVES | OF_SET
+};
 
 static const char *const VERBS_OF_CALLS[] = {"send", "receive", "make", "remove", "set"};
 
@@ -84,6 +87,31 @@ static bool read_pages(struct errand *it, const char *value) {
     return read_up_to(value, 65536, &pages) && pages >= 258;
 }
 
+/* Of these the number is the proved program's to use, and a served file takes none. */
+static bool read_serial(struct errand *it, const char *value) {
+    uint64_t serial;
+    it->refused = "--serial";
+    return read_up_to(value, UINT64_MAX, &serial) && serial > 0;
+}
+
+static bool read_caller(struct errand *it, const char *value, const char *name) {
+    uint64_t number;
+    it->refused = name;
+    return read_up_to(value, UINT32_MAX, &number);
+}
+
+static bool read_pid(struct errand *it, const char *value) {
+    return read_caller(it, value, "--pid");
+}
+
+static bool read_uid(struct errand *it, const char *value) {
+    return read_caller(it, value, "--uid");
+}
+
+static bool read_gid(struct errand *it, const char *value) {
+    return read_caller(it, value, "--gid");
+}
+
 static const struct valued {
     const char *name;
     char letter;
@@ -98,6 +126,10 @@ static const struct valued {
     {"--group", '\0', OF_SEND | OF_RECEIVE | OF_MAKE | OF_SET, read_group},
     {"--shared", '\0', OF_SEND | OF_RECEIVE | OF_MAKE, read_shared},
     {"--pages", 'p', OF_SEND | OF_RECEIVE, read_pages},
+    {"--serial", '\0', OF_RECEIVE, read_serial},
+    {"--pid", '\0', OF_ALL, read_pid},
+    {"--uid", '\0', OF_ALL, read_uid},
+    {"--gid", '\0', OF_ALL, read_gid},
 };
 
 /* ---- options without one */

@@ -29,10 +29,11 @@ struct errand {
     uint32_t size;
     bool waits, has_limit;
     struct timespec limit;
+    const char *refused; /* an option that a served file does not take; NULL for none */
 };
 
-/* Reads the command line of a verb and what stands behind it. False where it is none of these verbs, or has a word that a served
- * file does not take or that is wrong: the proved program says what there is to say of it. */
+/* Reads the command line of a verb and what stands behind it. False where it is none of these verbs, or has a word that is wrong: the
+ * proved program says what there is to say of it. */
 bool read_errand(struct errand *it, int count, char **words);
 
 #endif

@@ -28,6 +28,7 @@ extern const struct verb VERBS[];
 
 int do_run(int count, char **words);
 int list_run(int count, char **words);
+int stat_run(int count, char **words);
 int top_run(int count, char **words);
 int serve_run(int count, char **words);
 int with_run(int count, char **words);

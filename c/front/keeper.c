@@ -51,7 +51,7 @@ static int open_lock(struct opened *it, const char *path) {
 /* Whether somebody serves there: 0, or why not. */
 static int look_for_server(const char *socket) {
     struct wire wire;
-    int wrong = wire_dial(&wire, socket);
+    int wrong = wire_dial(&wire, socket, NULL);
     wire_hang_up(&wire);
     return wrong;
 }

@@ -1,5 +1,6 @@
 /* `msgq list`: the table of the proved program, whose moments are shown as dates of the clock, and of which only some
  * rows may be asked for. */
+#include "follow.h"
 #include "front.h"
 #include "moments.h"
 #include "proved.h"
@@ -29,18 +30,19 @@ static const char USAGE[] =
     "      --since <MOMENT>        Only queues that were sent to, received from, made or set since then: a date\n"
     "                              as 2026-11-28 or '2026-11-28 15:04:05', or seconds\n"
     "      --older-than <SECONDS>  Only queues of which none of these is so near\n"
+    "      --follow                Of a queue of a file that is served: go on with each message that is sent to it\n"
     "  -h, --help                  Print help\n"
     "\n"
     "KEY is a number of 32 bits, decimal or behind 0x hexadecimal; or @ and the id of a queue.\n"
     "Exit status: 0 done; 1 a fault, or standard output refused a write; 2 the command line is wrong;\n"
-    "4 no queue has this key or id.\n"
+    "4 no queue has this key or id, or it was removed while it was followed.\n"
     "More: docs/SHELL.md, msgq(1).\n";
 
 /* What is asked for. */
 struct listing {
     struct clock clock;
-    bool is_raw, is_json, has_since, has_until;
-    const char *since, *age;
+    bool is_raw, is_json, has_since, has_until, follows;
+    const char *since, *age, *places[2];
     uint64_t least, most; /* the last deed of a queue that is shown lies between, in seconds */
     int names;            /* FILE and KEY, as far as they are given */
     char **words;         /* those of the proved program */
@@ -75,8 +77,14 @@ static int read_word(struct listing *it, struct words *words) {
         it->age = take_value(words, value);
         return it->age != NULL ? DONE : misuse("a value is required for '%s'", "--older-than <SECONDS>");
     }
+    if (strcmp(words->at[0], "--follow") == 0) {
+        it->follows = true;
+        (void)take_value(words, NULL);
+        return DONE;
+    }
     it->is_json |= strcmp(words->at[0], "--json") == 0;
-    it->names += words->at[0][0] != '-';
+    if (words->at[0][0] != '-' && it->names++ < 2)
+        it->places[it->names - 1] = words->at[0];
     it->words[it->count++] = words->at[0];
     (void)take_value(words, NULL);
     return DONE;
@@ -98,6 +106,8 @@ static int read_moments(struct listing *it) {
         return misuse("%s goes with a table of queues alone", it->has_since ? "--since" : "--older-than");
     if (it->is_raw && it->clock.is_utc)
         return misuse("%s can't be used with '--utc'", "'--raw'");
+    if (it->follows && (it->is_json || it->names != 2))
+        return misuse("%s goes with a FILE and a KEY, and not with '--json'", "--follow");
     return DONE;
 }
 
@@ -171,6 +181,8 @@ static bool print_table(const struct listing *it, FILE *table) {
 
 static int list(struct listing *it) {
     struct proved proved;
+    if (it->follows)
+        return follow(it->places[0], it->places[1]);
     if (it->is_json || (it->is_raw && !it->has_since && !it->has_until))
         return proved_become(it->words);
     if (!proved_begin(&proved, it->words, false))

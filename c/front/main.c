@@ -15,6 +15,7 @@ const struct verb VERBS[] = {
     {"serve", "Serves a file to other processes, through a socket", serve_run},
     {"with", "Runs a command whose message queues are those of a file", with_run},
     {"list", NULL, list_run},
+    {"stat", NULL, stat_run},
     {"top", "Shows the queues of a file, renewed each second", top_run},
     {NULL, NULL, NULL},
 };

@@ -2,6 +2,7 @@
 #include "proved.h"
 #include "front.h"
 #include "programs.h"
+#include "settling.h"
 
 #include <errno.h>
 #include <fcntl.h>
@@ -9,13 +10,18 @@
 #include <sys/wait.h>
 #include <unistd.h>
 
-int proved_become(char **words) {
+static int become(char **words) {
     char path[PROGRAM_BYTES];
     if (!find_program("msgq", path))
         return FAULT;
     (void)execv(path, words);
     complain("%s: it can't be run: %s", path, strerror(errno));
     return FAULT;
+}
+
+int proved_become(char **words) {
+    settle_files(words);
+    return become(words);
 }
 
 static void close_all(const int *files) {
@@ -26,6 +32,7 @@ static void close_all(const int *files) {
 
 bool proved_begin(struct proved *it, char **words, bool hears) {
     int files[4] = {-1, -1, -1, -1}; /* of its output, and of its errors: where each is read and written */
+    settle_files(words);
     *it = (struct proved){-1, NULL, NULL};
     int wrong = pipe2(files, O_CLOEXEC) == 0 && (!hears || pipe2(files + 2, O_CLOEXEC) == 0) ? 0 : errno;
     if (wrong == 0 && (it->child = fork()) < 0)
@@ -33,7 +40,7 @@ bool proved_begin(struct proved *it, char **words, bool hears) {
     if (it->child == 0) {
         if (dup2(files[1], STDOUT_FILENO) < 0 || (hears && dup2(files[3], STDERR_FILENO) < 0))
             _exit(FAULT);
-        _exit(proved_become(words));
+        _exit(become(words));
     }
     if (wrong == 0 && (it->output = fdopen(files[0], "r")) != NULL)
         files[0] = -1;
@@ -61,4 +68,13 @@ int proved_end(struct proved *it) {
         if (errno != EINTR)
             return FAULT;
     return WIFEXITED(status) ? WEXITSTATUS(status) : FAULT;
+}
+
+int proved_end_quietly(struct proved *it) {
+    char said[2048];
+    size_t count = fread(said, 1, sizeof said, it->errors);
+    int status = proved_end(it);
+    if (status != DONE)
+        (void)fwrite(said, 1, count, stderr);
+    return status;
 }

@@ -23,4 +23,8 @@ bool proved_begin(struct proved *it, char **words, bool hears);
 /* Waits for its end: its exit status, or FAULT where it has none. */
 int proved_end(struct proved *it);
 
+/* The same of one whose errors are heard, which are said where it did not end well: of a file that is served it says that
+ * this is open, which is no news. */
+int proved_end_quietly(struct proved *it);
+
 #endif

@@ -18,14 +18,25 @@
 
 /* ---- the server */
 
+/* The socket beside a file, which need not be there. */
+static bool spell_socket(const char *file, char path[PATH_MAX]) {
+    static const char SUFFIX[] = ".socket";
+    if (realpath(file, path) == NULL) {
+        if (errno != ENOENT || strlen(file) >= PATH_MAX)
+            return false;
+        strcpy(path, file);
+    }
+    size_t length = strlen(path);
+    if (length == 0 || length + sizeof SUFFIX > PATH_MAX)
+        return false;
+    memcpy(path + length, SUFFIX, sizeof SUFFIX);
+    return true;
+}
+
 bool connect_beside(const char *file, msgq **queues) {
     char path[PATH_MAX];
     struct stat found;
-    size_t length;
-    if (realpath(file, path) == NULL || (length = strlen(path)) + sizeof ".socket" > sizeof path)
-        return false;
-    memcpy(path + length, ".socket", sizeof ".socket");
-    if (stat(path, &found) != 0 || !S_ISSOCK(found.st_mode) || msgq_connect(path, queues) != 0)
+    if (!spell_socket(file, path) || stat(path, &found) != 0 || !S_ISSOCK(found.st_mode) || msgq_connect(path, queues) != 0)
         return false;
     (void)msgq_abandon(*queues);
     /* So that sentences name the file. */
@@ -124,24 +135,71 @@ static int refused(const struct errand *it, int wrong) {
     return wrong == ETIMEDOUT ? NOTHING : status_of(wrong);
 }
 
-/* Sends each body, a call each: what was sent before one that is refused stays. */
-static int send_all(msgq *queues, const struct errand *it, const struct bodies *bodies) {
-    uint32_t id;
-    size_t begin = 0, at = 0;
-    int wrong = find_in_time(queues, it, &id);
-    for (; wrong == 0 && at < bodies->number; at++) {
-        wrong = msgq_send(queues, id, it->type, bodies->bytes + begin, bodies->ends[at] - begin,
-                          it->waits ? 0 : MSGQ_NOWAIT, it->waits ? left_of(it) : NULL);
-        if (wrong != 0)
-            break;
-        begin = bodies->ends[at];
-        if (it->tells_serials)
-            printf("%" PRIu64 "\n", msgq_last_serial());
+/* Which lines were not sent, where some of them were, as `lines 3, 5 to 9`. */
+static void spell_unsent(const struct msgq_outgoing *all, size_t count, char *text, size_t room) {
+    size_t used = 0, end;
+    *text = '\0';
+    for (size_t at = 0; at < count; at = end) {
+        for (end = at; end < count && all[end].serial == 0; end++)
+            ;
+        /* (what has no room any more is left out) */
+        if (end > at && used < room)
+            used += (size_t)snprintf(text + used, room - used, end - at > 1 ? "%s%zu to %zu" : "%s%zu", used > 0 ? ", " : "",
+                                     at + 1, end);
+        else if (end == at)
+            end++;
     }
-    if (wrong != 0 && at > 0)
-        complain("%s: %zu of %zu lines were sent", it->file, at, bodies->number);
+}
+
+/* Puts all as far as there is room, and then waits with each that is left, in their order, where that is asked for. */
+static int put(msgq *queues, const struct errand *it, uint32_t id, struct msgq_outgoing *all, size_t count) {
+    int wrong = it->waits && count == 1 ? EAGAIN : msgq_send_all(queues, id, all, count);
+    if (wrong != EAGAIN || !it->waits)
+        return wrong;
+    for (size_t at = 0; at < count; at++) {
+        if (all[at].serial != 0)
+            continue;
+        wrong = msgq_send(queues, id, it->type, all[at].body, all[at].length, 0, left_of(it));
+        if (wrong != 0)
+            return wrong;
+        all[at].serial = msgq_last_serial();
+    }
+    return 0;
+}
+
+/* Says what was sent of what is refused, and prints the serials. */
+static int tell_sent(const struct errand *it, int wrong, const struct msgq_outgoing *all, size_t count) {
+    char unsent[512];
+    size_t sent = 0;
+    for (size_t at = 0; at < count; at++) {
+        sent += all[at].serial != 0;
+        if (all[at].serial != 0 && it->tells_serials)
+            printf("%" PRIu64 "\n", all[at].serial);
+    }
+    spell_unsent(all, count, unsent, sizeof unsent);
+    if (wrong != 0 && sent > 0)
+        complain("%s: %zu of %zu lines were sent, all but %s", it->file, sent, count, unsent);
     bool is_told = is_out(it->file, "what was to be sent is sent");
     return wrong != 0 ? refused(it, wrong) : is_told ? DONE : FAULT;
+}
+
+/* Sends each body, a call each. */
+static int send_all(msgq *queues, const struct errand *it, const struct bodies *bodies) {
+    uint32_t id;
+    struct msgq_outgoing *all = calloc(bodies->number + 1, sizeof *all);
+    if (all == NULL) {
+        complain("%s: nothing is sent: out of memory", it->file);
+        return FAULT;
+    }
+    for (size_t at = 0, begin = 0; at < bodies->number; begin = bodies->ends[at++])
+        all[at] = (struct msgq_outgoing){
+            .type = it->type, .body = bodies->bytes + begin, .length = bodies->ends[at] - begin};
+    int wrong = find_in_time(queues, it, &id);
+    if (wrong == 0)
+        wrong = put(queues, it, id, all, bodies->number);
+    int status = tell_sent(it, wrong, all, bodies->number);
+    free(all);
+    return status;
 }
 
 static int do_send(msgq *queues, const struct errand *it) {
@@ -164,16 +222,15 @@ static void print_message(const struct errand *it, const struct msgq_message *go
     (void)fwrite(room, 1, length, stdout);
 }
 
-/* Takes a message that is cut, or only if it is short enough: such a one is gone before it is printed. */
-static int receive_short(msgq *queues, const struct errand *it, uint32_t id, bool waits) {
-    uint8_t room[MSGQ_MAX_BODY];
-    struct msgq_message got;
-    int flags = (waits ? 0 : MSGQ_NOWAIT) | (it->may_cut ? MSGQ_NOERROR : 0);
-    int wrong = msgq_receive(queues, id, it->type, room, it->size, flags, waits ? left_of(it) : NULL, &got);
+/* A message that is longer than may be taken goes back. */
+static int give_back(msgq *queues, const struct errand *it, uint32_t holding, size_t length) {
+    int wrong = msgq_release(queues, holding);
     if (wrong != 0)
         return wrong;
-    print_message(it, &got, room);
-    return is_out(it->file, "the message was taken, and is lost") ? 0 : EIO;
+    complain("%s: queue %s%" PRIu32 ": E2BIG: the message has %zu bytes, more than %" PRIu32
+             ": it is back, last of its queue; --noerror cuts it",
+             it->file, it->queue.is_id ? "@" : "", it->queue.number, length, it->size);
+    return E2BIG;
 }
 
 /* Takes one message in hand, prints it, and takes it out for good once standard output took it. */
@@ -181,12 +238,12 @@ static int receive_one(msgq *queues, const struct errand *it, uint32_t id, bool 
     uint8_t room[MSGQ_MAX_BODY];
     struct msgq_message got;
     uint32_t holding;
-    if (it->size < sizeof room)
-        return receive_short(queues, it, id, waits);
     int wrong = msgq_reserve(queues, id, it->type, room, sizeof room, waits ? 0 : MSGQ_NOWAIT, waits ? left_of(it) : NULL,
                              &got, &holding);
     if (wrong != 0)
         return wrong;
+    if (got.length > it->size && !it->may_cut)
+        return give_back(queues, it, holding, got.length);
     print_message(it, &got, room);
     if (!is_out(it->file, "the message is back, last of its queue")) {
         (void)msgq_release(queues, holding);
@@ -207,6 +264,9 @@ static int do_receive(msgq *queues, const struct errand *it) {
     }
     if (wrong == EIO)
         return FAULT;
+    /* (which was said) */
+    if (wrong == E2BIG)
+        return REFUSED;
     if (wrong == 0 || (wrong == ENOMSG && taken > 0))
         return DONE;
     return refused(it, wrong);
@@ -245,7 +305,14 @@ bool served_run(int count, char **words, int *status) {
     msgq *queues;
     if (!read_errand(&it, count, words) || !connect_beside(it.file, &queues))
         return false;
-    *status = begin_wait(&it) ? deeds[it.deed](queues, &it) : FAULT;
+    if (it.refused != NULL) {
+        complain("%s: it is served, and there is no %s there: %s", it.file, it.refused,
+                 strcmp(it.refused, "--serial") == 0 ? "the server gives out the message that --type selects"
+                                                     : "the system tells the server who calls");
+        *status = MISUSE;
+    } else {
+        *status = begin_wait(&it) ? deeds[it.deed](queues, &it) : FAULT;
+    }
     /* Where the server has ended meanwhile the file was opened in its place. */
     int wrong = msgq_close(queues);
     if (wrong != 0) {

@@ -7,13 +7,18 @@
 
 /* ---- reading */
 
-static const char *const NAMES[QUEUE_FACTS] = {
-    "msgq_queue_messages",   "msgq_queue_bytes",          "msgq_queue_limit_bytes",
-    "msgq_queue_sent_total", "msgq_queue_received_total", "msgq_queue_last_send_timestamp_seconds",
+const char *const QUEUE_NAMES[QUEUE_FACTS] = {
+    "msgq_queue_messages",
+    "msgq_queue_bytes",
+    "msgq_queue_limit_bytes",
+    "msgq_queue_sent_total",
+    "msgq_queue_received_total",
+    "msgq_queue_last_send_timestamp_seconds",
+    "msgq_queue_last_receive_timestamp_seconds",
+    "msgq_queue_waiting_calls",
 };
 
-/* The row of an id, which is made where there is room and none of this id. They come in order of id. */
-static struct row *row_of(struct table *it, uint32_t id, const char *key) {
+struct row *table_row(struct table *it, uint32_t id, const char *key) {
     for (size_t at = it->count; at > 0; at--)
         if (it->rows[at - 1].id == id)
             return &it->rows[at - 1];
@@ -25,20 +30,25 @@ static struct row *row_of(struct table *it, uint32_t id, const char *key) {
     return row;
 }
 
+void table_begin(struct table *it) {
+    it->count = 0;
+    it->has_waits = false;
+    it->now = (int64_t)time(NULL);
+    if (clock_gettime(CLOCK_MONOTONIC, &it->at) != 0)
+        it->at = (struct timespec){0, 0};
+}
+
 void table_read(struct table *it, FILE *metrics) {
     char *line = NULL, name[64], key[12];
     size_t room = 0;
     uint32_t id;
     uint64_t value;
-    it->count = 0;
-    it->now = (int64_t)time(NULL);
-    if (clock_gettime(CLOCK_MONOTONIC, &it->at) != 0)
-        it->at = (struct timespec){0, 0};
+    table_begin(it);
     while (getline(&line, &room, metrics) >= 0) {
         if (sscanf(line, "%63[a-z_]{id=\"%" SCNu32 "\",queue=\"%11[a-z0-9]\"} %" SCNu64, name, &id, key, &value) != 4)
             continue;
         for (int fact = 0; fact < QUEUE_FACTS; fact++) {
-            struct row *row = strcmp(name, NAMES[fact]) == 0 ? row_of(it, id, key) : NULL;
+            struct row *row = strcmp(name, QUEUE_NAMES[fact]) == 0 ? table_row(it, id, key) : NULL;
             if (row != NULL)
                 row->facts[fact] = value;
         }
@@ -110,6 +120,12 @@ static int by_out(const void *one, const void *other) {
     return found != 0 ? found : by_messages(one, other);
 }
 
+static int by_waits(const void *one, const void *other) {
+    const struct row *a = one, *b = other;
+    int found = by_number((double)a->facts[QUEUE_WAITS], (double)b->facts[QUEUE_WAITS]);
+    return found != 0 ? found : by_messages(one, other);
+}
+
 /* The one to which longest nothing was sent first, and those without a message last. */
 static int by_age(const void *one, const void *other) {
     const struct row *a = one, *b = other;
@@ -133,7 +149,7 @@ static int by_key(const void *one, const void *other) {
 void table_sort(struct table *it, enum order order) {
     static int (*const orders[])(const void *, const void *) = {
         [BY_MESSAGES] = by_messages, [BY_BYTES] = by_bytes, [BY_IN] = by_in, [BY_OUT] = by_out,
-        [BY_AGE] = by_age,           [BY_KEY] = by_key,     [BY_ID] = by_id,
+        [BY_WAITS] = by_waits,       [BY_AGE] = by_age,     [BY_KEY] = by_key, [BY_ID] = by_id,
     };
     qsort(it->rows, it->count, sizeof *it->rows, orders[order]);
 }
@@ -141,9 +157,10 @@ void table_sort(struct table *it, enum order order) {
 /* ---- lines */
 
 /* The columns, from the one that a narrow screen keeps longest on. */
-enum { KEY, MESSAGES, IN, OUT, BYTES, LIMIT, AGE, ID, COLUMNS };
-static const char *const HEADINGS[COLUMNS] = {"KEY", "MESSAGES", "IN/S", "OUT/S", "BYTES", "LIMIT", "OLDEST", "ID"};
-static const int WIDTHS[COLUMNS] = {10, 8, 8, 8, 7, 7, 9, 10};
+enum { KEY, MESSAGES, IN, OUT, WAITS, BYTES, LIMIT, AGE, ID, COLUMNS };
+static const char *const HEADINGS[COLUMNS] = {"KEY",   "MESSAGES", "IN/S",   "OUT/S", "WAIT",
+                                              "BYTES", "LIMIT",    "OLDEST", "ID"};
+static const int WIDTHS[COLUMNS] = {10, 8, 8, 8, 5, 7, 7, 9, 10};
 
 /* Puts a cell behind those that are there, where it fits. */
 static bool put(char line[LINE_BYTES], size_t width, int column, const char *cell) {
@@ -154,11 +171,16 @@ static bool put(char line[LINE_BYTES], size_t width, int column, const char *cel
     return true;
 }
 
-void table_headings(char line[LINE_BYTES], size_t width) {
+/* The column behind one: calls that wait are a server's. */
+static int next_column(const struct table *it, int column) {
+    return column + 1 + (column + 1 == WAITS && !it->has_waits);
+}
+
+void table_headings(const struct table *it, char line[LINE_BYTES], size_t width) {
     int column = 0;
     *line = '\0';
     while (column < COLUMNS && put(line, width, column, HEADINGS[column]))
-        column++;
+        column = next_column(it, column);
 }
 
 /* A rate of a queue that the table before had. */
@@ -179,7 +201,8 @@ static void tell_age(char cell[32], int64_t seconds) {
 }
 
 static void tell(char cell[32], const struct table *it, const struct row *row, int column) {
-    static const int facts[COLUMNS] = {[MESSAGES] = QUEUE_MESSAGES, [BYTES] = QUEUE_BYTES, [LIMIT] = QUEUE_LIMIT};
+    static const int facts[COLUMNS] = {
+        [MESSAGES] = QUEUE_MESSAGES, [WAITS] = QUEUE_WAITS, [BYTES] = QUEUE_BYTES, [LIMIT] = QUEUE_LIMIT};
     if (column == KEY)
         (void)snprintf(cell, 32, "%s", row->key);
     else if (column == ID)
@@ -195,7 +218,7 @@ static void tell(char cell[32], const struct table *it, const struct row *row, i
 void table_line(const struct table *it, const struct row *row, char line[LINE_BYTES], size_t width) {
     char cell[32];
     *line = '\0';
-    for (int column = 0; column < COLUMNS; column++) {
+    for (int column = 0; column < COLUMNS; column = next_column(it, column)) {
         tell(cell, it, row, column);
         if (!put(line, width, column, cell))
             return;

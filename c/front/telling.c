@@ -8,6 +8,19 @@
 #include <stdio.h>
 #include <string.h>
 
+/* The library's sentence of a queue that it names by its id: where a key named it that stands there; and what raises a limit is a command. */
+static void complain_by_key(const char *file, const struct name *queue, const char *reason, const char *id) {
+    static const char RAISES[] = "msgq_set raises the limit, up to 65536";
+    int digits = (int)strspn(id, "0123456789");
+    const char *rest = id + digits, *raises = strstr(rest, RAISES);
+    int length = raises == NULL ? (int)strlen(rest) : (int)(raises - rest);
+    char command[512] = "";
+    if (raises != NULL)
+        (void)snprintf(command, sizeof command, "'msgq set %s @%.*s --qbytes 65536' allows user 0 more", file, digits, id);
+    complain("%.*s: queue %s%" PRIu32 "%.*s%s", (int)(id - strlen(": queue @") - reason), reason, queue->is_id ? "@" : "",
+             queue->number, length, rest, command);
+}
+
 void complain_of(const char *file, const struct name *queue, int wrong) {
     const char *reason = msgq_reason(), *at = strstr(reason, ": queue @");
     if (wrong == EACCES && *reason == '\0')
@@ -16,11 +29,10 @@ void complain_of(const char *file, const struct name *queue, int wrong) {
                  file, queue->is_id ? "@" : "", queue->number);
     else if (*reason == '\0')
         complain("%s: %s", file, strerror(wrong));
-    else if (at == NULL || queue->is_id)
+    else if (at == NULL)
         complain("%s", reason);
     else
-        complain("%.*s: queue %" PRIu32 "%s", (int)(at - reason), reason, queue->number,
-                 at + 9 + strspn(at + 9, "0123456789"));
+        complain_by_key(file, queue, reason, at + strlen(": queue @"));
 }
 
 int status_of(int wrong) {

@@ -1,4 +1,5 @@
 /* `msgq top`: a table of the queues of a file, renewed each second, on a terminal or as lines. */
+#include "census.h"
 #include "front.h"
 #include "proved.h"
 #include "screen.h"
@@ -15,7 +16,7 @@
 #define CALL "msgq top [OPTIONS] <FILE>"
 
 static const char USAGE[] =
-    "Shows the queues of a file, renewed each second\n"
+    "Shows the queues of a file or of a server, renewed each second\n"
     "\n"
     "Usage: " CALL "\n"
     "\n"
@@ -27,11 +28,12 @@ static const char USAGE[] =
     "      --every <SECONDS>  Renew it so often, in place of each second\n"
     "  -h, --help             Print help\n"
     "\n"
-    "Keys: q ends it. m, b, i, o, a, k and n sort it by messages, bytes, messages in and out a second, age, key\n"
-    "and id; j and k's neighbours, the space and -, turn the page.\n"
+    "Keys: q ends it. m, b, i, o, w, a, k and n sort it by messages, bytes, messages in and out a second, calls that\n"
+    "wait, age, key and id; the space and - turn the page.\n"
     "IN/S and OUT/S are messages a second since the table before. OLDEST is the least age that the oldest message\n"
-    "can have: the time since the last one was sent.\n"
-    "Where standard output is no terminal each table is printed as lines.\n"
+    "can have: the time since the last one was sent. WAIT, of a file that is served, are calls that wait there.\n"
+    "Where standard output is no terminal each table is printed as lines. In the place of FILE the socket of a server\n"
+    "may stand.\n"
     "Exit status: 0 done; 1 a fault, or standard output refused a write; 2 the command line is wrong.\n"
     "More: docs/SHELL.md, msgq(1).\n";
 
@@ -102,28 +104,57 @@ static void keep_trouble(struct top *it, FILE *errors) {
         memmove(it->trouble, it->trouble + 6, strlen(it->trouble + 6) + 1);
 }
 
-/* Looks at the file. Where it can't be read the table stays as it was, and the trouble is kept. */
-static bool look(struct top *it) {
+/* Reads the file, by the proved program. */
+static bool read_file(struct top *it, struct table *found) {
     static char name[] = "msgq", verb[] = "stat", option[] = "--metrics", end[] = "--";
     char *words[] = {name, verb, option, end, it->file, NULL};
     struct proved proved;
-    struct table *found = malloc(sizeof *found);
-    if (found == NULL || !proved_begin(&proved, words, true)) {
+    if (!proved_begin(&proved, words, true)) {
         (void)snprintf(it->trouble, sizeof it->trouble, "it can't be looked at: %s", strerror(errno));
-        free(found);
         return false;
     }
     table_read(found, proved.output);
     keep_trouble(it, proved.errors);
     bool is_read = proved_end(&proved) == DONE;
+    if (!is_read && it->trouble[0] == '\0')
+        (void)snprintf(it->trouble, sizeof it->trouble, "%.200s: it can't be read", it->file);
+    return is_read;
+}
+
+/* Asks a server: of a file that has on the disk what was answered, for who waits there. */
+static bool read_server(struct top *it, struct afar *server, struct table *found) {
+    struct census census;
+    bool is_read = true;
+    int wrong = census_begin(&census, server);
+    if (wrong == 0 && server->is_of_file && server->wire.greeting.mode == IS_DURABLE)
+        is_read = read_file(it, found);
+    else if (wrong == 0)
+        wrong = census_queues(server, &census, found);
+    if (wrong == 0)
+        census_waits(&census, found);
+    else
+        (void)snprintf(it->trouble, sizeof it->trouble, "%.180s: the server: %s", it->file, strerror(wrong));
+    census_end(&census);
+    return wrong == 0 && is_read;
+}
+
+/* Looks at the file or the server. Where it can't be read the table stays as it was, and the trouble is kept. */
+static bool look(struct top *it) {
+    struct afar server;
+    struct table *found = malloc(sizeof *found);
+    if (found == NULL) {
+        (void)snprintf(it->trouble, sizeof it->trouble, "it can't be looked at: %s", strerror(errno));
+        return false;
+    }
+    bool is_served = afar_begin(&server, it->file);
+    bool is_read = is_served ? read_server(it, &server, found) : read_file(it, found);
+    afar_end(&server);
     if (is_read) {
         it->trouble[0] = '\0';
         it->then = it->now;
         it->now = *found;
         table_compare(&it->now, &it->then);
         table_sort(&it->now, it->order);
-    } else if (it->trouble[0] == '\0') {
-        (void)snprintf(it->trouble, sizeof it->trouble, "%.200s: it can't be read", it->file);
     }
     free(found);
     return is_read;
@@ -152,7 +183,7 @@ static bool print_table(const struct top *it) {
     tell_time(it, moment);
     table_total(&it->now, line);
     (void)printf("%s  %s\n", moment, line);
-    table_headings(line, LINE_BYTES);
+    table_headings(&it->now, line, LINE_BYTES);
     (void)printf("%s\n", line);
     for (size_t at = 0; at < it->now.count; at++) {
         table_line(&it->now, &it->now.rows[at], line, LINE_BYTES);
@@ -196,7 +227,7 @@ static void draw(struct top *it, const struct screen *screen) {
     table_total(&it->now, total);
     (void)snprintf(line, sizeof line, "%s  %.140s", moment, total);
     screen_put(screen, 0, line, false);
-    table_headings(line, screen->columns);
+    table_headings(&it->now, line, screen->columns);
     screen_put(screen, 1, line, true);
     for (; shown < room; shown++) {
         size_t at = it->first + shown;
@@ -209,7 +240,7 @@ static void draw(struct top *it, const struct screen *screen) {
     if (it->trouble[0] != '\0')
         (void)snprintf(line, sizeof line, "%.150s", it->trouble);
     else
-        (void)snprintf(line, sizeof line, "%zu to %zu of %zu; q ends, m b i o a k n sort, space and - turn the page",
+        (void)snprintf(line, sizeof line, "%zu to %zu of %zu; q ends, m b i o w a k n sort, space and - turn the page",
                        it->now.count > 0 ? it->first + 1 : 0, last, it->now.count);
     screen_put(screen, 2 + room, line, false);
     (void)fflush(stdout);
@@ -217,8 +248,8 @@ static void draw(struct top *it, const struct screen *screen) {
 
 /* Does what a key asks for. */
 static void turn(struct top *it, const struct screen *screen, int key) {
-    static const char keys[] = "mbioakn";
-    static const enum order orders[] = {BY_MESSAGES, BY_BYTES, BY_IN, BY_OUT, BY_AGE, BY_KEY, BY_ID};
+    static const char keys[] = "mbiowakn";
+    static const enum order orders[] = {BY_MESSAGES, BY_BYTES, BY_IN, BY_OUT, BY_WAITS, BY_AGE, BY_KEY, BY_ID};
     const char *found = key > 0 && key < SCREEN_RESIZED ? strchr(keys, key) : NULL;
     size_t room = room_of(screen);
     if (found != NULL) {

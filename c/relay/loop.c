@@ -20,9 +20,13 @@
 enum { MOST_EVENTS = 256, MOST_ACCEPTS = 64, MUTED = 100, DRAINED = 2000 }; /* the last two in milliseconds */
 enum { MOST_BODY = 1024, VERSION = 1, OPERATION_SAVE = 9 };
 
-static int64_t milliseconds(void) {
+static uint64_t nanoseconds(void) {
     struct timespec now;
-    return clock_gettime(CLOCK_MONOTONIC, &now) != 0 ? 0 : (int64_t)now.tv_sec * 1000 + now.tv_nsec / 1000000;
+    return clock_gettime(CLOCK_MONOTONIC, &now) != 0 ? 0 : (uint64_t)now.tv_sec * 1000000000 + (uint64_t)now.tv_nsec;
+}
+
+static int64_t milliseconds(void) {
+    return (int64_t)(nanoseconds() / 1000000);
 }
 
 /* ---- it begins */
@@ -75,7 +79,8 @@ static bool change(struct relay *it, struct watch *watch, uint32_t events) {
 bool relay_begin(struct relay *it) {
     it->spare = open("/dev/null", O_RDONLY | O_CLOEXEC);
     it->epoll = epoll_create1(EPOLL_CLOEXEC);
-    bool has_table = clients_begin(&it->clients, it->options->clients);
+    bool has_table = clients_begin(&it->clients, &it->options->most);
+    lookout_begin(&it->lookout);
     it->clients.epoll = it->epoll;
     it->clients.core = &it->core;
     write_greeting(it);
@@ -156,6 +161,7 @@ static bool refuse(struct relay *it) {
     int file = accept4(it->listener.file, NULL, NULL, SOCK_CLOEXEC);
     int wrong = errno;
     close_one(file);
+    it->clients.counts.turned_away[LACKS_ROOM] += file >= 0;
     it->spare = open("/dev/null", O_RDONLY | O_CLOEXEC);
     errno = wrong;
     return file >= 0;
@@ -230,6 +236,7 @@ static void answer(void *with, const struct core_answer *answer) {
 
 static void hear_core(struct relay *it) {
     enum heard heard = it->phase == DRAINING ? HEARD : core_hear(&it->core, answer, it);
+    counts_group(&it->clients.counts, nanoseconds());
     if (heard != HEARD)
         lose_core(it, heard == CORE_ENDED ? "the core has ended" : "the core answers what is none");
 }
@@ -307,12 +314,13 @@ static void go_on(struct relay *it) {
 void relay_run(struct relay *it) {
     struct epoll_event events[MOST_EVENTS];
     while (it->phase != OVER) {
-        int count = epoll_wait(it->epoll, events, MOST_EVENTS, patience(it));
+        int count = lookout_wait(&it->lookout, it->epoll, events, MOST_EVENTS, patience(it));
         if (count < 0 && errno != EINTR) {
             complain("%s: it can't be served on: %s", it->options->file, strerror(errno));
             it->status = FAULT;
             return;
         }
+        it->clients.now = nanoseconds();
         for (int at = 0; at < count; at++)
             act(it, events[at].data.ptr, events[at].events);
         go_on(it);

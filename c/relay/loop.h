@@ -5,6 +5,7 @@
 #include "clients.h"
 #include "core.h"
 #include "listener.h"
+#include "lookout.h"
 #include "options.h"
 
 #include <stdint.h>
@@ -22,6 +23,7 @@ struct relay {
     struct core core;
     struct listener listener;
     struct clients clients;
+    struct lookout lookout;
     int epoll, spare; /* a descriptor to be let go of where there is no other */
     struct watch listens, signals, timer, core_in, core_out;
     enum phase phase;

@@ -5,6 +5,7 @@
 
 #include <errno.h>
 #include <grp.h>
+#include <inttypes.h>
 #include <stdio.h>
 #include <stdlib.h>
 #include <string.h>
@@ -33,6 +34,8 @@ static const char USAGE[] =
     "  -p, --pages <N>      Make it of so many pages [default: 4096]\n"
     "      --clients <N>    As many may be connected at once [default: 4096]\n"
     "      --waits <N>      As many calls may wait at once [default: 4096]\n"
+    "      --user-clients <N>  As many of one user may be connected at once [default: as many as may be]\n"
+    "      --user-waits <N>    As many calls of one user may wait at once [default: as many as may]\n"
     "  -h, --help           Print help\n"
     "\n"
     "It stays in the foreground, and says on standard output once it serves. TERM and INT end it: the file is saved,\n"
@@ -143,15 +146,28 @@ static int read_other(struct options *it, struct words *words) {
         bool is_right = read_count(value, 65536, &it->pages) && it->pages >= 258;
         return is_right ? DONE : misuse("'%s' is no number of pages, from 258 to 65536", value);
     }
-    if (take_option(words, "--clients", '\0', &value)) {
+    return -1;
+}
+
+/* Reads an option that bounds what clients may have; below 0 where the next word is another. */
+static int read_bound(struct options *it, struct words *words) {
+    const struct bound {
+        const char *name, *of;
+        uint32_t most, *count;
+    } all[] = {
+        {"--clients", "clients", MOST_CLIENTS, &it->most.clients},
+        {"--user-clients", "clients", MOST_CLIENTS, &it->most.user_clients},
+        {"--waits", "calls", MOST_WAITS, &it->waits},
+        {"--user-waits", "calls", MOST_WAITS, &it->most.user_waits},
+    };
+    const char *value;
+    for (size_t at = 0; at < sizeof all / sizeof *all; at++) {
+        char what[64];
+        if (!take_option(words, all[at].name, '\0', &value))
+            continue;
         value = take_value(words, value);
-        bool is_right = read_count(value, MOST_CLIENTS, &it->clients);
-        return is_right ? DONE : misuse("'%s' is no number of clients, from 1 to 1048576", value);
-    }
-    if (take_option(words, "--waits", '\0', &value)) {
-        value = take_value(words, value);
-        bool is_right = read_count(value, MOST_WAITS, &it->waits);
-        return is_right ? DONE : misuse("'%s' is no number of calls, from 1 to 65536", value);
+        (void)snprintf(what, sizeof what, "'%%s' is no number of %s, from 1 to %" PRIu32, all[at].of, all[at].most);
+        return read_count(value, all[at].most, all[at].count) ? DONE : misuse(what, value);
     }
     return -1;
 }
@@ -163,7 +179,7 @@ static int read_next(struct options *it, struct words *words, bool *is_chosen) {
     if (take_option(words, "--help", 'h', &value))
         return fputs(USAGE, stdout) < 0 || fflush(stdout) != 0 ? FAULT : -1;
     if ((status = read_durability(it, words, is_chosen)) >= 0 || (status = read_socket(it, words)) >= 0
-        || (status = read_other(it, words)) >= 0)
+        || (status = read_bound(it, words)) >= 0 || (status = read_other(it, words)) >= 0)
         return status;
     if ((words->at[0][0] == '-' && words->at[0][1] != '\0') || it->file != NULL)
         return misuse("unexpected argument '%s' found", words->at[0]);
@@ -175,10 +191,14 @@ int read_options(struct options *it, int count, char **at) {
     struct words words = {count, at};
     bool is_chosen = false;
     int status = DONE;
-    *it = (struct options){.mode = 0600, .pages = PAGES, .clients = CLIENTS, .waits = WAITS};
+    *it = (struct options){.mode = 0600, .pages = PAGES, .waits = WAITS, .most = {CLIENTS, 0, 0}};
     while (status == DONE && words.count > 0)
         status = read_next(it, &words, &is_chosen);
     if (status != DONE)
         return status;
+    if (it->most.user_clients == 0)
+        it->most.user_clients = it->most.clients;
+    if (it->most.user_waits == 0)
+        it->most.user_waits = it->waits;
     return it->file != NULL ? DONE : misuse("the following required argument was not provided: %s", "<FILE>");
 }

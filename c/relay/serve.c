@@ -86,7 +86,7 @@ static bool start_core(struct relay *it) {
     char program[PROGRAM_BYTES], waits[16];
     const char *words[] = {"msgqd", options->file, hows[options->durability], "--waits", waits, NULL};
     (void)snprintf(waits, sizeof waits, "%u", options->waits);
-    return find_program("msgqd", program) && core_start(&it->core, program, words, options->clients);
+    return find_program("msgqd", program) && core_start(&it->core, program, words, options->most.clients);
 }
 
 /* Says that it serves, on standard output and to a service manager. */

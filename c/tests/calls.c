@@ -115,6 +115,42 @@ static void a_message_comes_and_goes(msgq *queues, uint32_t id) {
     is(msgq_receive(queues, id, 0, NULL, 0, 0, NULL, NULL), 0, "one of no byte");
 }
 
+/* Several at once, up to the first that is refused. */
+static void several(msgq *queues) {
+    char long_one[MSGQ_MAX_BODY + 1] = "", room[8];
+    struct msgq_outgoing all[40];
+    struct msgq_message got;
+    struct msgq_change change = {.qbytes = 34, .uid = -1, .gid = -1, .mode = -1};
+    uint32_t id;
+    is(msgq_get(queues, MSGQ_PRIVATE, 0600, &id), 0, "a queue");
+    is(msgq_set(queues, id, &change), 0, "its limit");
+    for (int n = 0; n < 40; n++)
+        all[n] = (struct msgq_outgoing){n + 1, "x", 1, 77};
+    is(msgq_send_all(queues, id, all, 40), EAGAIN, "forty, of which 34 have room");
+    is(strstr(msgq_reason(), "its messages have 34 of 34 bytes, and this one 1") != NULL, 1, "why");
+    is((long long)all[33].serial, 34, "the last that has");
+    is((long long)all[34].serial, 0, "the first that has not");
+    is((long long)all[39].serial, 0, "the last that has not");
+    is((long long)msgq_last_serial(), 34, "the last serial");
+    is(msgq_receive(queues, id, 0, room, sizeof room, 0, NULL, &got), 0, "the first");
+    is(got.type == 1 && got.serial == 1, 1, "what it is");
+    is(msgq_send_all(queues, id, all, 1), 0, "one");
+    is((long long)all[0].serial, 35, "its serial");
+    is(msgq_send_all(queues, id, NULL, 0), 0, "none");
+    is(msgq_send_all(queues, id, NULL, 1), EINVAL, "no messages");
+    is(msgq_send_all(NULL, id, all, 1), EINVAL, "no file");
+    all[1].body = NULL;
+    is(msgq_send_all(queues, id, all, 2), EINVAL, "no body");
+    all[1] = (struct msgq_outgoing){1, long_one, sizeof long_one, 77};
+    is(msgq_send_all(queues, id, all, 2), EINVAL, "a body that is too long");
+    is((long long)(all[0].serial + all[1].serial), 0, "nothing was put");
+    all[1] = (struct msgq_outgoing){0, NULL, 0, 77};
+    is(msgq_receive(queues, id, 0, room, sizeof room, 0, NULL, &got), 0, "one more");
+    is(msgq_send_all(queues, id, all, 2), EINVAL, "a type that is none");
+    is(all[0].serial == 36 && all[1].serial == 0, 1, "the one before it was put");
+    is(msgq_remove(queues, id), 0, "its queue");
+}
+
 static void lists(msgq *queues, uint32_t id) {
     uint32_t first, second, found;
     struct msgq_change change = {.qbytes = 4, .uid = -1, .gid = -1, .mode = 0640};
@@ -256,6 +292,7 @@ int main(int argc, char **argv) {
     numbers_stay(queues, id);
     a_message_comes_and_goes(queues, id);
     lists(queues, id);
+    several(queues);
     a_child_is_refused(queues);
     a_save_writes_what_has_changed(queues, id);
     is(msgq_send(queues, id, 1, "kept", 4, 0, NULL), 0, "send");

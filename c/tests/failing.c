@@ -2,6 +2,7 @@
  * msgq.h: the number of the failure, and at the next opening the file as before or as after. Run with the path of a new file. */
 #include "../msgq.h"
 #include "faults.h"
+#include "sha256.h"
 
 #include <limits.h>
 
@@ -229,6 +230,40 @@ static void clock_fails(struct both start) {
     is(msgq_abandon(queues), 0, "abandon");
 }
 
+/* ---- calls in a journal */
+
+/* A journal of version 3 for a file of 352 pages, with an addition of five bytes. */
+static struct bytes calls(void) {
+    static unsigned char made[80 + 4 + 5 + 32] = "msgqundo\0\0\0\3\0\0\1\140\0\0\0\0\0\0\0\1";
+    static unsigned char all[32 + 4 + 5];
+    digest(made, 48, made + 48);
+    memcpy(made + 80, "\200\0\0\5calls", 9);
+    memcpy(all, made + 48, 32);
+    memcpy(all + 32, made + 80, 9);
+    digest(all, sizeof all, made + 89);
+    return (struct bytes){(char *)made, sizeof made};
+}
+
+/* A file whose journal has calls is refused, and where that can't be read that is told; nothing is written. */
+static void calls_are_read(struct bytes file) {
+    const struct both left = {file, calls()};
+    msgq *queues;
+    for (int kind = 0; kind < 2; kind++) {
+        bool was = true;
+        for (int at = 1; was && at < 60; at++) {
+            put(left);
+            arm(kind == 0 ? PREAD : MALLOC, at, kind == 0 ? EIO : ENOMEM);
+            int told = msgq_open(path, &queues);
+            was = disarm();
+            /* (the system may do without memory) */
+            is(told == ENOTSUP || (was && told == (kind == 0 ? EIO : ENOMEM)), true, "calls in a journal");
+            is(was && kind == 0 && told == ENOTSUP, false, "a read that fails");
+            is(has_bytes(path, left.file) && has_bytes(journal, left.journal), true, "both stay");
+        }
+        is(was, false, "each has failed");
+    }
+}
+
 int main(int argc, char **argv) {
     if (argc != 2)
         return 2;
@@ -273,6 +308,7 @@ int main(int argc, char **argv) {
         save_fails(start, call, ENOSPC);
     others(start);
     clock_fails(start);
+    calls_are_read(start.file);
     free(start.file.at);
     free(start.journal.at);
     printf("%d passed, %d failed\n", passed, failed);

@@ -38,19 +38,17 @@ static void on_signal(void (*handler)(int), int flags) {
     sigaction(SIGUSR1, &act, NULL);
 }
 
-/* Hears a receive, and interrupts it until the client says more: a signal that comes before it waits is none of the wait's. Where a
- * handler asks, that is a connection of its own, which ends with it. */
+/* Hears a receive, and interrupts it, until the client says more. Where a handler asks, that is a connection of its own, which ends with
+ * it. */
 static uint32_t interrupted(int fd) {
     uint32_t number = hear(fd, 3).number;
     struct pollfd at[] = {{.fd = fd, .events = POLLIN}, {.fd = listener, .events = POLLIN}};
-    for (int n = 0; n < 100 && (at[0].revents & POLLIN) == 0; n++)
-        if (poll(at, 2, 50) == 0)
-            kill(getppid(), SIGUSR1);
-        else if (at[1].revents != 0) {
-            int other = client();
-            answers(other, 1);
-            gone(other);
-        }
+    kill(getppid(), SIGUSR1);
+    while (poll(at, 2, 10000) > 0 && (at[0].revents & POLLIN) == 0) {
+        int other = client();
+        answers(other, 1);
+        gone(other);
+    }
     return number;
 }
 

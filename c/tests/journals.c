@@ -104,6 +104,19 @@ static void add(struct left *it, uint32_t page, const uint8_t *was) {
     it->count += IMAGE;
 }
 
+/* Adds an addition of calls: its length with the highest bit set, its bytes, and the digest. */
+static void add_calls(struct left *it, const char *calls) {
+    uint8_t all[SUM + 4 + 64];
+    uint32_t length = (uint32_t)strlen(calls);
+    memcpy(all, it->sum, SUM);
+    number(all + SUM, 0x80000000u | length);
+    memcpy(all + SUM + 4, calls, length);
+    digest(all, SUM + 4 + length, it->sum);
+    memcpy(it->bytes + it->count, all + SUM, 4 + length);
+    memcpy(it->bytes + it->count + 4 + length, it->sum, SUM);
+    it->count += 4 + length + SUM;
+}
+
 static void says(const char *words) {
     char whole[400];
     snprintf(whole, sizeof whole, "%s: %s", path, words);
@@ -153,6 +166,8 @@ static void is_none(const struct left *it, size_t count, uint32_t save, const ch
 
 static void journals(void) {
     static const char FOREIGN[] = "it can't be opened: its journal is of another file: put the file or the journal that belongs there";
+    static const char CALLS[] =
+        "it can't be opened: calls that a server has answered stand in its journal: any command of msgq on it brings them in, as 'msgq check'";
     static struct left it;
     static uint8_t more[(PAGES + 1) * PAGE];
     uint8_t *page = bytes + ROOT * PAGE, *first = bytes;
@@ -191,8 +206,18 @@ static void journals(void) {
         add(&it, PAGES, good);
         is_refused(&it, EBADMSG, FOREIGN);
     }
-    begin(&it, 3, 7, PAGES, good);
+    begin(&it, 4, 7, PAGES, good);
     is_refused(&it, ENOTSUP, "it can't be opened: its journal is of another version");
+    begin(&it, 3, 7, PAGES, good);
+    add_calls(&it, "calls");
+    is_refused(&it, ENOTSUP, CALLS);
+    is_none(&it, it.count - 1, 1, "calls that are cut");
+    it.bytes[it.count - 1]++;
+    is_none(&it, it.count, 1, "calls whose digest is wrong");
+    is_none(&it, HEAD + 3, 1, "calls without their length");
+    begin(&it, 3, 7, PAGES, good);
+    add(&it, ROOT, page);
+    is_none(&it, it.count, 1, "a page where calls have to stand");
     begin(&it, 2, 7, PAGES, good);
     add(&it, ROOT, page);
     is_none(&it, 1, 1, "a journal of one byte");

@@ -164,12 +164,11 @@ static void now_and_then(void) {
 
 /* ---- waits that end */
 
-/* Hears a receive, and interrupts it until it is cancelled: a signal that comes before the client waits is none of the wait's. */
+/* Hears a receive, and interrupts it at once, before the client waits or then: it is cancelled. */
 static uint32_t interrupted(int fd) {
     uint32_t number = hear(fd, 3).number;
-    struct pollfd at = {.fd = fd, .events = POLLIN};
-    for (int n = 0; n < 1000 && poll(&at, 1, 10) == 0; n++)
-        kill(getppid(), SIGUSR1);
+    kill(getppid(), SIGUSR1);
+    await(fd);
     must(hear(fd, 11).id == number, "what is cancelled");
     return number;
 }
@@ -220,6 +219,27 @@ static void cancelled(void) {
     is(receives(server, &WAITS), 0, "nor is an answer that has begun");
     server_end(server);
     has_ended("cancelled");
+}
+
+enum { STORM = 2000 };
+
+static void storms(void) {
+    int fd = client();
+    for (int n = 0; n < STORM; n++)
+        tell(fd, interrupted(fd), 200, 0, NULL, 0);
+    gone(fd);
+}
+
+/* One signal for each wait, as soon as the server has its request. */
+static void a_storm(void) {
+    int interrupted = 0;
+    serves(storms);
+    struct server *server = begun(1000);
+    for (int n = 0; n < STORM; n++)
+        interrupted += receives(server, &WAITS) == -EINTR;
+    is(interrupted, STORM, "waits that a signal has ended");
+    server_end(server);
+    has_ended("a storm of signals");
 }
 
 static void interrupted_away(void) {
@@ -305,6 +325,7 @@ int main(int argc, char **argv) {
     no_server_lasts();
     now_and_then();
     cancelled();
+    a_storm();
     unlink(path);
     interrupted_away();
     none();

@@ -8,6 +8,7 @@
 #include <errno.h>
 #include <fcntl.h>
 #include <grp.h>
+#include <sched.h>
 #include <signal.h>
 #include <stdarg.h>
 #include <stdbool.h>
@@ -53,13 +54,13 @@ void complain(const char *format, ...) {
 enum call {
     NONE, READLINK, REALPATH, STAT, LSTAT, OPEN, FLOCK, FTRUNCATE, PWRITE, MALLOC, CALLOC, REALLOC, PIPE, FORK, FCNTL, READ, SOCKET, BIND,
     LCHOWN, CHMOD, LISTEN, EPOLL_CREATE, EPOLL_CTL, EPOLL_WAIT, SIGNALFD, TIMERFD, TIMER, ACCEPT, GETSOCKOPT, RECV, SEND, CLOCK, LIMIT, RANDOM,
-    CALLS
+    AFFINITY, CALLS
 };
 
 static const char *const names[] = {
     "none", "readlink", "realpath", "stat", "lstat", "open", "flock", "ftruncate", "pwrite", "malloc", "calloc", "realloc", "pipe2", "fork",
     "fcntl", "read", "socket", "bind", "lchown", "chmod", "listen", "epoll_create1", "epoll_ctl", "epoll_wait", "signalfd", "timerfd_create",
-    "timerfd_settime", "accept4", "getsockopt", "recv", "send", "clock_gettime", "setrlimit", "getrandom",
+    "timerfd_settime", "accept4", "getsockopt", "recv", "send", "clock_gettime", "setrlimit", "getrandom", "sched_getaffinity",
 };
 
 static enum call which;
@@ -76,6 +77,16 @@ static bool is_now(enum call call) {
     kind __real_##name parameters; \
     kind __wrap_##name parameters; \
     kind __wrap_##name parameters { return is_now(call) ? (fails) : __real_##name arguments; }
+
+/* How often the relay looks before it sleeps is a matter of time: so a run of looks counts as one. */
+int __real_epoll_wait(int epoll, struct epoll_event *to, int count, int most);
+int __wrap_epoll_wait(int epoll, struct epoll_event *to, int count, int most);
+int __wrap_epoll_wait(int epoll, struct epoll_event *to, int count, int most) {
+    static int last = -1;
+    bool looks_again = most == 0 && last == 0;
+    last = most;
+    return !looks_again && is_now(EPOLL_WAIT) ? -1 : __real_epoll_wait(epoll, to, count, most);
+}
 
 WRAP(ssize_t, readlink, READLINK, -1, (const char *name, char *to, size_t size), (name, to, size))
 WRAP(char *, realpath, REALPATH, NULL, (const char *name, char *to), (name, to))
@@ -97,7 +108,6 @@ WRAP(int, chmod, CHMOD, -1, (const char *name, mode_t mode), (name, mode))
 WRAP(int, listen, LISTEN, -1, (int file, int count), (file, count))
 WRAP(int, epoll_create1, EPOLL_CREATE, -1, (int flags), (flags))
 WRAP(int, epoll_ctl, EPOLL_CTL, -1, (int epoll, int how, int file, struct epoll_event *event), (epoll, how, file, event))
-WRAP(int, epoll_wait, EPOLL_WAIT, -1, (int epoll, struct epoll_event *to, int count, int most), (epoll, to, count, most))
 WRAP(int, signalfd, SIGNALFD, -1, (int file, const sigset_t *set, int flags), (file, set, flags))
 WRAP(int, timerfd_create, TIMERFD, -1, (int clock, int flags), (clock, flags))
 WRAP(int, timerfd_settime, TIMER, -1, (int file, int flags, const struct itimerspec *to, struct itimerspec *was), (file, flags, to, was))
@@ -107,6 +117,7 @@ WRAP(ssize_t, recv, RECV, -1, (int file, void *to, size_t count, int flags), (fi
 WRAP(ssize_t, send, SEND, -1, (int file, const void *from, size_t count, int flags), (file, from, count, flags))
 WRAP(int, clock_gettime, CLOCK, -1, (clockid_t clock, struct timespec *to), (clock, to))
 WRAP(int, setrlimit, LIMIT, -1, (int what, const struct rlimit *to), (what, to))
+WRAP(int, sched_getaffinity, AFFINITY, -1, (pid_t process, size_t size, cpu_set_t *to), (process, size, to))
 WRAP(ssize_t, getrandom, RANDOM, -1, (void *to, size_t count, unsigned flags), (to, count, flags))
 
 int __real_fcntl(int file, int how, ...);
@@ -129,6 +140,8 @@ int __wrap_open(const char *path, int flags, ...) {
     return is_now(OPEN) ? -1 : __real_open(path, flags, mode);
 }
 
+enum { SEND_IT = 2, INFO_IT = 10, COUNT_IT = 32, FOLLOW_IT = 33 };
+
 /* ---- the core */
 
 static bool read_all(int file, uint8_t *to, size_t count) {
@@ -142,22 +155,22 @@ static bool read_all(int file, uint8_t *to, size_t count) {
     return true;
 }
 
-static void tell(uint32_t connection, uint32_t of) {
-    uint8_t record[20] = {16};
+static void tell(uint32_t connection, uint32_t of, bool has_serial) {
+    uint8_t record[28] = {has_serial ? 24 : 16};
     put_u32(record + 4, connection);
     put_u32(record + 8, of);
-    (void)!write(STDOUT_FILENO, record, sizeof record);
+    (void)!write(STDOUT_FILENO, record, 4 + (size_t)record[0]);
 }
 
-/* Answers each request that it was done. */
+/* Answers each request that it was done, a send with a serial. */
 static int be_core(void) {
     uint8_t record[2048];
-    tell(0, 0);
+    tell(0, 0, false);
     while (read_all(STDIN_FILENO, record, 4) && read_all(STDIN_FILENO, record + 4, get_u32(record))) {
         if (record[8] == 3)
             return 0;
         if (record[8] == 0)
-            tell(get_u32(record + 4), get_u32(record + 24));
+            tell(get_u32(record + 4), get_u32(record + 24), record[28] == SEND_IT);
     }
     return 0;
 }
@@ -166,15 +179,27 @@ static int be_core(void) {
 
 static char path[3000], socket_path[sizeof((struct sockaddr_un *)NULL)->sun_path];
 
-/* Asks for nothing in particular, and says whether it was answered. */
+/* Sends a request, of a send with 10 bytes of fields, and says whether it was done: answered next, by its number, in so many bytes or
+ * more. */
+static bool ask_one(int file, uint8_t operation, uint8_t number, size_t least) {
+    uint8_t count = operation == SEND_IT ? 10 : 0;
+    uint8_t request[64] = {(uint8_t)(12 + count), 0, 0, 0, number, 0, 0, 0, operation}, came[8192];
+    request[12] = operation == SEND_IT || operation == FOLLOW_IT;
+    return write(file, request, 16 + (size_t)count) == 16 + (ssize_t)count && read_all(file, came, 4)
+        && get_u32(came) <= sizeof came - 4 && read_all(file, came + 4, get_u32(came)) && get_u32(came) >= least
+        && get_u32(came + 4) == number && get_u32(came + 8) == 0;
+}
+
+/* Follows a queue, sends to it, is told so, and asks for counts: says whether each was answered. */
 static bool ask(void) {
     struct sockaddr_un name = {.sun_family = AF_UNIX};
-    uint8_t request[16] = {12, 0, 0, 0, 77, 0, 0, 0, 10}, came[52];
+    uint8_t came[64];
     strcpy(name.sun_path, socket_path);
     int file = __real_socket(AF_UNIX, SOCK_STREAM, 0);
+    /* The follower is told before the sender is answered. */
     bool is_answered = connect(file, (struct sockaddr *)&name, sizeof name) == 0 && read_all(file, came, 36)
-                    && write(file, request, sizeof request) == (ssize_t)sizeof request && read_all(file, came + 36, 16)
-                    && get_u32(came + 40) == 77;
+                    && ask_one(file, FOLLOW_IT, 76, 12) && ask_one(file, INFO_IT, 77, 12) && !ask_one(file, SEND_IT, 78, 12)
+                    && read_all(file, came, 24) && get_u32(came + 4) == 78 && ask_one(file, COUNT_IT, 79, 300);
     close(file);
     return is_answered;
 }
@@ -302,12 +327,14 @@ static void each_fails(void) {
         [CHMOD] = EPERM,     [LISTEN] = EOPNOTSUPP, [EPOLL_CREATE] = EMFILE, [EPOLL_CTL] = ENOSPC, [EPOLL_WAIT] = EINTR,
         [SIGNALFD] = EMFILE, [TIMERFD] = EMFILE,  [TIMER] = EINVAL,  [ACCEPT] = ENOBUFS,      [GETSOCKOPT] = ENOPROTOOPT,
         [RECV] = ECONNRESET, [SEND] = EPIPE,      [CLOCK] = EINVAL,  [LIMIT] = EPERM,         [RANDOM] = ENOSYS,
+        [AFFINITY] = EINVAL,
     };
     for (enum call call = NONE + 1; call < CALLS; call++) {
         int at = 1;
         while (fails_once(call, at, wrongs[call]) && at < 60)
             at++;
-        is(at < 60, true, names[call]);
+        /* (the clock is read again and again) */
+        is(at < 60 || call == CLOCK, true, names[call]);
     }
     for (int at = 1; fails_once(ACCEPT, at, EMFILE) && at < 60; at++)
         ;

@@ -104,7 +104,7 @@ static void calls(void) {
     serves(tells_codes);
     is(msgq_connect(path, &queues), 0, "connect");
     says(msgq_get(queues, 7, 0, &id), ENOSPC, path,
-         "queue 7: ENOSPC (fault 50): the file has no room for a record: 'msgq copy' makes a larger one");
+         "queue 7: ENOSPC (fault 50): the file has no room for a record: 'msgq grow' makes it larger");
     is(msgq_last_fault(), 50, "its fault");
     says(msgq_get(queues, 7, 0, &id), ENOMEM, path, "queue 7: ENOMEM (fault 60): out of memory");
     says(msgq_get(queues, 7, 0, &id), EIO, path, "queue 7: EIO (fault 62): the file has failed: it is to be opened anew");

@@ -1,97 +1,6 @@
 /* Each call of the system that a connection makes fails in turn: a request is told so, and the next one is done. What is expected stands in
  * line.h and wire.h. Run with the path of a new socket. */
-#include "scripted.h"
-
-#include <fcntl.h>
-#include <pthread.h>
-#include <stdarg.h>
-#include <sys/mman.h>
-#include <sys/syscall.h>
-
-/* ---- calls that fail */
-
-enum call {
-    NONE, SOCKET, FCNTL, FSTAT, SETSOCKOPT, CONNECT, RECVMSG, SENDMSG, POLL, MMAP, CALLOC, GETCWD, OPEN, NANOSLEEP, SIGMASK, SETSPECIFIC,
-    KEY_CREATE, ATFORK
-};
-
-static enum call which;
-static int when, times, number;
-
-/* Whether this call is one that fails. */
-static bool is_now(enum call call) {
-    if (call != which || --when > 0 || times == 0)
-        return false;
-    times--;
-    errno = number;
-    return true;
-}
-
-/* Lets a call of a kind fail, and so many behind it. */
-static void arm(enum call call, int at, int count, int wrong) {
-    which = call;
-    when = at;
-    times = count;
-    number = wrong;
-}
-
-static bool disarm(void) {
-    bool was = which != NONE && times == 0;
-    which = NONE;
-    return was;
-}
-
-#define WRAP(kind, name, call, fails, parameters, arguments) \
-    kind __real_##name parameters; \
-    kind __wrap_##name parameters; \
-    kind __wrap_##name parameters { return is_now(call) ? (fails) : __real_##name arguments; }
-
-WRAP(int, socket, SOCKET, -1, (int domain, int type, int protocol), (domain, type, protocol))
-WRAP(int, fcntl, FCNTL, -1, (int fd, int what, int with), (fd, what, with))
-WRAP(int, fcntl64, FCNTL, -1, (int fd, int what, int with), (fd, what, with))
-WRAP(int, setsockopt, SETSOCKOPT, -1, (int fd, int level, int what, const void *to, socklen_t size), (fd, level, what, to, size))
-WRAP(ssize_t, recvmsg, RECVMSG, -1, (int fd, struct msghdr *to, int flags), (fd, to, flags))
-WRAP(int, poll, POLL, -1, (struct pollfd *all, nfds_t count, int limit), (all, count, limit))
-WRAP(void *, mmap, MMAP, MAP_FAILED, (void *at, size_t size, int how, int flags, int fd, off_t from), (at, size, how, flags, fd, from))
-WRAP(void *, calloc, CALLOC, NULL, (size_t count, size_t size), (count, size))
-WRAP(char *, getcwd, GETCWD, NULL, (char *to, size_t size), (to, size))
-WRAP(int, open, OPEN, -1, (const char *name, int flags, mode_t mode), (name, flags, mode))
-WRAP(int, nanosleep, NANOSLEEP, -1, (const struct timespec *time, struct timespec *left), (time, left))
-WRAP(int, pthread_sigmask, SIGMASK, number, (int how, const sigset_t *to, sigset_t *was), (how, to, was))
-WRAP(int, pthread_setspecific, SETSPECIFIC, number, (pthread_key_t key, const void *to), (key, to))
-WRAP(int, pthread_key_create, KEY_CREATE, number, (pthread_key_t *key, void (*end)(void *)), (key, end))
-WRAP(int, pthread_atfork, ATFORK, number, (void (*before)(void), void (*parent)(void), void (*child)(void)), (before, parent, child))
-
-/* (one that is connected all the same) */
-int __real_connect(int fd, const struct sockaddr *to, socklen_t size);
-int __wrap_connect(int fd, const struct sockaddr *to, socklen_t size);
-int __wrap_connect(int fd, const struct sockaddr *to, socklen_t size) {
-    if (!is_now(CONNECT))
-        return __real_connect(fd, to, size);
-    if (number == EISCONN)
-        (void)__real_connect(fd, to, size);
-    errno = number;
-    return -1;
-}
-
-/* (a byte alone, where there is no number) */
-ssize_t __real_sendmsg(int fd, const struct msghdr *from, int flags);
-ssize_t __wrap_sendmsg(int fd, const struct msghdr *from, int flags);
-ssize_t __wrap_sendmsg(int fd, const struct msghdr *from, int flags) {
-    if (!is_now(SENDMSG))
-        return __real_sendmsg(fd, from, flags);
-    return number == 0 ? send(fd, from->msg_iov->iov_base, 1, flags) : -1;
-}
-
-long __real_syscall(long call, ...);
-long __wrap_syscall(long call, ...);
-long __wrap_syscall(long call, ...) {
-    va_list rest;
-    va_start(rest, call);
-    long first = va_arg(rest, long), second = va_arg(rest, long);
-    va_end(rest);
-    return call == SYS_fstat && is_now(FSTAT) ? -1 : __real_syscall(call, first, second);
-}
+#include "failures.h"
 
 /* ---- requests */
 
@@ -106,7 +15,7 @@ static void answers_all(void) {
             /* (a client may be gone by now, of which nothing is said) */
             close(2);
             greet(fd, 1);
-            while (__real_poll(&at, 1, 10000) == 1 && recv(fd, &byte, 1, MSG_PEEK) == 1) {
+            while (poll(&at, 1, 10000) == 1 && recv(fd, &byte, 1, MSG_PEEK) == 1) {
                 struct heard it = hear(fd, byte == 20 + 4 ? 3 : 7);
                 tell(fd, it.number, it.operation == 3 ? 7 : 0, 1, NULL, 0);
             }
@@ -141,14 +50,19 @@ static void dialling(void) {
     fails(FCNTL, 1, 1, EINVAL, 0, "no number that is far away");
     fails(FCNTL, 1, 2, EMFILE, -EMFILE, "no number");
     fails(FSTAT, 1, 1, ENOMEM, -ENOMEM, "a socket that is not known");
-    fails(SETSOCKOPT, 1, 1, EDOM, -EDOM, "no limit for the greeting");
-    fails(SETSOCKOPT, 2, 1, EDOM, -EDOM, "no limit for answers");
     fails(CONNECT, 1, 1, EACCES, -EACCES, "a socket that may not be used");
     fails(CONNECT, 1, 1, EINTR, 0, "a signal upon a connect");
     fails(CONNECT, 1, 1, EISCONN, 0, "a connect that was done");
     fails(CONNECT, 1, 3, ECONNREFUSED, 0, "nobody serves yet");
+    fails(CONNECT, 1, 3, EAGAIN, 0, "too many are about to connect");
+    takes = 11;
+    fails(CONNECT, 1, 1, EAGAIN, -ENOTCONN, "too many, for longer than ten seconds");
+    takes = 0;
     fails(RECVMSG, 1, 1, EINTR, 0, "a signal upon a greeting");
-    fails(RECVMSG, 1, 1, EAGAIN, -ENOTCONN, "no greeting in time");
+    fails(RECVMSG, 1, 1, EAGAIN, 0, "a greeting that is not there after all");
+    fails(POLL, 1, 1, EINTR, 0, "a signal upon the wait for a greeting");
+    fails(POLL, 1, 1, 0, -ENOTCONN, "no greeting in time");
+    fails(POLL, 1, 1, ENOMEM, -ENOMEM, "a wait that can't be begun");
     fails(RECVMSG, 1, 1, EIO, -EIO, "no greeting");
     fails(RECVMSG, 1, 1, ECONNRESET, 0, "a server that ends before it greets");
 }
@@ -160,17 +74,69 @@ static void asking(void) {
     fails(SENDMSG, 1, 1, ECONNRESET, 0, "a server that has ended with something unread");
     fails(SENDMSG, 1, 1, ENOTCONN, 0, "a socket that is not connected");
     fails(SENDMSG, 1, 1, EFAULT, -EFAULT, "a body that is no memory");
-    fails(RECVMSG, 2, 1, EAGAIN, 0, "an answer that comes after an hour");
+    fails(SENDMSG, 1, 1, EAGAIN, 0, "a socket without room");
+    fails(RECVMSG, 2, 1, EAGAIN, 0, "an answer that is not there after all");
     fails(RECVMSG, 2, 1, EINTR, 0, "a signal upon a call that does not wait");
+    fails(POLL, 2, 1, EINTR, 0, "a signal upon its wait");
     fails(RECVMSG, 2, 1, ECONNRESET, 0, "a server that has not read the request");
     fails(RECVMSG, 2, 1, EFAULT, -EFAULT, "room that is no memory");
+}
+
+/* ---- several at once */
+
+/* Two requests of which nobody needs to know more than that they were made. */
+static int asks_two(int *done) {
+    const struct request asked = {.operation = NEXT, .how = {.waits = false}}, two[] = {asked, asked};
+    uint8_t field;
+    const struct iovec nothing = {&field, 0};
+    struct answer told[2] = {{.room = &nothing, .parts = 1}, {.room = &nothing, .parts = 1}};
+    return server_ask_all(server, two, told, done, 2);
+}
+
+static void together(enum call call, int at, int wrong, int first, int second, const char *what) {
+    int done[2] = {77, 77};
+    fresh();
+    is(asks(), 0, "a request");
+    arm(call, at, 1, wrong);
+    is(asks_two(done), 0, what);
+    is(disarm(), true, "it is come to");
+    is(done[0], first, what);
+    is(done[1], second, what);
+    is(asks_two(done), 0, "two behind them");
+    is(done[0] == 0 && done[1] == 0, true, "two behind them");
+    server_end(server);
+    is(descriptor(), -1, "what is left");
+}
+
+static void several(void) {
+    int done[2];
+    together(SENDMSG, 1, EPIPE, -ENOTCONN, -ENOTCONN, "a server that has ended");
+    together(SENDMSG, 2, EPIPE, -ECONNRESET, -ENOTCONN, "a server that ends between");
+    together(SENDMSG, 2, EFAULT, 0, -EFAULT, "a body that is no memory");
+    together(SENDMSG, 2, EAGAIN, 0, 0, "a socket without room");
+    together(POLL, 1, EINTR, 0, 0, "a signal upon their answers");
+    together(POLL, 1, ENOMEM, -ENOMEM, -ENOMEM, "a wait that can't be begun");
+    together(RECVMSG, 1, EIO, -EIO, -EIO, "no answers");
+    fresh();
+    arm(SOCKET, 1, 1, EMFILE);
+    is(asks_two(done), -EMFILE, "no socket");
+    is(disarm(), true, "it is come to");
+    arm(SETSPECIFIC, 1, 1, ENOMEM);
+    is(asks_two(done), 0, "a line that is there");
+    disarm();
+    server_end(server);
+    fresh();
+    arm(SETSPECIFIC, 1, 1, ENOMEM);
+    is(asks_two(done), -ENOMEM, "no memory for a thread's line");
+    is(disarm(), true, "it is come to");
+    server_end(server);
 }
 
 /* A nap that a signal ends is one of a request that does not wait. */
 static void naps(void) {
     fresh();
     unlink(path);
-    arm(NANOSLEEP, 1, 3, EINTR);
+    arm(NAP, 1, 3, EINTR);
     struct server *short_one = begun(30);
     server_end(server);
     server = short_one;
@@ -185,10 +151,79 @@ static void a_limit(void) {
     clock_gettime(CLOCK_MONOTONIC, &soon);
     soon.tv_sec += 10;
     fresh();
+    is(asks(), 0, "a request");
     arm(POLL, 1, 1, ENOMEM);
     is(receives(server, &how), -ENOMEM, "a wait that can't be begun");
     is(disarm(), true, "it is come to");
+    arm(SIGMASK, 1, 1, EINVAL);
+    is(receives(server, &how), -EINVAL, "signals are not held back");
+    is(disarm(), true, "it is come to");
     is(receives(server, &how), 7, "the one behind it");
+    server_end(server);
+}
+
+/* ---- signals that come before a wait */
+
+static volatile sig_atomic_t handled;
+
+static void handles(int which_one) {
+    (void)which_one;
+    handled++;
+}
+
+static bool is_held(void) {
+    sigset_t now;
+    (void)pthread_sigmask(SIG_SETMASK, NULL, &now);
+    return sigismember(&now, SIGUSR1) || sigismember(&now, SIGTERM);
+}
+
+/* Answers a receive once it is cancelled. */
+static void answers_cancels(void) {
+    int fd = client();
+    for (int n = 0; n < 2; n++) {
+        uint32_t heard = hear(fd, 3).number;
+        await(fd);
+        must(hear(fd, 11).id == heard, "what is cancelled");
+        tell(fd, heard, 200, 0, NULL, 0);
+    }
+    gone(fd);
+}
+
+/* A call that waits is interrupted by a signal from its beginning on, wherever that meets it. */
+static void signals(void) {
+    static const struct {
+        enum call call;
+        int expected;
+        const char *what;
+    } ways[] = {{SENDMSG, -EINTR, "a signal between the request and the wait"}, {CONNECT, -EINTR, "a signal upon a connect"}};
+    struct sigaction act = {.sa_handler = handles, .sa_flags = SA_RESTART};
+    sigaction(SIGUSR1, &act, NULL);
+    for (size_t n = 0; n < sizeof ways / sizeof *ways; n++) {
+        begin(answers_cancels);
+        handled = 0;
+        arm(ways[n].call, 1, 1, SIGNAL);
+        is(receives(server, &WAITS), ways[n].expected, ways[n].what);
+        is(disarm(), true, "it is come to");
+        is(handled, 1, "the handler has run");
+        is(is_held(), false, "signals are held back behind it");
+        if (ways[n].call == CONNECT) {
+            /* Of which the server has not heard. */
+            kill(process, SIGKILL);
+            waitpid(process, NULL, 0);
+            server_end(server);
+            continue;
+        }
+        arm(SENDMSG, 1, 1, SIGNAL);
+        is(receives(server, &WAITS), -EINTR, ways[n].what);
+        is(disarm(), true, "it is come to");
+        end(ways[n].what);
+    }
+    /* Between two tries: nobody serves. */
+    unlink(path);
+    server = begun(10000);
+    arm(CONNECT, 1, 1, SIGNAL);
+    is(receives(server, &WAITS), -EINTR, "a signal while nobody serves");
+    is(disarm(), true, "it is come to");
     server_end(server);
 }
 
@@ -210,7 +245,7 @@ static void beginnings(void) {
     long_one[sizeof long_one - 1] = '\0';
     struct wire wire;
     is(server_begin(long_one, 100, &made), ENAMETOOLONG, "a name that is too long");
-    is(wire_dial(&wire, long_one), ENAMETOOLONG, "a name that is too long");
+    is(wire_dial(&wire, long_one, NULL), ENAMETOOLONG, "a name that is too long");
     snprintf(long_one, 300, "/tmp/%0*d/s", 150, 0);
     struct greeting greeting;
     is(server_begin(long_one, 100, &made), 0, "a name that is long");
@@ -255,10 +290,13 @@ int main(int argc, char **argv) {
     once();
     dialling();
     asking();
+    several();
     a_limit();
     naps();
     beginnings();
     kill(process, SIGKILL);
+    waitpid(process, NULL, 0);
+    signals();
     unlink(path);
     printf("%d passed, %d failed\n", passed, failed);
     return failed > 0;

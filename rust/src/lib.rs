@@ -25,6 +25,7 @@ compile_error!("the structs of msgq.h are known for targets of 64 bits alone");
 mod error;
 mod raw;
 mod reserved;
+mod together;
 mod values;
 
 pub use error::Error;
@@ -36,6 +37,7 @@ use std::os::unix::ffi::OsStrExt;
 use std::path::Path;
 use std::ptr;
 use std::time::Duration;
+pub use together::Unsent;
 pub use values::{Change, Create, Info, Key, Message, Wait};
 
 const CREATE: c_int = 0o1000;

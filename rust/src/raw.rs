@@ -18,6 +18,14 @@ pub struct Message {
 }
 
 #[repr(C)]
+pub struct Outgoing {
+    pub mtype: i64,
+    pub body: *const u8,
+    pub length: usize,
+    pub serial: u64,
+}
+
+#[repr(C)]
 #[derive(Default)]
 pub struct Info {
     pub stime: u64,
@@ -68,6 +76,7 @@ extern "C" {
         flags: c_int,
         limit: *const Timespec,
     ) -> c_int;
+    pub fn msgq_send_all(queues: Handle, id: u32, messages: *mut Outgoing, count: usize) -> c_int;
     pub fn msgq_receive(
         queues: Handle,
         id: u32,

@@ -50,6 +50,28 @@ fn a_message_is_kept() {
 }
 
 #[test]
+fn messages_are_put_at_once() {
+    let file = NewFile::new("at-once");
+    let queues = Queues::open(&file.0).unwrap();
+    let id = queues.get(Key::Private, Create::Never, 0o600).unwrap();
+    let three: [(i64, &[u8]); 3] = [(2, b"one"), (1, b""), (3, b"three")];
+    assert_eq!(queues.send_all(id, &three).unwrap(), [1, 2, 3]);
+    assert_eq!(queues.receive(id, -2, Wait::Never).unwrap().serial, 2);
+    let change = Change {
+        qbytes: 12,
+        uid: None,
+        gid: None,
+        mode: None,
+    };
+    queues.set(id, &change).unwrap();
+    let unsent = queues.send_all(id, &three).unwrap_err();
+    assert_eq!(unsent.serials, [Some(4), Some(5), None]);
+    assert_eq!(unsent.error.name(), Some("EAGAIN"));
+    assert!(unsent.to_string().ends_with("(2 of 3 messages were put)"));
+    assert!(queues.send_all(id, &[]).unwrap().is_empty());
+}
+
+#[test]
 fn refusals_are_told() {
     let file = NewFile::new("refusals");
     let queues = Queues::open(&file.0).unwrap();

@@ -64,6 +64,10 @@ fn calls(queues: &Queues, id: u32) {
     assert_eq!(message.sender, std::process::id());
     assert_eq!(name(queues.receive(id, 0, Wait::Never)), Some("ENOMSG"));
     assert_eq!(name(queues.receive(id, 0, SOON)), Some("ETIMEDOUT"));
+    let many: Vec<(i64, &[u8])> = vec![(5, b"y"); 70];
+    let serials: Vec<u64> = (2..72).collect();
+    assert_eq!(queues.send_all(id, &many).unwrap(), serials);
+    while queues.receive(id, 5, Wait::Never).is_ok() {}
     assert_eq!(name(queues.stop()), Some("ENOTSUP"));
     assert_eq!(queues.ids().collect::<Result<Vec<_>, _>>().unwrap(), [id]);
     queues.save().unwrap();

@@ -3,11 +3,11 @@
 use crate::run_tests::{FIRST, new_device, prints};
 use crate::trial::{Screen, buffered, printed};
 use bucket_page::Malformed;
+use crash_safe_runs::run_file;
 use file_walk::StructureFault;
 use msgq_cli::file_check::CheckFault;
 use msgq_cli::{Ending, new_file};
 use page_device::{MemDevice, PAGE_BYTES, PageDevice, seal, unseal};
-use replays::run_file;
 use rollback_journal::Opening;
 use std::alloc::Global;
 use std::fs;

@@ -3,7 +3,6 @@
 
 #![tactic(auto)]
 
-mod commands;
 mod error;
 mod key;
 mod looking;
@@ -18,8 +17,9 @@ mod values;
 pub use error::{CallFault, CommandError};
 pub use key::queue_name;
 pub use looking::{Form, Look, info_on, look_on};
+pub use mistake::Mistake;
 pub use printing::Printer;
 pub use queue_commands;
-pub use reading::read_command;
+pub use reading::{read_command, read_task};
 pub use running::{Ran, run_on};
 pub use task::{CallerIds, Creation, Deed, Patience, ReceiveTask, SendTask, ShellTask};

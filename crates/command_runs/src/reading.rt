@@ -1,11 +1,9 @@
 //! A command line is read.
 
 ghost use Rattle.std.specs.Prelude.{IfOk, IfSome};
-ghost use Rattle.command_runs.specs.Tasks.{CanBeMade, DeedHasPages, HasPages};
+ghost use Rattle.clap.specs.Matches.{found_of};
+ghost use Rattle.command_runs.specs.Tasks.{CallsAs, CanBeMade, DeedHasPages, HasPages};
 
-use crate::commands::{
-    ALL, FILE, GROUP, HEADER, JSON, LINES, NOERROR, OWNER, QBYTES, SIZE, VERBOSE, Verb, program,
-};
 use crate::mistake::Mistake;
 use crate::task::{Deed, ReceiveTask, SendTask, ShellTask};
 use crate::values::{
@@ -13,6 +11,10 @@ use crate::values::{
     queue, serial,
 };
 use clap::{ArgMatches, Error};
+use msgq_cli::argument_names::{
+    ALL, FILE, GROUP, HEADER, JSON, LINES, NOERROR, OWNER, QBYTES, SIZE, VERBOSE,
+};
+use msgq_cli::{SHELL_COMMANDS, ShellVerb, Verb, command_named, program, with_commands};
 use queue_commands::{Framing, Receiving, Setting, Settings};
 use queue_model::{MAX_BODY, MAX_MESSAGES};
 use std::alloc::Global;
@@ -29,22 +31,33 @@ use std::alloc::Global;
 pub fn read_command<'a>(alloc: Global, words: &'a [String]) -> Result<Option<ShellTask<'a>>, Error>
     ensures pages { IfOk result (λ task. IfSome task HasPages) }
 {
-    let matches = program(alloc)?.try_get_matches_from(words)?;
+    let program = with_commands(alloc, program(alloc)?, SHELL_COMMANDS)?;
+    let matches = program.try_get_matches_from(words)?;
     let Some((name, given)) = matches.subcommand() else {
         return Ok(None);
     };
-    let Some(verb) = Verb::named(name) else {
+    let Some(row) = command_named(SHELL_COMMANDS, name) else {
+        return Ok(None);
+    };
+    let Verb::Shell(verb) = row.verb else {
         return Ok(None);
     };
     match read_task(verb, given) {
         Ok(task) => Ok(Some(task)),
-        Err(mistake) => Err(mistake.into_error(alloc, verb)?),
+        Err(mistake) => Err(mistake.into_error(alloc, &row)?),
     }
 }
 
-/// What the arguments of a command ask for.
-fn read_task<'a>(verb: Verb, given: &ArgMatches<'a>) -> Result<ShellTask<'a>, Mistake<'a>>
+/// What the arguments of a command ask for, as the parser gives them.
+///
+/// Who calls is as `--pid`, `--uid` and `--gid` say it, and a number of pages is one that a file can have.
+///
+/// # Errors
+///
+/// The first word that its place does not take.
+pub fn read_task<'a>(verb: ShellVerb, given: &ArgMatches<'a>) -> Result<ShellTask<'a>, Mistake<'a>>
     ensures pages { IfOk result HasPages }
+    ensures ids { IfOk result (λ task. CallsAs (found_of given.now) task.ids) }
 {
     let deed = read_deed(verb, given)?;
     Ok(ShellTask {
@@ -55,27 +68,27 @@ fn read_task<'a>(verb: Verb, given: &ArgMatches<'a>) -> Result<ShellTask<'a>, Mi
 }
 
 /// What the arguments of a command ask for, but for the file and who calls.
-fn read_deed<'a>(verb: Verb, given: &ArgMatches<'a>) -> Result<Deed, Mistake<'a>>
+fn read_deed<'a>(verb: ShellVerb, given: &ArgMatches<'a>) -> Result<Deed, Mistake<'a>>
     ensures pages { IfOk result DeedHasPages }
 {
     match verb {
-        Verb::Send => Ok(Deed::Send(read_send(given)?)),
-        Verb::Receive => Ok(Deed::Receive(ReceiveTask {
+        ShellVerb::Send => Ok(Deed::Send(read_send(given)?)),
+        ShellVerb::Receive => Ok(Deed::Receive(ReceiveTask {
             receiving: read_receiving(given)?,
             create: creation(given)?,
             patience: patience(given)?,
         })),
-        Verb::Peek => Ok(Deed::Peek(read_receiving(given)?)),
-        Verb::List => Ok(Deed::List {
+        ShellVerb::Peek => Ok(Deed::Peek(read_receiving(given)?)),
+        ShellVerb::List => Ok(Deed::List {
             queue: any_queue(given)?,
             is_json: given.get_flag(JSON),
         }),
-        Verb::Make => Ok(Deed::Make {
+        ShellVerb::Make => Ok(Deed::Make {
             key: new_key(given)?,
             new: new_queue(given)?,
         }),
-        Verb::Remove => Ok(Deed::Remove(queue(given)?)),
-        Verb::Set => Ok(Deed::Set(read_setting(given)?)),
+        ShellVerb::Remove => Ok(Deed::Remove(queue(given)?)),
+        ShellVerb::Set => Ok(Deed::Set(read_setting(given)?)),
     }
 }
 

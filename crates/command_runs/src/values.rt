@@ -1,18 +1,18 @@
 //! The values of arguments.
 
 ghost use Rattle.std.specs.Prelude.{IfOk, IfSome};
+ghost use Rattle.clap.specs.Matches.{found_of};
 ghost use Rattle.msgq_cli.specs.Tasks.{IsFileSize};
-ghost use Rattle.command_runs.specs.Tasks.{CanBeMade};
+ghost use Rattle.command_runs.specs.Tasks.{CallsAs, CanBeMade, IsNumberOf};
 
-use crate::commands;
-use crate::commands::{
-    BODY, CREATE, FOR_EVER, GID, GROUP, KEY, MODE, OWNER, PID, QBYTES, SERIAL, SHARED_WITH, TYPE,
-    UID, WAIT,
-};
 use crate::key::queue_name;
 use crate::mistake::Mistake;
 use crate::task::{CallerIds, Creation, Patience};
 use clap::ArgMatches;
+use msgq_cli::argument_names::{
+    BODY, CREATE, FOR_EVER, GID, GROUP, KEY, MODE, NEW_PAGES, OWNER, PID, QBYTES, SERIAL,
+    SHARED_WITH, TYPE, UID, WAIT,
+};
 use msgq_cli::{STANDARD_INPUT, USUAL_PAGES, WRONG_SECONDS, wait_of};
 use queue_commands::{NewQueue, QueueName, Settings};
 
@@ -66,7 +66,9 @@ pub(crate) fn new_key<'a>(given: &ArgMatches<'a>) -> Result<Option<u32>, Mistake
 }
 
 /// Who calls.
-pub(crate) fn ids<'a>(given: &ArgMatches<'a>) -> Result<CallerIds, Mistake<'a>> {
+pub(crate) fn ids<'a>(given: &ArgMatches<'a>) -> Result<CallerIds, Mistake<'a>>
+    ensures { IfOk result (CallsAs (found_of given.now)) }
+{
     Ok(CallerIds {
         pid: number(given, PID)?,
         uid: number(given, UID)?,
@@ -75,7 +77,9 @@ pub(crate) fn ids<'a>(given: &ArgMatches<'a>) -> Result<CallerIds, Mistake<'a>> 
 }
 
 /// The number of an option.
-pub(crate) fn number<'a>(given: &ArgMatches<'a>, name: &str) -> Result<Option<u32>, Mistake<'a>> {
+pub(crate) fn number<'a>(given: &ArgMatches<'a>, name: &str) -> Result<Option<u32>, Mistake<'a>>
+    ensures { IfOk result (IsNumberOf (found_of given.now) name.now) }
+{
     let Some(word) = given.get_str(name) else {
         return Ok(None);
     };
@@ -170,7 +174,7 @@ pub(crate) fn creation<'a>(given: &ArgMatches<'a>) -> Result<Option<Creation>, M
 fn pages<'a>(given: &ArgMatches<'a>) -> Result<Option<u32>, Mistake<'a>>
     ensures { IfOk result (λ pages. IfSome pages IsFileSize) }
 {
-    let Some(word) = given.get_str(commands::PAGES) else {
+    let Some(word) = given.get_str(NEW_PAGES) else {
         return Ok(None);
     };
     match msgq_cli::pages(word.as_bytes()) {

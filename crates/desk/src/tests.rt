@@ -1,6 +1,7 @@
 //! Rows: what is done with a desk, and what is wanted of it by the rules (docs/QUEUES.md).
 
 use crate::{Desk, Told};
+use call_entries::CallLog;
 use session::Unanswered;
 use session::queue_model::{
     Answer, Body, Call, Caller, Errno, GetArguments, Message, ReceiveArguments, SendArguments,
@@ -299,17 +300,18 @@ fn all_right(rt: &(impl Abort + AllocGlobal), desk: &mut Desk, rows: &[Row]) -> 
 
 /// Whether a row comes to what is wanted.
 fn does(alloc: Global, desk: &mut Desk, row: Row) -> Result<bool, Fail> {
+    let mut log = CallLog::with_room(alloc, 0)?;
     Ok(match row {
         Row::Asked(client, asks, want) => {
             let call = asks.to_call(alloc)?;
-            let reply = desk.ask(number_of(client), caller_of(client), call);
+            let reply = desk.ask(number_of(client), caller_of(client), call, &mut log);
             want.is_met(alloc, &reply)?
         }
-        Row::Next(client, want) => match desk.next() {
+        Row::Next(client, want) => match desk.next(&mut log) {
             None => false,
             Some(told) => { told.client == number_of(client) && want.is_met(alloc, &told.reply)? }
         },
-        Row::Nobody => desk.next().is_none(),
+        Row::Nobody => desk.next(&mut log).is_none(),
         Row::Cancelled(client, some) => desk.cancel(number_of(client)) == some,
         Row::Left(connection, some) => desk.leave(connection) == some,
         Row::Stopped => {

@@ -2,45 +2,49 @@
 use Rattle.std.proofs.Common.{arith, ℕ, ◌≡◌, ⊎_elim, IsTrue, refl, sym, ap, ◌∙◌, subst, append-nil, append_assoc, Bool, true, false, List, [], ◌∷◌, ◌++◌, Result, Ok, Err}
 use Rattle.std.specs.Prelude.{◌||◌}
 use Rattle.std.specs.List.{count_by}
-use Rattle.bucket_page.specs.Pseudokeys.{sha_key}
+use Rattle.queue_model.specs.Laws.{RefusalsLeave}
 use Rattle.safe_device.specs.Crash.{LeavesOnly}
-use Rattle.safe_device.specs.Device.{DeviceState}
-use Rattle.safe_device.specs.Left.{Left, recovered}
-use Rattle.interleavings.specs.LoneKernelWords.{IsFileOf, State, restarted}
+use Rattle.safe_device.specs.Device.{DeviceState, held}
+use Rattle.safe_device.specs.Left.{Left, Saved as Found, recovered}
+use Rattle.interleavings.specs.LoneKernelWords.{State, restarted}
+use Rattle.call_entries.specs.Entries.{spelled}
+use Rattle.call_entries.specs.Log.{LogState}
 use Rattle.desk.specs.Desk.{DeskState, KeepsServing, Serves}
-use Rattle.desk.specs.History.{AnswersByTheRules, Entry, IsServed, LeadsAlong, Saved, fails}
+use Rattle.desk.specs.History.{AnswersByTheRules, Entry, IsServed, LeadsAlong, Saved, changes, fails, noted_by, noted_in}
 use Rattle.desk.specs.declared.asking.Asking.{Asking}
 use Rattle.desk.proofs.HistoryLemmas.{joined as served_on, leads_on}
-use Rattle.durable_desk.specs.Durable.{DurableState, IsCutShort, IsLastOrFile}
-use Rattle.durable_desk.specs.History.{AllOutlastACrash, Commit, Does, Event, HappenAlong, Happens, IsFileAfterSome, IsTried, NoneFails, NoneIsLost, OpensUpToDate, at_desk, deed_of, is_failure}
+use Rattle.durable_desk.specs.Durable.{DurableState, IsBehind, IsCutShort, IsLastOrComes}
+use Rattle.durable_desk.specs.History.{AllOutlastACrash, Commit, Does, Event, HappenAlong, Happens, IsFoundAfterSome, IsTried, IsUpToDate, NoneFails, NoneIsLost, OpensUpToDate, at_desk, deed_of, is_failure}
+use Rattle.durable_desk.specs.Saved.{ComesTo, ComesWith}
 use Rattle.durable_desk.specs.declared.commit.Uncommitted.{Uncommitted}
 use Rattle.durable_desk.specs.declared.commit.Uncommitted.TheVariants.{Device, Desk, Earlier}
 use Rattle.durable_desk.proofs.MomentLemmas.{joined, started, weaker}
+use Rattle.durable_desk.proofs.SavedLemmas.{changes_lead, comes_running, with_more, with_none}
 
 -- ---- which entries a file is behind
 
 -- of more entries some
-more_lost : (s : State) (entries more : List Entry) (pages : List (List ℕ)) → IsFileAfterSome s entries pages →
-    IsFileAfterSome s (entries ++ more) pages
-more_lost s entries more pages is = record {
+more_lost : (s : State) (entries more : List Entry) (found : Found) → IsFoundAfterSome s entries found →
+    IsFoundAfterSome s (entries ++ more) found
+more_lost s entries more found is = record {
   kept = is.kept;
   lost = is.lost ++ more;
   all = ap (λ (es : List Entry). es ++ more) is.all ∙ append_assoc is.kept is.lost more;
   system = is.system;
   by_rules = is.by_rules;
-  file = is.file;
+  comes = is.comes;
 }
 
 -- all
-none_lost : (s t : State) (entries : List Entry) (pages : List (List ℕ)) → LeadsAlong entries s t →
-    IsFileOf sha_key pages (restarted t) → IsFileAfterSome s entries pages
-none_lost s t entries pages leads file = record {
+none_lost : (s t : State) (entries : List Entry) (found : Found) → LeadsAlong entries s t →
+    ComesTo found (restarted t) → IsFoundAfterSome s entries found
+none_lost s t entries found leads comes = record {
   kept = entries;
   lost = [];
   all = sym (append-nil entries);
   system = t;
   by_rules = leads;
-  file = file;
+  comes = comes;
 }
 
 -- ---- what is done at the desk
@@ -52,16 +56,18 @@ nothing s old new keeps serves = record {
   after = s;
   by_rules = refl;
   told = refl;
+  noted = refl;
   asked_for = λ p. let same = ap (λ (xs : List Asking). count_by p xs) keeps.waiting in omega (arith, same);
   serves = keeps.serves s serves;
 }
 
-none_done : (s : State) (old new : DeskState) → new ≡ old → Serves s old → IsServed [] s old new
+abbrev none_done : (s : State) (old new : DeskState) → new ≡ old → Serves s old → IsServed [] s old new
 none_done s old new same serves = record {
   entries = [];
   after = s;
   by_rules = refl;
   told = refl;
+  noted = refl;
   asked_for = λ p. let is = ap (λ (d : DeskState). count_by p d.waiting) same in omega (arith, is);
   serves = subst (Serves s) (sym same) serves;
 }
@@ -110,18 +116,21 @@ module _ {P : Type 0} (honest : Bool) (moment : P → ℕ) (left_since : P → �
   -- whatever a crash left since the start is found after some of these entries
   abbrev IsFound : List Entry → DurableState P → Type 0
   IsFound entries d = IsTrue honest → LeavesOnly moment left_since start.device.pair d.device.pair
-      (λ (c : Left). IsFileAfterSome s entries (recovered c))
+      (λ (c : Left). IsFoundAfterSome s entries (recovered c))
 
   record SoFar (entries : List Entry) (t : State) (d : DurableState P) : Type 0 where
     pub by_rules : LeadsAlong entries s t
     pub serves : Serves t d.desk
     pub found : IsFound entries d
-    pub now : IsTrue honest → d.has_failed ≡ false → IsFileAfterSome s entries d.device.content
+    pub now : IsTrue honest → d.has_failed ≡ false → IsFoundAfterSome s entries (held d.device)
+    -- what the device holds and what the log has come to the system that is served
+    pub behind : IsTrue honest → d.has_failed ≡ false → IsBehind t d.log d.device
 
   wider : (entries more : List Entry) (d : DurableState P) → IsFound entries d → IsFound (entries ++ more) d
   wider entries more d found = λ sound.
-      weaker moment left_since start.device.pair d.device.pair (λ (c : Left). IsFileAfterSome s entries (recovered c))
-      (λ (c : Left). IsFileAfterSome s (entries ++ more) (recovered c)) (found sound)
+      weaker moment left_since start.device.pair d.device.pair
+      (λ (c : Left). IsFoundAfterSome s entries (recovered c))
+      (λ (c : Left). IsFoundAfterSome s (entries ++ more) (recovered c)) (found sound)
       (λ c has. more_lost s entries more (recovered c) has)
 
   module _ (entries : List Entry) (t : State) (d next : DurableState P) (so_far : SoFar entries t d) where
@@ -129,29 +138,31 @@ module _ {P : Type 0} (honest : Bool) (moment : P → ℕ) (left_since : P → �
     cut : d.has_failed ≡ false → IsCutShort honest moment left_since d next → IsFound entries next
     cut was_sound any_moment = λ sound.
         joined moment left_since start.device.pair d.device.pair next.device.pair
-        (λ (c : Left). IsFileAfterSome s entries (recovered c)) (IsLastOrFile d.device.content t)
-        (λ (c : Left). IsFileAfterSome s entries (recovered c)) (so_far.found sound)
-        (any_moment was_sound sound t so_far.serves) (λ c has. has) (λ c has. ⊎_elim (λ last.
-        subst (λ (pages : List (List ℕ)). IsFileAfterSome s entries pages) (sym last) (so_far.now sound was_sound))
-        (λ file. none_lost s t entries (recovered c) so_far.by_rules file) has)
+        (λ (c : Left). IsFoundAfterSome s entries (recovered c)) (IsLastOrComes (held d.device) t)
+        (λ (c : Left). IsFoundAfterSome s entries (recovered c)) (so_far.found sound)
+        (any_moment was_sound sound t so_far.serves (so_far.behind sound was_sound)) (λ c has. has)
+        (λ c has. ⊎_elim (λ last.
+        subst (λ (found : Found). IsFoundAfterSome s entries found) (sym last) (so_far.now sound was_sound))
+        (λ comes. none_lost s t entries (recovered c) so_far.by_rules comes) has)
 
     found_by : (e : Event) → is_failure e ≡ false → Happens honest moment left_since may_leave e d next →
         IsFound entries next
     found_by (Does e) fine done =
         subst (λ (device : DeviceState P). IsTrue honest → LeavesOnly moment left_since start.device.pair device.pair
-        (λ (c : Left). IsFileAfterSome s entries (recovered c))) (sym done.file.device) so_far.found
+        (λ (c : Left). IsFoundAfterSome s entries (recovered c))) (sym done.file.device) so_far.found
     found_by (Commit (Ok done)) fine tried = cut tried.commits.was_sound tried.any_moment
     found_by (Commit (Err Device)) fine tried = cut tried.commits.was_sound tried.any_moment
     found_by (Commit (Err Desk)) fine tried = absurd cc
     found_by (Commit (Err Earlier)) fine tried = subst (IsFound entries) (sym tried.commits.same) so_far.found
 
     now_by : (e : Event) → is_failure e ≡ false → Happens honest moment left_since may_leave e d next →
-        IsTrue honest → next.has_failed ≡ false → IsFileAfterSome s entries next.device.content
+        IsTrue honest → next.has_failed ≡ false → IsFoundAfterSome s entries (held next.device)
     now_by (Does e) fine done sound none =
-        subst (λ (device : DeviceState P). IsFileAfterSome s entries device.content) (sym done.file.device)
+        subst (λ (device : DeviceState P). IsFoundAfterSome s entries (held device)) (sym done.file.device)
         (so_far.now sound (or_left d.has_failed (fails e) (sym done.file.failed ∙ none)))
     now_by (Commit (Ok done)) fine tried sound none =
-        none_lost s t entries next.device.content so_far.by_rules (tried.commits.done.file sound t so_far.serves)
+        none_lost s t entries (held next.device) so_far.by_rules
+        (tried.commits.done.comes sound t so_far.serves (so_far.behind sound tried.commits.was_sound))
     now_by (Commit (Err Device)) fine tried sound none = let failed = tried.commits.failed in absurd cc
     now_by (Commit (Err Desk)) fine tried sound none = absurd cc
     now_by (Commit (Err Earlier)) fine tried sound none =
@@ -159,73 +170,118 @@ module _ {P : Type 0} (honest : Bool) (moment : P → ℕ) (left_since : P → �
         let same = ap (λ (x : DurableState P). x.has_failed) tried.commits.same in
         absurd cc
 
-  module _ (law : AnswersByTheRules) where
+    -- the log goes on as it was decided
+    behind_by : RefusalsLeave → (e : Event) (more : List Entry) (u : State) → is_failure e ≡ false →
+        Happens honest moment left_since may_leave e d next → LeadsAlong more t u →
+        noted_in (deed_of e ∷ []) ≡ spelled (changes more) → IsTrue honest → next.has_failed ≡ false →
+        IsBehind u next.log next.device
+    behind_by leaves (Does e) more u fine done leads noted sound none whole =
+        let was = so_far.behind sound (or_left d.has_failed (fails e) (sym done.file.failed ∙ none))
+        (done.notes.whole whole) in
+        let bytes : next.log.bytes ≡ d.log.bytes ++ spelled (changes more) =
+        done.notes.bytes whole
+        ∙ ap (λ (xs : List ℕ). d.log.bytes ++ xs) (sym (append-nil (noted_by e)) ∙ noted) in
+        subst (λ (device : DeviceState P). ComesWith (held device) next.log.bytes (restarted u))
+        (sym done.file.device)
+        (subst (λ (xs : List ℕ). ComesWith (held d.device) xs (restarted u)) (sym bytes)
+        (with_more (held d.device) d.log.bytes (changes more) (restarted t) (restarted u) was
+        (changes_lead leaves more t u leads)))
+    behind_by leaves (Commit (Ok done)) more u fine tried leads noted sound none whole =
+        let comes = tried.commits.done.comes sound t so_far.serves (so_far.behind sound tried.commits.was_sound) in
+        subst (λ (log : LogState). ComesWith (held next.device) log.bytes (restarted u)) (sym tried.commits.done.none)
+        (subst (λ (xs : List ℕ). ComesWith (held next.device) xs (restarted u)) (sym noted)
+        (with_more (held next.device) [] (changes more) (restarted t) (restarted u)
+        (with_none (held next.device) (restarted t) comes) (changes_lead leaves more t u leads)))
+    behind_by leaves (Commit (Err Device)) more u fine tried leads noted sound none whole =
+        let failed = tried.commits.failed in absurd cc
+    behind_by leaves (Commit (Err Desk)) more u fine tried leads noted sound none whole = absurd cc
+    behind_by leaves (Commit (Err Earlier)) more u fine tried leads noted sound none whole =
+        let failed = tried.commits.failed in
+        let same = ap (λ (x : DurableState P). x.has_failed) tried.commits.same in
+        absurd cc
+
+  module _ (law : AnswersByTheRules) (leaves : RefusalsLeave) where
     along : (es : List Event) (entries : List Entry) (t : State) (d new : DurableState P) → SoFar entries t d →
         HappenAlong honest moment left_since may_leave es d new → NoneFails es →
-        (served : IsServed (at_desk es) t d.desk new.desk) × IsFound (entries ++ served.entries) new
-    along [] entries t d new so_far same fine =
-        let served = none_done t d.desk new.desk (ap (λ (x : DurableState P). x.desk) same) so_far.serves in
-        (served, wider entries served.entries new (subst (IsFound entries) (sym same) so_far.found))
+        (served : IsServed (at_desk es) t d.desk new.desk) × SoFar (entries ++ served.entries) served.after new
+    along [] entries t d new so_far same fine = (
+      none_done t d.desk new.desk (ap (λ (x : DurableState P). x.desk) same) so_far.serves,
+      subst (λ (all : List Entry). SoFar all t new) (sym (append-nil entries))
+          (subst (SoFar entries t) (sym same) so_far),
+    )
     along (e ∷ es) entries t d new so_far (then, happens, rest) (fine, others) =
         let first = served_by honest moment left_since may_leave law e t d then so_far.serves fine happens in
         let next : SoFar (entries ++ first.entries) first.after then = record {
           by_rules = leads_on entries first.entries s t first.after so_far.by_rules first.by_rules;
           serves = first.serves;
           found = wider entries first.entries then (found_by entries t d then so_far e fine happens);
-          now = λ sound none. more_lost s entries first.entries then.device.content
+          now = λ sound none. more_lost s entries first.entries (held then.device)
               (now_by entries t d then so_far e fine happens sound none);
+          behind = behind_by entries t d then so_far leaves e first.entries first.after fine happens first.by_rules
+              first.noted;
         } in
         let more = along es (entries ++ first.entries) first.after then new next rest others in (
           served_on (deed_of e) (at_desk es) t d.desk then.desk new.desk first more.0,
-          subst (λ (all : List Entry). IsFound all new) (append_assoc entries first.entries more.0.entries) more.1,
+          subst (λ (all : List Entry). SoFar all more.0.after new)
+              (append_assoc entries first.entries more.0.entries) more.1,
         )
 
 -- ---- the laws
 
 module _ {P : Type 0} (honest : Bool) (moment : P → ℕ) (left_since : P → ℕ → Left → Type 0)
-    (may_leave : P → Left → Type 0) (law : AnswersByTheRules)
+    (may_leave : P → Left → Type 0) (law : AnswersByTheRules) (leaves : RefusalsLeave)
     (only_now : (pair : P) (c : Left) → left_since pair (moment pair) c → may_leave pair c) where
+  -- nothing was done yet
+  none_yet : (s : State) (d : DurableState P) → IsUpToDate honest may_leave s d →
+      SoFar honest moment left_since may_leave d s [] s d
+  none_yet s d is = record {
+    by_rules = refl;
+    serves = is.serves;
+    found = λ sound. started moment left_since may_leave d.device.pair
+        (λ (c : Left). IsFoundAfterSome s [] (recovered c)) (only_now d.device.pair) (λ c left.
+        subst (λ (found : Found). IsFoundAfterSome s [] found) (sym ((is.committed.ready sound).kept c left))
+        (none_lost s s [] (held d.device) refl (is.comes sound)));
+    now = λ sound none. none_lost s s [] (held d.device) refl (is.comes sound);
+    behind = λ sound none whole.
+        subst (λ (log : LogState). ComesWith (held d.device) log.bytes (restarted s)) (sym is.none)
+        (with_none (held d.device) (restarted s) (is.comes sound));
+  }
+
   pub all_outlast : AllOutlastACrash P honest moment left_since may_leave
   all_outlast es s old new is happen fine =
-      let all = along honest moment left_since may_leave old s law es [] s old new (record {
-        by_rules = refl;
-        serves = is.serves;
-        found = λ sound. started moment left_since may_leave old.device.pair
-            (λ (c : Left). IsFileAfterSome s [] (recovered c)) (only_now old.device.pair) (λ c left.
-            subst (λ (pages : List (List ℕ)). IsFileAfterSome s [] pages) (sym (is.committed.kept sound c left))
-            (none_lost s s [] old.device.content refl (is.file sound)));
-        now = λ sound none. none_lost s s [] old.device.content refl (is.file sound);
-      }) happen fine in
-      record { served = all.0; found = λ sound c left. (all.1 sound).each c left }
+      let all = along honest moment left_since may_leave old s law leaves es [] s old new (none_yet s old is) happen
+      fine in
+      record { served = all.0; found = λ sound c left. (all.1.found sound).each c left }
 
   pub none_is_lost : NoneIsLost P honest moment left_since may_leave
-  none_is_lost before since s old last committed new serves happen fine tried more others =
-      let decided = all_served honest moment left_since may_leave law before s old last serves happen fine in
+  none_is_lost before since s old last committed new is happen fine tried more others =
+      let all = along honest moment left_since may_leave old s law leaves before [] s old last (none_yet s old is)
+      happen fine in
+      let decided = all.0 in
       record {
         decided = decided;
         outlasts = all_outlast since decided.after committed new (record {
           serves = tried.commits.done.keeps.serves decided.after decided.serves;
           sound = tried.commits.sound;
           committed = tried.commits.done.committed;
-          file = λ sound. tried.commits.done.file sound decided.after decided.serves;
+          none = tried.commits.done.none;
+          comes = λ sound.
+              tried.commits.done.comes sound decided.after decided.serves (all.1.behind sound tried.commits.was_sound);
         }) more others;
       }
 
 pub opens_up_to_date : {P : Type 0} (honest : Bool) (may_leave : P → Left → Type 0) → OpensUpToDate P honest may_leave
 opens_up_to_date honest may_leave given most d opens =
-    let is = opens.read.opens in
-    let running = is.file.system.has.running in (
+    let is = opens.remade in (
       is.system,
       record {
         serves = is.serves;
         sound = opens.sound;
         committed = opens.committed;
-        file = λ sound.
-            subst (λ (pages : List (List ℕ)). IsFileOf sha_key pages (restarted is.system))
-            (opens.read.same sound ∙ sym opens.same)
-            (subst (λ (x : State). IsFileOf sha_key opens.read.content x) (as_running is.system running) is.file);
+        none = opens.none;
+        comes = λ sound.
+            let same = is.same sound ∙ sym (ap held opens.same) in
+            subst (ComesTo (held d.device)) (comes_running is.read is.system is.comes)
+            (subst (λ (saved : Found). ComesTo saved is.system) same is.comes);
       },
     )
-  where
-    as_running : (s : State) → s.stopped ≡ false → s ≡ restarted s
-    as_running s running = ap (λ (b : Bool). record s { stopped = b }) running

@@ -1,5 +1,7 @@
 pub mod MomentLemmas
+pub mod SavedLemmas
 pub mod WriteLemmas
 pub mod CommitLemmas
 pub mod ServingLemmas
+pub mod OpeningLemmas
 pub mod HistoryLemmas

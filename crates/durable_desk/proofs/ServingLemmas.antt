@@ -1,5 +1,5 @@
 -- A desk that serves a system stays on the file of the last commit, whatever is asked of it.
-use Rattle.std.proofs.Common.{◌≡◌, refl, sym, ap, ◌∙◌, Bool, true, false, Option, Some, None, Result, Ok, Err, length}
+use Rattle.std.proofs.Common.{◌≡◌, refl, sym, ap, ◌∙◌, Bool, true, false, List, ℕ, Option, Some, None, Result, Ok, Err, length}
 use Rattle.std.specs.Prelude.{◌||◌}
 use Rattle.safe_device.specs.Device.{DeviceState}
 use Rattle.safe_device.specs.Left.{Left}
@@ -8,7 +8,7 @@ use Rattle.session.specs.Session.{saved_of}
 use Rattle.session.specs.declared.unanswered.Unanswered.{Unanswered}
 use Rattle.session.specs.declared.unanswered.Unanswered.TheVariants.{Waits, NoRoom, NoMemory, Failed}
 use Rattle.desk.specs.Desk.{Asks, Becomes, DeskState, Serves, Tells}
-use Rattle.desk.specs.History.{Next, fails, is_failure}
+use Rattle.desk.specs.History.{is_failure, tells_failure}
 use Rattle.desk.specs.declared.asking.Asking.{Asking}
 use Rattle.desk.specs.declared.asking.Told.{Told}
 use Rattle.durable_desk.specs.Durable.{IsCommitted, IsDurable}
@@ -34,10 +34,9 @@ module _ {P : Type 0} (honest : Bool) (may_leave : P → Left → Type 0) (old n
     stays is t serves same = record {
       served = t;
       serves = serves;
-      usable = is.usable;
       many = is.many ∙ sym (ap length same);
       saved = λ sound. is.saved sound ∙ sym same;
-      kept = is.kept;
+      ready = is.ready;
     }
 
     pub asked_durable : (a : Asking) (told : Result Answer Unanswered) (failed : Bool) →
@@ -51,19 +50,20 @@ module _ {P : Type 0} (honest : Bool) (may_leave : P → Left → Type 0) (old n
           stays was after.0 after.1 asks.saved;
     }
 
-    told_after : (told : Option Told) → fails (Next told) ≡ false → Tells told old new → (s : State) → Serves s old →
-        (t : State) × Serves t new
-    told_after None fine tells s serves = (s, (tells.becomes s serves).serves)
-    told_after (Some told) fine tells s serves =
+    told_after : (told : Option Told) (noted : List ℕ) → tells_failure told ≡ false → Tells told noted old new →
+        (s : State) → Serves s old → (t : State) × Serves t new
+    told_after None noted fine tells s serves = (s, (tells.becomes s serves).serves)
+    told_after (Some told) noted fine tells s serves =
         let first = tells.becomes s serves in
         served_after first.told_at.asking s told.reply first.now new fine first.told_at.becomes
 
-    pub told_durable : (told : Option Told) (failed : Bool) → IsDurable honest may_leave old device failed →
-        Tells told old new → IsDurable honest may_leave new device (failed || fails (Next told))
-    told_durable told failed is tells = record {
+    pub told_durable : (told : Option Told) (noted : List ℕ) (failed : Bool) →
+        IsDurable honest may_leave old device failed → Tells told noted old new →
+        IsDurable honest may_leave new device (failed || tells_failure told)
+    told_durable told noted failed is tells = record {
       sound = λ none.
-          let fine = both_false failed (fails (Next told)) none in
+          let fine = both_false failed (tells_failure told) none in
           let was = is.sound fine.0 in
-          let after = told_after told fine.1 tells was.served was.serves in
+          let after = told_after told noted fine.1 tells was.served was.serves in
           stays was after.0 after.1 tells.saved;
     }

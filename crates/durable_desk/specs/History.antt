@@ -1,13 +1,15 @@
 -- What is done with a durable desk, one after another, and what a crash leaves of it. docs/QUEUES.md, "Journals".
 use Rattle.std.specs.Prelude.{ℕ, ◌≡◌, Bool, true, false, List, [], ◌∷◌, ◌++◌, Result, Ok, Err, IsTrue, ⊤}
-use Rattle.bucket_page.specs.Pseudokeys.{sha_key}
-use Rattle.safe_device.specs.Left.{Left, recovered}
-use Rattle.interleavings.specs.LoneKernelWords.{IsFileOf, State, restarted}
+use Rattle.safe_device.specs.Device.{DeviceState, held}
+use Rattle.safe_device.specs.Left.{Left, Saved as Found, recovered}
+use Rattle.interleavings.specs.LoneKernelWords.{State, restarted}
+use Rattle.call_entries.specs.Log.{Notes, empty}
 use Rattle.desk.specs.Desk.{Serves}
-use Rattle.desk.specs.History.{Entry, IsServed, LeadsAlong, Saved, fails}
+use Rattle.desk.specs.History.{Entry, IsServed, LeadsAlong, Saved, fails, noted_by}
 use Rattle.desk.specs.History as desks
-use Rattle.safe_device.specs.Device.{DeviceState}
-use Rattle.durable_desk.specs.Durable.{Commits, DurableState, IsCommitted, IsCutShort, KeepsFile, OpensFile}
+use Rattle.durable_desk.specs.Durable.{Commits, DurableState, IsCommitted, IsCutShort, KeepsFile}
+use Rattle.durable_desk.specs.Opening.{OpensFile}
+use Rattle.durable_desk.specs.Saved.{ComesTo}
 use Rattle.durable_desk.specs.declared.commit.Uncommitted.{Uncommitted}
 use Rattle.durable_desk.specs.declared.commit.Uncommitted.TheVariants.{Device, Desk, Earlier}
 
@@ -39,10 +41,11 @@ NoneFails (e ∷ es) = (is_failure e ≡ false) × NoneFails es
 
 module _ {P : Type 0} (honest : Bool) (moment : P → ℕ) (left_since : P → ℕ → Left → Type 0)
     (may_leave : P → Left → Type 0) where
-  -- as the desk's functions promise, and the file is as it was
+  -- as the desk's functions promise, and the file is as it was; what is written down of it stands in the log
   pub record IsDone (e : desks.Event) (old new : DurableState P) : Type 0 where
     pub happens : desks.Happens e old.desk new.desk
     pub file : KeepsFile (fails e) old new
+    pub notes : Notes (noted_by e) old.log new.log
 
   pub record IsTried (told : Result Unit Uncommitted) (old new : DurableState P) : Type 0 where
     pub commits : Commits honest may_leave told old new
@@ -59,22 +62,22 @@ module _ {P : Type 0} (honest : Bool) (moment : P → ℕ) (left_since : P → �
 
 -- ---- what a crash leaves
 
--- the file of the system after the first of these entries, and none of the others
-pub record IsFileAfterSome (s : State) (entries : List Entry) (pages : List (List ℕ)) : Type 0 where
+-- it comes to the system after the first of these entries, and none of the others
+pub record IsFoundAfterSome (s : State) (entries : List Entry) (found : Found) : Type 0 where
   pub kept : List Entry
   pub lost : List Entry
   pub all : entries ≡ kept ++ lost
   pub system : State
   pub by_rules : LeadsAlong kept s system
-  pub file : IsFileOf sha_key pages (restarted system)
+  pub comes : ComesTo found (restarted system)
 
 -- what is done since some moment is decided by one list of entries; and whatever a crash leaves at any moment since is
--- recovered to the file of the system after the first of them
+-- recovered to what comes to the system after the first of them
 pub record OutlastsACrash {P : Type 0} (honest : Bool) (moment : P → ℕ) (left_since : P → ℕ → Left → Type 0)
     (es : List Event) (s : State) (old new : DurableState P) : Type 0 where
   pub served : IsServed (at_desk es) s old.desk new.desk
   pub found : IsTrue honest → (c : Left) → left_since new.device.pair (moment old.device.pair) c →
-      IsFileAfterSome s served.entries (recovered c)
+      IsFoundAfterSome s served.entries (recovered c)
 
 -- behind a commit, all that was decided before it is found, and then the first of what was decided since
 pub record IsNeverLost {P : Type 0} (honest : Bool) (moment : P → ℕ) (left_since : P → ℕ → Left → Type 0)
@@ -84,13 +87,14 @@ pub record IsNeverLost {P : Type 0} (honest : Bool) (moment : P → ℕ) (left_s
 
 -- ---- the laws
 
--- the file is that of the system that the desk serves: so it is once it is opened, and behind each commit
+-- what the device holds comes to the system that the desk serves: so it is once it is opened, and behind each commit
 pub record IsUpToDate {P : Type 0} (honest : Bool) (may_leave : P → Left → Type 0) (s : State) (d : DurableState P)
     : Type 0 where
   pub serves : Serves s d.desk
   pub sound : d.has_failed ≡ false
   pub committed : IsCommitted honest may_leave d.desk d.device
-  pub file : IsTrue honest → IsFileOf sha_key d.device.content (restarted s)
+  pub none : d.log ≡ empty
+  pub comes : IsTrue honest → ComesTo (held d.device) (restarted s)
 
 abbrev pub OpensUpToDate : (P : Type 0) → Bool → (P → Left → Type 0) → Type 0
 OpensUpToDate P honest may_leave = (given : DeviceState P) (most : ℕ) (d : DurableState P) →
@@ -103,7 +107,8 @@ AllOutlastACrash P honest moment left_since may_leave = (es : List Event) (s : S
 
 abbrev pub NoneIsLost : (P : Type 0) → Bool → (P → ℕ) → (P → ℕ → Left → Type 0) → (P → Left → Type 0) → Type 0
 NoneIsLost P honest moment left_since may_leave =
-    (before since : List Event) (s : State) (old last committed new : DurableState P) → Serves s old.desk →
+    (before since : List Event) (s : State) (old last committed new : DurableState P) →
+    IsUpToDate honest may_leave s old →
     HappenAlong honest moment left_since may_leave before old last → NoneFails before →
     IsTried honest moment left_since may_leave (Ok tt) last committed →
     HappenAlong honest moment left_since may_leave since committed new → NoneFails since →

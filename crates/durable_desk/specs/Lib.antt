@@ -1,3 +1,5 @@
+pub mod Saved
 pub mod Durable
+pub mod Opening
 pub mod Commit
 pub mod History

@@ -3,10 +3,11 @@
 ghost use Rattle.durable_desk.specs.Durable.{IsCommitted, IsCutShortOn};
 ghost use Rattle.durable_desk.specs.Commit.{Brings, LeavesTheLast, Writes};
 
+use call_entries::CallLog;
 use desk::Desk;
 use desk::session::the_pages_are_the_file;
 use safe_device::page_device::PageDevice;
-use safe_device::{PagePair, SafeDevice};
+use safe_device::{NoteFault, PagePair, SafeDevice};
 use thiserror::Error;
 
 /// Why a commit was not made. From there on none is made.
@@ -24,20 +25,55 @@ pub enum Uncommitted {
     Earlier,
 }
 
-/// Brings the pages of a desk that have changed since they were saved to where they outlast a
-/// crash, and notes that they are saved.
-pub(crate) fn bring<P: PagePair>(
+/// Brings what was decided since the last commit to where it outlasts a crash: its calls are noted,
+/// with one addition; or, where some were left out or the journal is to end, the pages are brought.
+pub(crate) fn keep<P: PagePair>(
     desk: &mut Desk,
     device: &mut SafeDevice<P>,
+    log: &mut CallLog,
+    is_due: bool,
 ) -> Result<(), Uncommitted>
     requires { IsCommitted P.is_honest P.may_leave desk.old device.old }
     ensures becomes { Brings P.is_honest P.may_leave result
-        desk.old desk.new device.old device.new }
+        desk.old desk.new log.old log.new device.old device.new }
     ensures any_moment { IsCutShortOn P.is_honest P.moment P.left_since
-        desk.old device.old device.new }
+        desk.old log.old device.old device.new }
+{
+    if is_due || !log.is_whole() {
+        return bring(desk, device, log);
+    }
+    if log.as_slice().is_empty() {
+        log.clear();
+        return Ok(());
+    }
+    match device.note(log.as_slice()) {
+        Ok(()) => {
+            log.clear();
+            Ok(())
+        }
+        Err(NoteFault::Written) => bring(desk, device, log),
+        Err(NoteFault::Device) => Err(Uncommitted::Device),
+    }
+}
+
+/// A checkpoint: brings the pages of a desk that have changed since they were saved to where they
+/// outlast a crash, which ends the calls, and notes that they are saved.
+pub(crate) fn bring<P: PagePair>(
+    desk: &mut Desk,
+    device: &mut SafeDevice<P>,
+    log: &mut CallLog,
+) -> Result<(), Uncommitted>
+    requires { IsCommitted P.is_honest P.may_leave desk.old device.old }
+    ensures becomes { Brings P.is_honest P.may_leave result
+        desk.old desk.new log.old log.new device.old device.new }
+    ensures any_moment { IsCutShortOn P.is_honest P.moment P.left_since
+        desk.old log.old device.old device.new }
 {
     the_pages_are_the_file();
-    if !write_changed(desk, device)? {
+    let is_changed = write_changed(desk, device)?;
+    let many = device.noted_count();
+    if !is_changed && many == 0 {
+        log.clear();
         return Ok(());
     }
     let Ok(()) = device.sync() else {
@@ -46,6 +82,7 @@ pub(crate) fn bring<P: PagePair>(
     if !desk.note_saved() {
         return Err(Uncommitted::Desk);
     }
+    log.clear();
     Ok(())
 }
 

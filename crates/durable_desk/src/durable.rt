@@ -1,13 +1,16 @@
 //! The durable desk.
 
-ghost use Rattle.std.specs.Prelude.{◌≡◌, IfErr, IfOk, false, length};
+ghost use Rattle.std.specs.Prelude.{◌≡◌, IfErr, IfOk, IsTrue, false, length};
 ghost use Rattle.session.specs.Session.{pages_of};
-ghost use Rattle.desk.specs.Desk.{Asks, Cancels, Leaves, Stops, Tells};
-ghost use Rattle.desk.specs.History.{Next, fails, is_failure};
-ghost use Rattle.durable_desk.specs.Durable.{Commits, IsCutShort, KeepsFile, MayNotOpenFile, OpensFile};
+ghost use Rattle.call_entries.specs.Log.{Notes};
+ghost use Rattle.desk.specs.Desk.{Asks, Cancels, Leaves, Stops, TellsAndNotes, noted_of};
+ghost use Rattle.desk.specs.History.{is_failure, tells_failure};
+ghost use Rattle.durable_desk.specs.Durable.{Commits, IsCutShort, IsReady, KeepsFile};
+ghost use Rattle.durable_desk.specs.Opening.{MayNotOpenFile, OpensFile};
 
-use crate::commit::{Uncommitted, bring};
-use crate::opening::desk_of;
+use crate::commit::{Uncommitted, bring, keep};
+use crate::opening::{OpenRefusal, remade};
+use call_entries::CallLog;
 use desk::session::queue_model::{Answer, Call, Caller};
 use desk::session::{OpenFault, Unanswered};
 use desk::{Desk, Told};
@@ -15,13 +18,21 @@ use safe_device::{PagePair, SafeDevice};
 use std::alloc::Global;
 use std::marker::Model;
 
+/// A checkpoint is made in place of a note that would bring the bytes of the calls in the journal
+/// above this: about as much as is made again in half a second.
+const MOST_NOTED: u64 = 8_388_608;
+
 /// The calls of many clients over a file that a crash leaves as at a commit. What is answered is in
-/// memory until the next commit brings it to the file. Whoever is told of an answer only behind a
-/// commit finds it after any crash.
+/// memory until the next commit notes it in the journal, or brings it to the file. Whoever is told
+/// of an answer only behind a commit finds it after any crash.
 #[derive(Drop)]
 pub struct DurableDesk<P: PagePair> {
     desk: Desk,
     device: SafeDevice<P>,
+    /// The calls that were decided since the last commit.
+    log: CallLog,
+    /// How many bytes of calls the journal has, at most.
+    noted: u64,
     /// A commit has failed, or the desk has.
     has_failed: bool,
 }
@@ -34,6 +45,7 @@ impl<P: PagePair> Model for DurableDesk<P> {
     ghost view = { λ d. record {
       desk = d.desk;
       device = d.device;
+      log = d.log;
       has_failed = d.has_failed;
     } };
 
@@ -41,27 +53,44 @@ impl<P: PagePair> Model for DurableDesk<P> {
 }
 
 impl<P: PagePair> DurableDesk<P> {
-    /// Opens the file of a device, whose pages are read into memory and checked. So many calls may
-    /// wait at a time, for which memory is taken here.
+    /// Opens the file of a device, as it was recovered: its pages are read into memory and checked,
+    /// and the calls behind them are made again. Nothing is written. So many calls may wait at a
+    /// time, and those of so many bytes be noted at once, for which memory is taken here; with no
+    /// room each commit is a checkpoint. Ids that may be those of queues are put last among `seen`.
     ///
     /// # Errors
     ///
-    /// The first thing that is wrong with the file, a transfer that failed, or no memory.
+    /// The first thing that is wrong with the file, a transfer that failed, or no memory; or a call
+    /// behind its pages is answered otherwise than it was.
     pub fn open(
         alloc: Global,
         device: SafeDevice<P>,
         most: usize,
-    ) -> Result<DurableDesk<P>, OpenFault>
+        room: usize,
+        seen: &mut Vec<u32>,
+    ) -> Result<DurableDesk<P>, OpenRefusal>
     where
         P: Drop,
+        requires { IsTrue P.is_honest → IsReady P.may_leave device }
         ensures ok { IfOk result (OpensFile P.is_honest P.may_leave device most) }
-        ensures refused { IfErr result (MayNotOpenFile P.is_honest device.content) }
+        ensures refused { IfErr result (MayNotOpenFile P.is_honest device) }
     {
         let mut device = device;
-        let desk = desk_of(alloc, &mut device, most)?;
+        let Ok(log) = CallLog::with_room(alloc, room) else {
+            return Err(OpenRefusal::File(OpenFault::NoMemory));
+        };
+        let desk = remade(alloc, &mut device, most, seen)?;
+        // (where some were made again, the next commit is a checkpoint)
+        let noted = if device.noted_count() == 0 {
+            0
+        } else {
+            MOST_NOTED
+        };
         Ok(DurableDesk {
             desk,
             device,
+            log,
+            noted,
             has_failed: false,
         })
     }
@@ -74,9 +103,12 @@ impl<P: PagePair> DurableDesk<P> {
     pub fn ask(&mut self, client: u64, caller: Caller, call: Call) -> Result<Answer, Unanswered>
         ensures asks { Asks (record { client = client; caller = caller; call = call }) result
             self.old.desk self.new.desk }
+        ensures notes { Notes
+            (noted_of (record { client = client; caller = caller; call = call }) result)
+            self.old.log self.new.log }
         ensures file { KeepsFile (is_failure result) self.old self.new }
     {
-        let reply = self.desk.ask(client, caller, call);
+        let reply = self.desk.ask(client, caller, call, &mut self.log);
         self.has_failed = self.has_failed || is_failure(&reply);
         reply
     }
@@ -84,10 +116,11 @@ impl<P: PagePair> DurableDesk<P> {
     /// Answers the call that came first of those that wait and have an answer now; none where none
     /// of them has one. What is answered is not yet in the file.
     pub fn next(&mut self) -> Option<Told>
-        ensures tells { Tells result self.old.desk self.new.desk }
-        ensures file { KeepsFile (fails (Next result)) self.old self.new }
+        ensures tells { TellsAndNotes result self.old.desk self.new.desk
+            self.old.log self.new.log }
+        ensures file { KeepsFile (tells_failure result) self.old self.new }
     {
-        let told = self.desk.next();
+        let told = self.desk.next(&mut self.log);
         self.has_failed = self.has_failed || tells_failure(&told);
         told
     }
@@ -96,6 +129,7 @@ impl<P: PagePair> DurableDesk<P> {
     pub fn cancel(&mut self, client: u64) -> bool
         ensures cancels { Cancels client result self.old.desk self.new.desk }
         ensures file { KeepsFile false self.old self.new }
+        ensures log { self.new.log ≡ self.old.log }
     {
         self.desk.cancel(client)
     }
@@ -104,6 +138,7 @@ impl<P: PagePair> DurableDesk<P> {
     pub fn leave(&mut self, connection: u32) -> bool
         ensures leaves { Leaves connection result self.old.desk self.new.desk }
         ensures file { KeepsFile false self.old self.new }
+        ensures log { self.new.log ≡ self.old.log }
     {
         self.desk.leave(connection)
     }
@@ -113,17 +148,19 @@ impl<P: PagePair> DurableDesk<P> {
     pub fn stop(&mut self)
         ensures stops { Stops self.old.desk self.new.desk }
         ensures file { KeepsFile false self.old self.new }
+        ensures log { self.new.log ≡ self.old.log }
     {
         self.desk.stop();
     }
 
-    /// Brings all that was answered to where it outlasts a crash: the pages that have changed since
-    /// the last commit are written, the device is synced, and that is noted. Where none has changed
-    /// nothing is done. A crash meanwhile leaves the file as at the last commit, or as at this one.
+    /// Brings all that was answered to where it outlasts a crash: the calls that may have changed the
+    /// system are noted in the journal, with one addition and one wait; where there is none nothing
+    /// is done. A checkpoint is made where some were left out, and where the journal has grown long.
+    /// A crash meanwhile leaves what was committed last, or this.
     ///
     /// # Errors
     ///
-    /// Why the file could not be brought there. From here on no commit is made.
+    /// Why it could not be brought there. From here on no commit is made.
     pub fn commit(&mut self) -> Result<(), Uncommitted>
         ensures becomes { Commits P.is_honest P.may_leave result self.old self.new }
         ensures any_moment { IsCutShort P.is_honest P.moment P.left_since self.old self.new }
@@ -131,7 +168,29 @@ impl<P: PagePair> DurableDesk<P> {
         if self.has_failed {
             return Err(Uncommitted::Earlier);
         }
-        let brought = bring(&mut self.desk, &mut self.device);
+        let noted = self.noted.saturating_add(self.log.as_slice().len() as u64);
+        let is_due = noted > MOST_NOTED;
+        let kept = keep(&mut self.desk, &mut self.device, &mut self.log, is_due);
+        self.noted = if is_due { 0 } else { noted };
+        self.has_failed = kept.is_err();
+        kept
+    }
+
+    /// A commit that ends the calls in the journal: the pages that have changed since the last
+    /// checkpoint are written to the file, and the device is synced.
+    ///
+    /// # Errors
+    ///
+    /// As of `commit`.
+    pub fn checkpoint(&mut self) -> Result<(), Uncommitted>
+        ensures becomes { Commits P.is_honest P.may_leave result self.old self.new }
+        ensures any_moment { IsCutShort P.is_honest P.moment P.left_since self.old self.new }
+    {
+        if self.has_failed {
+            return Err(Uncommitted::Earlier);
+        }
+        let brought = bring(&mut self.desk, &mut self.device, &mut self.log);
+        self.noted = 0;
         self.has_failed = brought.is_err();
         brought
     }
@@ -180,7 +239,7 @@ fn is_failure(reply: &Result<Answer, Unanswered>) -> bool
 
 /// The same of one that waited.
 fn tells_failure(told: &Option<Told>) -> bool
-    ensures { result ≡ fails (Next told.now) }
+    ensures { result ≡ tells_failure told.now }
 {
     match told {
         None => false,

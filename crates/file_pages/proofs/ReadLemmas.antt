@@ -11,7 +11,7 @@ use Rattle.bucket_page.specs.declared.page.PageKind.TheVariants as kinds
 use Rattle.file_pages.specs.declared.fault.FileFault.{FileFault}
 use Rattle.file_pages.specs.declared.fault.FileFault.TheVariants.{Pool}
 use Rattle.file_pages.specs.declared.sight.BucketSight.{BucketSight}
-use Rattle.file_pages.specs.Fault.{IsDevicesFault}
+use Rattle.file_pages.specs.Fault.{FileHasCause, IsDevicesFault, IsOfPage}
 use Rattle.file_pages.specs.Files.{store_of, image, SpellsFile, IsFilePool, IsReady}
 use Rattle.file_pages.specs.Pinning.{IsPinned}
 use Rattle.file_pages.proofs.StoreLemmas.{page_is as stored_page_is}
@@ -98,6 +98,28 @@ pin_fails Malformed s t page honest f ready within past crowded told failed =
 pin_fails TooFewFrames s t page honest f ready within past crowded told failed =
     absurd (omega (arith, (crowded refl).all_pinned, count_none s.pins ready.rest, ready.frames))
 pin_fails NoMemory s t page honest f ready within past crowded told failed = absurd told
+
+-- whatever the device, it is not pinned only for what a page or a transfer may come to: there is a frame, and a step
+-- takes no memory
+pin_of_page : {T : Type 0} (fault : PoolFault) (s : PoolState) (page : ℕ) → IsReady s →
+    (IsErrOf {T = T} (Err fault) TooFewFrames → IsCrowded page s) → MayNotPin page s fault → IsOfPage (Pool fault)
+pin_of_page (Device device.Device) s page ready crowded told = tt
+pin_of_page (Device device.BadDigest) s page ready crowded told = tt
+pin_of_page (Device device.PastEnd) s page ready crowded told = tt
+pin_of_page (Device device.DeviceFull) s page ready crowded told = told
+pin_of_page (Device device.NoMemory) s page ready crowded told = told
+pin_of_page Malformed s page ready crowded told = tt
+pin_of_page TooFewFrames s page ready crowded told =
+    omega (arith, (crowded refl).all_pinned, count_none s.pins ready.rest, ready.frames)
+pin_of_page NoMemory s page ready crowded told = told
+
+pub pin_has_cause : {T : Type 0} (fault : PoolFault) (s t : PoolState) (page : ℕ) → IsReady s →
+    (IsErrOf {T = T} (Err fault) TooFewFrames → IsCrowded page s) → MayNotPin page s fault →
+    (IsErrOf {T = T} (Err fault) (Device device.Device) → HasRisen s.faults t.faults) → FileHasCause s t (Pool fault)
+pin_has_cause {T = T} fault s t page ready crowded told failed = record {
+  page = pin_of_page {T = T} fault s page ready crowded told;
+  risen = λ same. let is : fault ≡ Device device.Device = cc in failed (ap Err is);
+}
 
 -- ---- what is seen of a page
 

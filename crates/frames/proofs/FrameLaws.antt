@@ -60,11 +60,11 @@ frame_again f bytes fits is =
 
 -- ---- records
 
-abbrev behind_length : Head → List ℕ
+abbrev pub behind_length : Head → List ℕ
 behind_length h =
     joined (four h.connection ∷ four h.kind ∷ four h.caller.pid ∷ four h.caller.uid ∷ four h.caller.gid ∷ h.rest ∷ [])
 
-length-behind : (h : Head) → length (behind_length h) ≡ 20 + length h.rest
+pub length-behind : (h : Head) → length (behind_length h) ≡ 20 + length h.rest
 length-behind h = simp (length-append, length-four, append-nil) (omega arith)
 
 pub length-head : (h : Head) → length (head_bytes h) ≡ 24 + length h.rest

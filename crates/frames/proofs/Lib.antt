@@ -5,4 +5,5 @@ pub mod LittleLaws
 pub mod PartLaws
 pub mod RecordLaws
 pub mod RequestLaws
+pub mod SpellLaws
 pub mod ToldLaws

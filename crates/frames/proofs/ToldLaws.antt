@@ -57,7 +57,7 @@ reply_is (replies.Info counts) =
 
 -- ---- parts one by one
 
-regrouped : (front : List ℕ) (parts : List (List ℕ)) → appended front parts ≡ front ++ joined parts
+pub regrouped : (front : List ℕ) (parts : List (List ℕ)) → appended front parts ≡ front ++ joined parts
 regrouped front [] = sym (append-nil front)
 regrouped front (part ∷ parts) = regrouped (front ++ part) parts ∙ append_assoc front part (joined parts)
 

@@ -4,3 +4,4 @@ pub mod Requests
 pub mod Records
 pub mod Reading
 pub mod Answers
+pub mod Spelling

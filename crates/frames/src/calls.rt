@@ -186,7 +186,7 @@ impl<'a> Frame<'a> {
 }
 
 /// The flags of a Get.
-fn get_flags(arguments: &GetArguments) -> u8
+pub fn get_flags(arguments: &GetArguments) -> u8
     ensures { result ≡ get_flags arguments.now }
 {
     flag(arguments.create, CREATE)
@@ -195,7 +195,7 @@ fn get_flags(arguments: &GetArguments) -> u8
 }
 
 /// The flags of a Set.
-fn set_flags(arguments: &SetArguments) -> u8
+pub fn set_flags(arguments: &SetArguments) -> u8
     ensures { result ≡ set_flags arguments.now }
 {
     flag(arguments.uid.is_some(), HAS_USER)

@@ -14,6 +14,7 @@ mod little;
 mod operations;
 mod reading;
 mod reply;
+mod spelling;
 mod telling;
 #[cfg(test)]
 mod tests;
@@ -21,7 +22,9 @@ mod tests;
 pub use codes::{CANCELLED, DONE, ENDS, FAILED, NO_MEMORY, NO_ROOM, WRONG};
 pub use incoming::{Incoming, Kind, Operation, Request, Unread};
 pub use laws::a_record_is_of_one_incoming;
+pub use little::{eight_at, put_eight};
 pub use numbers::faults::NoMemory;
 pub use reading::{MAX_RECORD, read, whole};
 pub use reply::{Counts, Reply};
+pub use spelling::{Asker, has_short_body, put_call};
 pub use telling::{MAX_TOLD, put};

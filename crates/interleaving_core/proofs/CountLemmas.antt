@@ -11,7 +11,7 @@ use Rattle.step_rules.specs.Kinds.{may_lengthen}
 use Rattle.step_rules.specs.Ways.{hops_added}
 use Rattle.step_rules.specs.declared.kind.Kind.{Kind}
 use Rattle.step_rules.specs.declared.kind.Kind.TheVariants as kinds
-use Rattle.interleaving_core.specs.Counting.{AreSoundCounts, CountsState, IsCountedSeat, MOST_COUNTED, Notes, begins_change, change_after, changes_counts, count_at, count_behind, ends_change, gone_count, is_nothing, no_count, own_count, touches_all}
+use Rattle.interleaving_core.specs.Counting.{AreSoundCounts, CountsState, IsCountedSeat, MOST_COUNTED, Notes, begins_change, change_after, changes_counts, count_at, count_behind, counts_for_all, ends_change, gone_count, is_nothing, no_count, own_count, touches_all}
 use Rattle.interleaving_core.specs.declared.count.SearchCount.{SearchCount}
 use Rattle.interleaving_core.specs.declared.under_way.UnderWay.{UnderWay}
 use Rattle.interleaving_core.specs.declared.under_way.UnderWay.TheVariants.{Nothing, Split, Merge}
@@ -319,7 +319,7 @@ none_changes kinds.LinkFree u begins ends = absurd cc
 none_changes kinds.LowerDepth u begins ends = refl
 
 module _ (seat : ℕ) (kind : Kind) (s : CountsState) (sound : AreSoundCounts s) (is : IsCountedSeat s.counts seat)
-    (quiet : (touches_all kind || ends_change kind) ≡ false) where
+    (quiet : counts_for_all kind ≡ false) where
   touches_none : touches_all kind ≡ false
   touches_none = first_fails (touches_all kind) (ends_change kind) quiet
 
@@ -341,6 +341,32 @@ module _ (seat : ℕ) (kind : Kind) (s : CountsState) (sound : AreSoundCounts s)
     own = other_stays seat ∙ sym (own_none s.under_way (count_behind kind s.under_way (count_at s.counts seat)));
     others = λ other apart. other_stays other;
   }
+
+  -- ---- a step that is counted for its own seat alone
+
+  all_stay : s.counts ≡ map (count_behind kind s.under_way) s.counts
+  all_stay = sym (ap (λ (u : UnderWay). map (count_behind kind u) s.counts) stays_under_way
+      ∙ none_touched kind s sound touches_none)
+
+  own_stays : (c : SearchCount) → c ≡ slice_index_or s.counts (seat - 1) c → c ≡ count_behind kind s.under_way c
+  own_stays c at =
+      count_there s.counts seat c is at ∙ other_stays seat
+      ∙ ap (count_behind kind s.under_way) (sym (count_there s.counts seat c is at))
+
+  pub own_notes : (begins goes_on ends : Bool) (c own : SearchCount) → c ≡ slice_index_or s.counts (seat - 1) c →
+      own ≡ own_count begins goes_on ends s.under_way c →
+      Notes seat kind begins goes_on ends s
+      (record { counts = slice_set s.counts (seat - 1) own; under_way = s.under_way })
+  own_notes begins goes_on ends c own at is_own =
+      counts_notes seat kind begins goes_on ends s c sound is at s.counts own s.under_way stays_under_way all_stay
+      (is_own ∙ ap (own_count begins goes_on ends s.under_way) (own_stays c at))
+
+  pub own_sound : (begins goes_on ends : Bool) (c own : SearchCount) → c ≡ slice_index_or s.counts (seat - 1) c →
+      own ≡ own_count begins goes_on ends s.under_way c →
+      AreSoundCounts (record { counts = slice_set s.counts (seat - 1) own; under_way = s.under_way })
+  own_sound begins goes_on ends c own at is_own =
+      counts_sound seat kind begins goes_on ends s c sound is at s.counts own s.under_way stays_under_way all_stay
+      (is_own ∙ ap (own_count begins goes_on ends s.under_way) (own_stays c at))
 
 pub none_noted : (seat : ℕ) (kind : Kind) (begins goes_on ends : Bool) (s : CountsState) → AreSoundCounts s →
     IsCountedSeat s.counts seat → changes_counts kind begins goes_on ends ≡ false →

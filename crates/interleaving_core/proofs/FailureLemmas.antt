@@ -1,15 +1,11 @@
 -- What failed a kernel, and what its seat is told of the file.
 use Rattle.std.proofs.Common.{◌≡◌, refl, sym, ◌∙◌, subst, ℕ, ◌≤◌, Bool, true, false, inl, inr, List, Option, Some, None}
 use Rattle.std.specs.Option.{is_some}
-use Rattle.buffer_pool.specs.declared.fault.PoolFault.TheVariants as pool_faults
 use Rattle.file_pages.proofs.ReadLemmas.{devices_after}
 use Rattle.file_pages.specs.Fault.{FileHasCause}
 use Rattle.file_pages.specs.declared.fault.FileFault.{FileFault}
-use Rattle.file_pages.specs.declared.fault.FileFault.TheVariants.{Pool, Failed}
-use Rattle.page_device.specs.declared.fault.DeviceFault.TheVariants as device
 use Rattle.step_rules.specs.declared.progress.Progress.TheVariants as progress
 use Rattle.interleaving_core.specs.Active.{ActiveView, is_waiting}
-use Rattle.interleaving_core.specs.Fault.{IsOfPage, of_page}
 use Rattle.interleaving_core.specs.Kernel.{IsWhole, KernelState}
 use Rattle.interleaving_core.specs.Owing.{failure_by, is_failure}
 use Rattle.interleaving_core.specs.Turn.{MakesTurn, TakesTurn, Turns, TurnsAnew, told_of, told_when_over}
@@ -37,64 +33,30 @@ none_there (Some failure) none = absurd cc
 pub none_blamed : {K : Type 0} (s : KernelState K) → IsWhole s → s.failed ≡ false → s.failure ≡ None
 none_blamed s whole sound = none_there s.failure (sym whole.blamed ∙ sound)
 
--- ---- what is told of the file
-
-pub is_of_page : (fault : FileFault) → IsOfPage (of_page fault)
-is_of_page (Pool (pool_faults.Device device.Device)) = tt
-is_of_page (Pool (pool_faults.Device device.BadDigest)) = tt
-is_of_page (Pool (pool_faults.Device device.PastEnd)) = tt
-is_of_page (Pool (pool_faults.Device device.DeviceFull)) = tt
-is_of_page (Pool (pool_faults.Device device.NoMemory)) = tt
-is_of_page (Pool pool_faults.Malformed) = tt
-is_of_page (Pool pool_faults.TooFewFrames) = tt
-is_of_page (Pool pool_faults.NoMemory) = tt
-is_of_page Failed = tt
-
 over_apart : (waits : Bool) (answer : Option Answer) (fault : FileFault) →
     told_when_over waits answer ≡ steps.Fault (faults.File fault) → ⊥
 over_apart true answer fault is = cc
 over_apart false None fault is = cc
 over_apart false (Some answer) fault is = cc
 
-of_progress : (did : Progress FileFault) (m : CallView) (fault : FileFault) →
-    told_of did m ≡ steps.Fault (faults.File fault) → IsOfPage fault
-of_progress (progress.Moved kind) m fault is = absurd cc
-of_progress (progress.Blocked other) m fault is = absurd cc
-of_progress (progress.Fault met) m fault is =
-    let same : of_page met ≡ fault = cc in
-    subst IsOfPage same (is_of_page met)
-of_progress progress.Ended m fault is =
-    absurd (over_apart (is_waiting (conclusion_of m)) (answer_of_call m) fault is)
-
--- ---- why it is told
-
--- what is told of a fault is that of a transfer only where the fault was
-told_cause : (old new : PoolState) (met : FileFault) → FileHasCause old new met → FileHasCause old new (of_page met)
-told_cause old new (Pool (pool_faults.Device device.Device)) cause = cause
-told_cause old new (Pool (pool_faults.Device device.BadDigest)) cause = cause
-told_cause old new (Pool (pool_faults.Device device.PastEnd)) cause = cause
-told_cause old new (Pool (pool_faults.Device device.DeviceFull)) cause = λ same. absurd cc
-told_cause old new (Pool (pool_faults.Device device.NoMemory)) cause = λ same. absurd cc
-told_cause old new (Pool pool_faults.Malformed) cause = cause
-told_cause old new (Pool pool_faults.TooFewFrames) cause = λ same. absurd cc
-told_cause old new (Pool pool_faults.NoMemory) cause = λ same. absurd cc
-told_cause old new Failed cause = cause
-
 of_cause : (old new : PoolState) (did : Progress FileFault) (m : CallView) (fault : FileFault) →
     told_of did m ≡ steps.Fault (faults.File fault) → StepHasCause did old new → FileHasCause old new fault
 of_cause old new (progress.Moved kind) m fault is cause = absurd cc
 of_cause old new (progress.Blocked other) m fault is cause = absurd cc
 of_cause old new (progress.Fault met) m fault is cause =
-    let same : of_page met ≡ fault = cc in
-    subst (FileHasCause old new) same (told_cause old new met (cause met refl))
+    let same : met ≡ fault = cc in
+    subst (FileHasCause old new) same (cause met refl)
 of_cause old new progress.Ended m fault is cause =
     absurd (over_apart (is_waiting (conclusion_of m)) (answer_of_call m) fault is)
 
 -- what has failed behind a step has failed in both
 cause_after : (old mid new : PoolState) (fault : FileFault) → old.faults ≤ mid.faults → FileHasCause mid new fault →
     FileHasCause old new fault
-cause_after old mid new fault later cause same =
-    (devices_after {s = old} {t = mid} {v = new} later (record { risen = cause same; told = same })).risen
+cause_after old mid new fault later cause = record {
+  page = cause.page;
+  risen = λ same.
+      (devices_after {s = old} {t = mid} {v = new} later (record { risen = cause.risen same; told = same })).risen;
+}
 
 module _ (hash : RecordKey → ℕ) (seat : ℕ) (stopped : Bool) (did : Step) (fault : FileFault)
     (told : did ≡ steps.Fault (faults.File fault)) where
@@ -109,39 +71,6 @@ module _ (hash : RecordKey → ℕ) (seat : ℕ) (stopped : Bool) (did : Step) (
     where
       apart : steps.Idle ≡ steps.Fault (faults.File fault) → ⊥
       apart clash = cc
-
-  made_page : (a : ActiveView) (left : Option ActiveView) (pool pool' : PoolState) (locks locks' : Table)
-      (journal journal' : List Entry) →
-      MakesTurn hash seat stopped did a left pool pool' locks locks' journal journal' → IsOfPage fault
-  made_page a left pool pool' locks locks' journal journal' t =
-      of_progress t.did t.come.machine fault (sym t.told_is ∙ told)
-
-  anew_page : (a : ActiveView) (left : Option ActiveView) (pool pool' : PoolState) (locks locks' : Table)
-      (journal journal' : List Entry) →
-      (t : TurnsAnew hash seat stopped did a left pool pool' locks locks' journal journal') → (b : Bool) →
-      stays_waiting t.again.wait t.again.machine.call journal ≡ b → IsOfPage fault
-  anew_page a left pool pool' locks locks' journal journal' t true stays =
-      absurd (waits_apart (t.waits stays).told_is)
-  anew_page a left pool pool' locks locks' journal journal' t false woken =
-      made_page t.again left t.between pool' locks locks' journal journal' (t.goes woken).0
-
-  takes_page : (a : ActiveView) (left : Option ActiveView) (pool pool' : PoolState) (locks locks' : Table)
-      (journal journal' : List Entry) →
-      TakesTurn hash seat stopped did a left pool pool' locks locks' journal journal' → (b : Bool) →
-      stays_waiting a.wait a.machine.call journal ≡ b → IsOfPage fault
-  takes_page a left pool pool' locks locks' journal journal' t true stays = absurd (waits_apart (t.waits stays).told_is)
-  takes_page a left pool pool' locks locks' journal journal' t false woken = elim (t.goes woken) [
-    | inl made ↦ made_page a left pool pool' locks locks' journal journal' made.0
-    | inr anew ↦ anew_page a left pool pool' locks locks' journal journal' anew
-        (stays_waiting anew.again.wait anew.again.machine.call journal) refl
-  ]
-
-  turn_page : (at left : Option ActiveView) (pool pool' : PoolState) (locks locks' : Table)
-      (journal journal' : List Entry) →
-      Turns hash seat stopped did at left pool pool' locks locks' journal journal' → IsOfPage fault
-  turn_page None left pool pool' locks locks' journal journal' t = absurd (idle_apart t.told_is)
-  turn_page (Some a) left pool pool' locks locks' journal journal' t =
-      takes_page a left pool pool' locks locks' journal journal' t (stays_waiting a.wait a.machine.call journal) refl
 
   made_cause : (a : ActiveView) (left : Option ActiveView) (pool pool' : PoolState) (locks locks' : Table)
       (journal journal' : List Entry) →
@@ -171,18 +100,9 @@ module _ (hash : RecordKey → ℕ) (seat : ℕ) (stopped : Bool) (did : Step) (
         (stays_waiting anew.again.wait anew.again.machine.call journal) refl
   ]
 
-  turn_cause : (at left : Option ActiveView) (pool pool' : PoolState) (locks locks' : Table)
+  pub turn_cause : (at left : Option ActiveView) (pool pool' : PoolState) (locks locks' : Table)
       (journal journal' : List Entry) →
       Turns hash seat stopped did at left pool pool' locks locks' journal journal' → FileHasCause pool pool' fault
   turn_cause None left pool pool' locks locks' journal journal' t = absurd (idle_apart t.told_is)
   turn_cause (Some a) left pool pool' locks locks' journal journal' t =
       takes_cause a left pool pool' locks locks' journal journal' t (stays_waiting a.wait a.machine.call journal) refl
-
-  pub turn_told : (at left : Option ActiveView) (pool pool' : PoolState) (locks locks' : Table)
-      (journal journal' : List Entry) →
-      Turns hash seat stopped did at left pool pool' locks locks' journal journal' →
-      IsOfPage fault × FileHasCause pool pool' fault
-  turn_told at left pool pool' locks locks' journal journal' t = (
-    turn_page at left pool pool' locks locks' journal journal' t,
-    turn_cause at left pool pool' locks locks' journal journal' t,
-  )

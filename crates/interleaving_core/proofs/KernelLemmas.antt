@@ -8,7 +8,6 @@ use Rattle.file_pages.specs.declared.fault.FileFault.{FileFault}
 use Rattle.interleaving_core.specs.Counting.{CountsState, IsCountedSeat}
 use Rattle.interleaving_core.specs.Words.{Caller, Entry, IsSeat, PoolState, RecordKey, Table, caller_at, row_of, with_row}
 use Rattle.interleaving_core.specs.Active.{ActiveView}
-use Rattle.interleaving_core.specs.Fault.{IsOfPage}
 use Rattle.interleaving_core.specs.Kernel.{AreFittingCallers, IsCallOf, IsWhole, KernelState, call_at, due_at, due_for_stop, entries_of, locks_of, with_call}
 use Rattle.interleaving_core.specs.Owing.{IsRun, IsTurn, answer_told, failure_by, is_failure, lapsed, told}
 use Rattle.interleaving_core.specs.Past.{IsOfJournal, KeepsJournal, call_of, untold}
@@ -22,7 +21,7 @@ use Rattle.interleaving_core.specs.declared.step.Step.{Step}
 use Rattle.interleaving_core.specs.declared.step.Step.TheVariants as steps
 use Rattle.interleaving_core.proofs.TurnLemmas.{Does}
 use Rattle.interleaving_core.proofs.AnewLemmas.{turn_does, turn_looked}
-use Rattle.interleaving_core.proofs.FailureLemmas.{blamed_by, none_blamed, turn_told}
+use Rattle.interleaving_core.proofs.FailureLemmas.{blamed_by, none_blamed, turn_cause}
 use Rattle.interleaving_core.proofs.PartLemmas.{part_other, part_own}
 use Rattle.interleaving_core.proofs.PastLemmas.{kept_beside, part_since, unwoken_whole}
 use Rattle.interleaving_core.proofs.PlaceLemmas.{Seats, at_other, at_place, at_same, due_with, length-with_call, row_at, rows_with, with_own, with_place}
@@ -264,9 +263,9 @@ module _ {K : Type 0} (seat : ℕ) (did : Step) (left : Option ActiveView) (old 
     pub turn_behind : (call_at old.seats seat ≡ None → new ≡ old) → old.failed ≡ false →
         new.failure ≡ failure_by seat did None → (did ≡ steps.Waiting →
         (b : ActiveView) × (left ≡ Some b) × (b.wait ≡ Some (length new.journal))) → ((fault : FileFault) →
-        did ≡ steps.Fault (faults.File fault) → IsOfPage fault × FileHasCause old.pool new.pool fault) →
+        did ≡ steps.Fault (faults.File fault) → FileHasCause old.pool new.pool fault) →
         IsTurn seat did old new
-    turn_behind spares sound failure looked page = record {
+    turn_behind spares sound failure looked cause = record {
       run = run;
       idle = does.idle;
       spares = spares;
@@ -286,8 +285,8 @@ module _ {K : Type 0} (seat : ℕ) (did : Step) (left : Option ActiveView) (old 
           ∙ append-nil old.journal;
       entries = entries;
       joins = joins (call_at old.seats seat) refl;
-      page = λ fault told. (page fault told).0;
-      cause = λ fault told. (page fault told).1;
+      page = λ fault told. (cause fault told).page;
+      cause = cause;
       failed = blamed ∙ ap is_some failure ∙ blamed_by seat did ∙ sym (ap (λ (b : Bool). b || is_failure did) sound);
       failure = failure ∙ sym (ap (failure_by seat did) (none_blamed old whole sound));
       fails = λ broken. absurd cc;
@@ -326,7 +325,7 @@ makes_step of seat did slot left old new now view whole seated at turns seats ke
       turn = turn_behind seat did left old new whole is does seats_are keys callers stopped counts blamed spares sound
           failure (turn_looked (of old.keys) seat old.stopped did (call_at old.seats seat) left old.pool new.pool
           old.locks new.locks old.journal new.journal here)
-          (λ fault told. turn_told (of old.keys) seat old.stopped did fault told (call_at old.seats seat) left old.pool
+          (λ fault told. turn_cause (of old.keys) seat old.stopped did fault told (call_at old.seats seat) left old.pool
           new.pool old.locks new.locks old.journal new.journal here);
       makes = λ a at_a fine. subst (λ (x : Option ActiveView). Turns (of old.keys) seat old.stopped did (Some a) x
           old.pool new.pool old.locks new.locks old.journal new.journal) (sym left_is)

@@ -7,7 +7,6 @@ use Rattle.page_locks.proofs.ChangeLemmas.{IsSeat-with_row, with_row-own, with_r
 use Rattle.step_rules.specs.declared.kind.Kind.{Kind}
 use Rattle.interleaving_core.specs.Words.{Answer, Call, Entry, IsSeat, Table, row_of, with_row}
 use Rattle.interleaving_core.specs.Active.{ActiveView}
-use Rattle.interleaving_core.specs.Fault.{IsOfPage}
 use Rattle.interleaving_core.specs.Kernel.{IsWhole, KernelState, call_at, locks_of, with_call}
 use Rattle.interleaving_core.specs.Owing.{IsMove, IsRun, IsTurn, answer_told, failure_by, is_end, is_failure, lapsed, told, told_of_failure}
 use Rattle.interleaving_core.specs.Past.{KeepsJournal, call_of, entry_of, untold}
@@ -65,7 +64,7 @@ fails_put seat did s whole broken is = record {
       ∙ ap (untold seat) (sym there)
       ∙ sym (ap (λ (x : Option Answer). told seat (Some a) x ++ untold seat (call_at s.seats seat))
       (ap answer_told is ∙ none (call_at s.seats seat)));
-  page = λ fault told. of_failure (call_at s.seats seat) fault (sym is ∙ told);
+  page = λ fault told. (no_transfer (call_at s.seats seat) fault (sym is ∙ told)).page;
   cause = λ fault told. no_transfer (call_at s.seats seat) fault (sym is ∙ told);
   failed = broken ∙ sym (ap (λ (b : Bool). b || is_failure did) broken);
   failure = first s.failure (sym whole.blamed ∙ broken);
@@ -82,19 +81,12 @@ fails_put seat did s whole broken is = record {
     none_lapsed None = refl
     none_lapsed (Some a) = refl
 
-    of_failure : (at : Option ActiveView) (fault : FileFault) →
-        told_of_failure at ≡ steps.Fault (faults.File fault) → IsOfPage fault
-    of_failure None fault told = absurd cc
-    of_failure (Some a) fault told =
-        let same : Failed ≡ fault = cc in
-        subst IsOfPage same tt
-
     no_transfer : (at : Option ActiveView) (fault : FileFault) →
         told_of_failure at ≡ steps.Fault (faults.File fault) → FileHasCause s.pool s.pool fault
     no_transfer None fault told = absurd cc
     no_transfer (Some a) fault told =
         let same : Failed ≡ fault = cc in
-        subst (FileHasCause s.pool s.pool) same (λ is. absurd cc)
+        subst (FileHasCause s.pool s.pool) same (record { page = tt; risen = λ is. absurd cc })
 
     none : (at : Option ActiveView) → answer_told (told_of_failure at) ≡ None
     none None = refl

@@ -76,10 +76,13 @@ ends_change kinds.SetCounts = true
 ends_change kinds.LinkFree = true
 ends_change kind = false
 
+-- the kinds that are counted for more than the searches of their own seat
+abbrev pub counts_for_all : Kind → Bool
+counts_for_all kind = touches_all kind || ends_change kind
+
 -- whether any count may come to differ
 abbrev pub changes_counts : Kind → (begins goes_on ends : Bool) → Bool
-changes_counts kind begins goes_on ends =
-    begins || (goes_on || (ends || (touches_all kind || ends_change kind)))
+changes_counts kind begins goes_on ends = begins || (goes_on || (ends || counts_for_all kind))
 
 -- ---- all seats
 

@@ -1,14 +1,11 @@
 -- The numbers of faults. docs/FAULTS.md.
-use Rattle.std.specs.Prelude.{ℕ, ⊤}
-use Rattle.buffer_pool.specs.declared.fault.PoolFault.TheVariants as pool
+use Rattle.std.specs.Prelude.{ℕ}
 use Rattle.numbers.specs.declared.faults.TheConstants.{BUSY, DEVICE, FAILED, NO_MEMORY, NO_ROOM, SESSION_FULL, TOO_FEW_FRAMES}
 use Rattle.file_check.specs.Fault as check
 use Rattle.file_check.specs.declared.fault.CheckFault.TheVariants as checks
 use Rattle.file_pages.specs.Fault as file
 use Rattle.file_pages.specs.declared.fault.FileFault.{FileFault}
-use Rattle.file_pages.specs.declared.fault.FileFault.TheVariants.{Pool, Failed}
 use Rattle.file_walk.specs.declared.fault.StructureFault.TheVariants as structure
-use Rattle.page_device.specs.declared.fault.DeviceFault.TheVariants as device
 use Rattle.interleaving_core.specs.declared.fault.BeginFault.{BeginFault}
 use Rattle.interleaving_core.specs.declared.fault.BeginFault.TheVariants as begins
 use Rattle.interleaving_core.specs.declared.fault.CloseFault.{CloseFault}
@@ -38,31 +35,6 @@ begin_number_of begins.NoMemory = NO_MEMORY
 abbrev pub step_number_of : StepFault → ℕ
 step_number_of (steps.File fault) = FAILED
 step_number_of steps.NoRoom = NO_ROOM
-
--- a transfer failed, or a page is not as it was checked. A step takes no memory, wants no frame but those that there
--- are, and adds no page
-abbrev pub IsOfPage : FileFault → Type 0
-IsOfPage (Pool (pool.Device device.Device)) = ⊤
-IsOfPage (Pool (pool.Device device.BadDigest)) = ⊤
-IsOfPage (Pool (pool.Device device.PastEnd)) = ⊤
-IsOfPage (Pool (pool.Device device.DeviceFull)) = ⊥
-IsOfPage (Pool (pool.Device device.NoMemory)) = ⊥
-IsOfPage (Pool pool.Malformed) = ⊤
-IsOfPage (Pool pool.TooFewFrames) = ⊥
-IsOfPage (Pool pool.NoMemory) = ⊥
-IsOfPage Failed = ⊤
-
--- what else a step could meet is told as what no page may say
-abbrev pub of_page : FileFault → FileFault
-of_page (Pool (pool.Device device.Device)) = Pool (pool.Device device.Device)
-of_page (Pool (pool.Device device.BadDigest)) = Pool (pool.Device device.BadDigest)
-of_page (Pool (pool.Device device.PastEnd)) = Pool (pool.Device device.PastEnd)
-of_page (Pool (pool.Device device.DeviceFull)) = Failed
-of_page (Pool (pool.Device device.NoMemory)) = Failed
-of_page (Pool pool.Malformed) = Pool pool.Malformed
-of_page (Pool pool.TooFewFrames) = Failed
-of_page (Pool pool.NoMemory) = Failed
-of_page Failed = Failed
 
 abbrev pub close_number_of : CloseFault → ℕ
 close_number_of closes.Device = DEVICE

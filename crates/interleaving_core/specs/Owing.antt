@@ -1,7 +1,7 @@
 -- What a step of a seat leaves of a kernel, and which entries its seat is told. docs/STEPS.md, "Calls";
 -- docs/QUEUES.md, "Journals".
 use Rattle.std.specs.Prelude.{ℕ, ◌≡◌, ◌≢◌, ◌↔◌, ◌+◌, ◌≤◌, Bool, true, false, ◌||◌, IsSome, List, ◌++◌, Option, Some, None, drop, length, ⊤}
-use Rattle.file_pages.specs.Fault.{FileHasCause}
+use Rattle.file_pages.specs.Fault.{FileHasCause, IsOfPage}
 use Rattle.file_pages.specs.declared.fault.FileFault.{FileFault}
 use Rattle.file_pages.specs.declared.fault.FileFault.TheVariants.{Failed}
 use Rattle.queue_model.specs.Journal.{part_of}
@@ -9,7 +9,6 @@ use Rattle.step_rules.specs.declared.kind.Kind.TheVariants.{Decide}
 pub use Rattle.interleaving_core.specs.Past.{call_of, entry_of, untold}
 use Rattle.interleaving_core.specs.Words.{Answer, Entry, spared, with_row}
 use Rattle.interleaving_core.specs.Active.{ActiveView}
-use Rattle.interleaving_core.specs.Fault.{IsOfPage}
 use Rattle.interleaving_core.specs.Waiting.{is_woken}
 use Rattle.interleaving_core.specs.declared.fault.Failure.{Failure}
 use Rattle.interleaving_core.specs.Kernel.{KernelState, call_at, entries_of, locks_of, with_call}

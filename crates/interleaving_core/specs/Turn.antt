@@ -5,7 +5,6 @@ use Rattle.step_rules.specs.declared.progress.Progress.TheVariants as progress
 use Rattle.xsi_calls.specs.CallSteps.{MakesCall}
 use Rattle.interleaving_core.specs.Words.{Answer, CallView, Entry, PoolState, Progress, RecordKey, Table, answer_of_call, conclusion_of}
 use Rattle.interleaving_core.specs.Active.{ActiveView, BeginsAgain, IsDrafted, IsMarked, draft_by, entries_by, is_waiting, told_at_end}
-use Rattle.interleaving_core.specs.Fault.{of_page}
 use Rattle.interleaving_core.specs.Waiting.{stays_waiting}
 use Rattle.interleaving_core.specs.declared.fault.StepFault.TheVariants as faults
 use Rattle.interleaving_core.specs.declared.step.Step.{Step}
@@ -21,14 +20,14 @@ told_when_over false answer = told_at_end answer
 abbrev pub told_on : Progress FileFault → Option Step
 told_on (progress.Moved kind) = Some (steps.Moved kind)
 told_on (progress.Blocked other) = Some (steps.Blocked other)
-told_on (progress.Fault fault) = Some (steps.Fault (faults.File (of_page fault)))
+told_on (progress.Fault fault) = Some (steps.Fault (faults.File fault))
 told_on progress.Ended = None
 
 -- of a step by which the call has come so far
 abbrev pub told_of : Progress FileFault → CallView → Step
 told_of (progress.Moved kind) m = steps.Moved kind
 told_of (progress.Blocked other) m = steps.Blocked other
-told_of (progress.Fault fault) m = steps.Fault (faults.File (of_page fault))
+told_of (progress.Fault fault) m = steps.Fault (faults.File fault)
 told_of progress.Ended m = told_when_over (is_waiting (conclusion_of m)) (answer_of_call m)
 
 -- ---- what is left at the seat

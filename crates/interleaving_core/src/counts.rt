@@ -1,8 +1,9 @@
 //! What is counted of all seats.
 
 ghost use Rattle.std.specs.Prelude.{◌≡◌, false, map, IfOk};
-ghost use Rattle.interleaving_core.specs.Counting.{changes_counts, count_at, count_behind, opened_counts, touches_all};
+ghost use Rattle.interleaving_core.specs.Counting.{changes_counts, count_at, count_behind, counts_for_all, opened_counts, touches_all};
 ghost use Rattle.interleaving_core.specs.Counting.{AreSoundCounts, IsCountedSeat, Notes};
+ghost use Rattle.step_rules.specs.declared.kind.Kind.{Kind};
 
 use crate::count::SearchCount;
 use crate::under_way::UnderWay;
@@ -71,8 +72,13 @@ impl SearchCounts {
         requires { IsCountedSeat self.old.counts seat }
         ensures { Notes seat kind begins goes_on ends self.old self.new }
     {
-        if self.is_counted(seat, kind, begins, goes_on, ends) {
+        if !self.is_counted(seat, kind, begins, goes_on, ends) {
+            return;
+        }
+        if counts_for_all(kind) {
             self.count(seat, kind, begins, goes_on, ends);
+        } else {
+            self.count_own(seat, begins, goes_on, ends);
         }
     }
 
@@ -84,6 +90,18 @@ impl SearchCounts {
         // What is always true of the counts is known of one that is read.
         let _ = &self.under_way;
         changes_counts(kind, begins, goes_on, ends)
+    }
+
+    /// A step is counted by which a search of the seat's own begins, or goes on to another page, or is
+    /// answered by one, and no more.
+    fn count_own(&mut self, seat: u8, begins: bool, goes_on: bool, ends: bool)
+        requires { IsCountedSeat self.old.counts seat }
+        ensures { (kind : Kind) → counts_for_all kind ≡ false →
+            Notes seat kind begins goes_on ends self.old self.new }
+    {
+        let place = seat as usize - 1;
+        let own = self.counts[place].own(begins, goes_on, ends, self.under_way);
+        self.counts[place] = own;
     }
 
     /// A step is counted. The counts of all seats are looked at for four kinds alone.
@@ -121,11 +139,14 @@ fn count_all(counts: &mut [SearchCount], kind: Kind, under_way: UnderWay)
 fn changes_counts(kind: Kind, begins: bool, goes_on: bool, ends: bool) -> bool
     ensures { result ≡ changes_counts kind begins goes_on ends }
 {
-    begins
-        || goes_on
-        || ends
-        || touches_all(kind)
-        || matches!(kind, Kind::SetCounts | Kind::LinkFree)
+    begins || goes_on || ends || counts_for_all(kind)
+}
+
+/// Whether a step of this kind is counted for more than the searches of its own seat.
+fn counts_for_all(kind: Kind) -> bool
+    ensures { result ≡ counts_for_all kind }
+{
+    touches_all(kind) || matches!(kind, Kind::SetCounts | Kind::LinkFree)
 }
 
 /// Whether a step of this kind may change what is counted of all seats.

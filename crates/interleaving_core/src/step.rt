@@ -1,13 +1,10 @@
 //! What a seat is told of a step.
 
 ghost use Rattle.std.specs.Prelude.{◌≡◌};
-ghost use Rattle.interleaving_core.specs.Fault.{of_page};
 ghost use Rattle.interleaving_core.specs.Turn.{told_on};
 
 use crate::fault::StepFault;
-use buffer_pool::PoolFault;
 use file_pages::FileFault;
-use page_device::DeviceFault;
 use queue_model::Answer;
 use step_rules::{Kind, Progress};
 
@@ -38,22 +35,8 @@ impl Step {
         match did {
             Progress::Moved(kind) => Some(Step::Moved(kind)),
             Progress::Blocked(other) => Some(Step::Blocked(other)),
-            Progress::Fault(fault) => Some(Step::Fault(StepFault::File(of_page(fault)))),
+            Progress::Fault(fault) => Some(Step::Fault(StepFault::File(fault))),
             Progress::Ended => None,
         }
-    }
-}
-
-/// A fault of the file as a seat is told it. A step takes no memory, has frames enough and adds no
-/// page: where it met a fault that says otherwise, that is told as what no page may say.
-fn of_page(fault: FileFault) -> FileFault
-    ensures { result ≡ of_page fault }
-{
-    match fault {
-        FileFault::Pool(PoolFault::TooFewFrames) => FileFault::Failed,
-        FileFault::Pool(PoolFault::NoMemory) => FileFault::Failed,
-        FileFault::Pool(PoolFault::Device(DeviceFault::DeviceFull)) => FileFault::Failed,
-        FileFault::Pool(PoolFault::Device(DeviceFault::NoMemory)) => FileFault::Failed,
-        told => told,
     }
 }

@@ -6,7 +6,6 @@ use Rattle.interleavings.specs.Together.{AreTogether, IsUnderWay}
 use Rattle.interleavings.specs.LoneCallWords.{call_left}
 use Rattle.interleavings.proofs.SeatLemmas.{well}
 use Rattle.interleaving_core.specs.Active.{is_waiting}
-use Rattle.interleaving_core.specs.Fault.{of_page}
 use Rattle.interleaving_core.specs.Owing.{is_failure}
 use Rattle.interleaving_core.specs.Turn.{IsLeft, IsLeftWhenOver, MakesTurn, StaysWaiting, told_of, told_when_over}
 use Rattle.interleaving_core.specs.xsi_calls.CallSteps.{StepsCall}
@@ -166,7 +165,7 @@ module _ {K : Type 0} (hash : RecordKey → ℕ) (base : State) (seat : ℕ) (a 
       failed = subst (λ (told : Step). DoesBy hash base seat a told phase after old new)
           (sym (turn.told_is ∙ ap (λ (d : Progress FileFault). told_of d come.machine) is))
           (record {
-            device = record { risen = spares.devices.risen; told = ap of_page spares.devices.told };
+            device = spares.devices;
             file = ap store_of spares.images;
           })
 

@@ -1,9 +1,11 @@
 -- The names that a seat holds are those of its call.
-use Rattle.std.proofs.Common.{ℕ, ◌≡◌, ◌∙◌, ap, false, Option, Some}
+use Rattle.std.proofs.Common.{ℕ, ◌≡◌, ◌∙◌, sym, ap, subst, false, Option, Some}
+use Rattle.queue_model.proofs.JournalLemmas.{after-LeadsAlong}
 use Rattle.interleavings.proofs.PlaceLemmas.{held_by, names_of}
 use Rattle.interleavings.proofs.SeatLemmas.{well}
 use Rattle.interleavings.specs.Together.{AreTogether, IsUnderWay, locks_of}
-use Rattle.interleaving_core.specs.xsi_calls.Laws.{HoldTheirNames}
+use Rattle.interleaving_core.specs.xsi_calls.Laws.{HoldTheirNames, NameWhatIsThere}
+use Rattle.interleaving_core.specs.xsi_calls.ToldNames.{AreNamesIn}
 use Rattle.interleaving_core.specs.xsi_calls.Words.{row_of}
 use Rattle.interleaving_core.specs.xsi_calls.Machine.{call_locks}
 use Rattle.page_locks.specs.Locks.{kind_of}
@@ -36,12 +38,16 @@ module _ {K : Type 0} (hash : RecordKey → ℕ) (base : State) (k : KernelState
   holds names.Directory of_records = absurd of_records
   holds (names.Page page) of_records = absurd of_records
 
-pub seats_hold : HoldTheirNames → (K : Type 0) → SeatsHoldTheirNames K
-seats_hold hold K hash base k seat a led sound there =
+pub seats_hold : HoldTheirNames → NameWhatIsThere → (K : Type 0) → SeatsHoldTheirNames K
+seats_hold hold name K hash base k seat a led sound there =
     let calls = (led.together sound).calls in
     record {
       names = names_of a.machine;
       of_call = hold hash seat led.now a.machine calls.records k.pool k.locks calls.change
           (under_way hash base k seat a led sound there).calls;
+      there = λ undecided. subst (λ (s : State). AreNamesIn a.machine.call a.machine.undecided.questions.inquiry s
+          (names_of a.machine)) (sym (after-LeadsAlong k.callers k.journal base led.now led.leads))
+          (name hash seat led.now a.machine calls.records k.pool k.locks calls.change undecided
+          (under_way hash base k seat a led sound there).calls);
       holds = holds hash base k seat a led sound there;
     }

@@ -5,11 +5,11 @@ use Rattle.std.proofs.lemmas.Bool.{eqb-false, eqb-true}
 use Rattle.std.proofs.lemmas.List.Elements.{All-head, All-tail}
 use Rattle.std.proofs.lemmas.List.Sums.{sum_by-append, sum_by-cons}
 use Rattle.std.specs.Prelude.{sum_by}
+use Rattle.file_pages.specs.Fault.{IsOfPage}
 use Rattle.file_pages.specs.declared.fault.FileFault.{FileFault}
 use Rattle.file_pages.specs.declared.fault.FileFault.TheVariants.{Failed}
 use Rattle.interleaving_core.proofs.PartLemmas.{AreOf, added_is_of}
 use Rattle.interleaving_core.proofs.PlaceLemmas.{at_other, at_same}
-use Rattle.interleaving_core.specs.Fault.{IsOfPage}
 use Rattle.interleaving_core.specs.Owing.{IsMove, failed, is_end, is_failure, told_of_failure}
 use Rattle.interleaving_core.specs.declared.fault.StepFault.TheVariants as faults
 use Rattle.interleaving_core.specs.declared.step.Step.TheVariants as steps

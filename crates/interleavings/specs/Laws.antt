@@ -8,6 +8,8 @@ use Rattle.interleaving_core.specs.Owing.{is_failure}
 use Rattle.interleaving_core.specs.declared.fault.OpenFault.{OpenFault}
 use Rattle.interleaving_core.specs.declared.fault.OpenFault.TheVariants as opens
 use Rattle.interleaving_core.specs.xsi_calls.Laws.{MOST_CALL_STEPS, MOST_STEPS_LEFT}
+use Rattle.interleaving_core.specs.xsi_calls.Stages.{Undecided}
+use Rattle.interleaving_core.specs.xsi_calls.ToldNames.{AreNamesIn}
 use Rattle.interleaving_core.specs.xsi_calls.Words.{AreNamesOf}
 use Rattle.page_device.specs.Device.{HasRisen}
 use Rattle.page_locks.specs.Locks.{kind_of}
@@ -159,15 +161,19 @@ IsOfRecords lock_names.Directory = ⊥
 IsOfRecords (lock_names.Page page) = ⊥
 
 -- besides the directory and pages a seat holds names of its call, in their kinds, and no others
-pub record HoldsItsNames {K : Type 0} (seat : ℕ) (a : ActiveView) (k : KernelState K) : Type 0 where
+pub record HoldsItsNames {K : Type 0} (seat : ℕ) (s : State) (a : ActiveView) (k : KernelState K) : Type 0 where
   pub names : List Lock
   pub of_call : AreNamesOf a.machine.call names
+  -- until its Decide the queue that a Get names is the next id of the system after the journal, and the key that a
+  -- Remove names, unless it is refused, that of its queue
+  pub there : a.machine.stage ≡ Undecided → AreNamesIn a.machine.call a.machine.undecided.questions.inquiry s names
   pub holds : (name : LockName) → IsOfRecords name → held k.locks seat name ≡ kind_of names name
 
 -- at each place of its call, until a step has failed
 abbrev pub SeatsHoldTheirNames : Type 0 → Type 0
 SeatsHoldTheirNames K = (hash : RecordKey → ℕ) (base : State) (k : KernelState K) (seat : ℕ) (a : ActiveView) →
-    Refines hash base k → k.failed ≡ false → call_at k.seats seat ≡ Some a → HoldsItsNames seat a k
+    Refines hash base k → k.failed ≡ false → call_at k.seats seat ≡ Some a →
+    HoldsItsNames seat (after k.callers k.journal base) a k
 
 -- ---- pending writes
 

@@ -1,9 +1,9 @@
 -- What comes of events: which calls seats have under way, why a call does not begin, and what a seat is told of a step,
 -- told by what came of the events before. docs/STEPS.md, "Calls"; docs/FAULTS.md.
 use Rattle.std.specs.Prelude.{ℕ, ◌≡◌, ◌≢◌, ◌↔◌, ◌+◌, ◌≤◌, Bool, true, false, ◌||◌, if◌then◌else◌, List, [], ◌∷◌, Option, Some, None, ⊤}
+use Rattle.file_pages.specs.Fault.{IsOfPage}
 use Rattle.file_pages.specs.declared.fault.FileFault.{FileFault}
 use Rattle.file_pages.specs.declared.fault.FileFault.TheVariants.{Failed}
-use Rattle.interleaving_core.specs.Fault.{IsOfPage}
 use Rattle.interleaving_core.specs.Owing.{IsMove, is_end, is_failure, lapsed}
 use Rattle.interleaving_core.specs.declared.fault.BeginFault.{BeginFault}
 use Rattle.interleaving_core.specs.declared.fault.BeginFault.TheVariants as refusals

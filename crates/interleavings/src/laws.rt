@@ -10,6 +10,7 @@ use crate::concurrent_laws::{
 use file_check::the_file_of_a_system_has_no_fault;
 use interleaving_core::xsi_calls::{
     calls_have_few_steps, calls_have_few_steps_left, calls_hold_their_names,
+    calls_name_what_is_there,
 };
 use queue_model::journals_are_first_in_first_out;
 
@@ -141,11 +142,13 @@ pub fn what_is_owed_is_the_rest<K>()
 }
 
 /// The names that a seat holds, besides the directory and pages, are those of its call in their
-/// kinds, at each place of the call, until a step has failed.
+/// kinds, at each place of the call, until a step has failed. Up to its Decide they are of the system
+/// after the journal: the queue of a Get is its next id, the key of a Remove that of its queue.
 pub fn seats_hold_their_names<K>()
     ensures { SeatsHoldTheirNames K }
 {
     calls_hold_their_names();
+    calls_name_what_is_there();
 }
 
 /// From the Grant of the directory to a seat's last search up to the Look that answers it, there was

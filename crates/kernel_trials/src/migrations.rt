@@ -50,7 +50,7 @@ fn a_transfer_of_the_new_file_fails(rt: HostRuntime) -> Result<(), Fail> {
     let alloc = rt.alloc();
     for nth in [
         1, 200, 260, 261, 262, 263, 264, 265, 266, 267, 268, 269, 270, 271, 400, 528, 529, 530,
-        531, 532,
+        531, 532, 533,
     ] {
         let new = FaultyDevice::new(MemDevice::new(alloc), nth);
         let Copied { old, new, found } = migrate(alloc, old_file(alloc)?, new);

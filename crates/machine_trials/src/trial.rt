@@ -227,7 +227,7 @@ impl<D: PageDevice + Drop, K: PseudoKey + Drop> Trial<D, K> {
     }
 
     /// The hops of a search alone.
-    pub fn hops(&self, seat: u8) -> Option<u32> {
+    pub fn hops(&self, seat: u8) -> Option<u64> {
         self.work(seat)?.hops()
     }
 

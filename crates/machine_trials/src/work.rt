@@ -139,7 +139,7 @@ impl Work {
     }
 
     /// The hops of a search alone.
-    pub fn hops(&self) -> Option<u32> {
+    pub fn hops(&self) -> Option<u64> {
         match self {
             Work::Search(search) => Some(search.hops()),
             _ => None,

@@ -1,2 +1,3 @@
+pub mod KeepingLemmas
 pub mod AloneLemmas
 pub mod UnreadLemmas

@@ -1,11 +1,15 @@
 -- The numbers of faults (docs/FAULTS.md).
-use Rattle.std.specs.Prelude.{ℕ}
+use Rattle.std.specs.Prelude.{◌≡◌, ℕ}
 use Rattle.numbers.specs.declared.faults.TheConstants.{FAILED, NO_MEMORY, NO_ROOM}
 use Rattle.buffer_pool.specs.Fault as pool
+use Rattle.buffer_pool.specs.declared.fault.PoolFault.TheVariants as pools
 use Rattle.file_check.specs.Fault as check
+use Rattle.file_check.specs.declared.fault.CheckFault.TheVariants as checks
+use Rattle.file_walk.specs.declared.fault.StructureFault.TheVariants as structures
 use Rattle.file_pages.specs.declared.fault.FileFault.{FileFault}
 use Rattle.file_pages.specs.declared.fault.FileFault.TheVariants as file
 use Rattle.page_device.specs.Fault as device
+use Rattle.page_device.specs.declared.fault.DeviceFault.TheVariants as devices
 use Rattle.migration.specs.declared.fault.MakingFault.{MakingFault}
 use Rattle.migration.specs.declared.fault.MakingFault.TheVariants as makings
 use Rattle.migration.specs.declared.fault.CopyFault.{CopyFault}
@@ -29,3 +33,12 @@ number_of (faults.New fault) = making_number_of fault
 abbrev pub of_file : FileFault → MakingFault
 of_file (file.Pool fault) = makings.Pool fault
 of_file file.Failed = makings.Failed
+
+-- a transfer of the new device is told as failed
+abbrev pub IsOfTransfer : MakingFault → Type 0
+IsOfTransfer (makings.Device fault) = fault ≡ devices.Device
+IsOfTransfer (makings.Pool fault) = fault ≡ pools.Device devices.Device
+IsOfTransfer makings.NoRoom = ⊥
+IsOfTransfer makings.NoMemory = ⊥
+IsOfTransfer (makings.Wrong fault) = fault ≡ checks.Structure structures.Device
+IsOfTransfer makings.Failed = ⊥

@@ -1,4 +1,5 @@
 pub mod Fault
+pub mod Causes
 pub mod Writing
 pub mod Copying
 pub mod SalvageFault

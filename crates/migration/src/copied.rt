@@ -1,9 +1,10 @@
 //! A file is read, and a new one made of its system.
 
-ghost use Rattle.std.specs.Prelude.{◌≡◌, ◌≤◌, [], IsTrue, IfOk, IfErr};
+ghost use Rattle.std.specs.Prelude.{◌≡◌, ◌+◌, ◌≤◌, [], max, min, IsTrue, IfOk, IfErr};
 ghost use Rattle.directory.specs.declared.layout.TheConstants.{LEAST_PAGES};
 ghost use Rattle.page_device.specs.declared.page.TheConstants.{MAX_PAGES};
 ghost use Rattle.file_check.specs.Words.{IsLayout};
+ghost use Rattle.migration.specs.Causes.{HasCopyCause};
 ghost use Rattle.migration.specs.Copying.{IsCopied, IsToldOfOld};
 
 use crate::fault::CopyFault;
@@ -26,7 +27,8 @@ pub struct Copied<O, N> {
 /// Makes a new file of today's layout, of so many pages as the target says, of the system that the
 /// file of a layout holds. The old file is only read, and refused as `check_in` refuses it. Of one
 /// of version 1 the owner and the creator of each queue are user 0 of group 0, and its mode is 0666.
-/// Where it answers, the new file was checked to be that of the system.
+/// Where it answers, the new file was checked to be that of the system, and is synced. Both devices
+/// are as honest as they were.
 pub fn copy<O: PageDevice, N: PageDevice, K: PseudoKey + Drop>(
     alloc: Global,
     layout: &Layout,
@@ -45,6 +47,12 @@ pub fn copy<O: PageDevice, N: PageDevice, K: PseudoKey + Drop>(
     ensures err { IsTrue (O.is_honest old) →
         IfErr result.found (IsToldOfOld layout.now (K.of_key keys) (O.content old)) }
     ensures same { O.content result.old ≡ O.content old }
+    ensures honest { (O.is_honest result.old ≡ O.is_honest old)
+        × (N.is_honest result.new ≡ N.is_honest target.device) }
+    ensures synced { IsTrue (N.is_honest target.device) →
+        IfOk result.found (λ _. IsTrue (N.is_synced result.new)) }
+    ensures cause { HasCopyCause (O.fault_count old) (O.fault_count result.old)
+        (N.fault_count target.device) (N.fault_count result.new) result.found }
 {
     let Checked { device: old, found } = check_in(alloc, layout, old, &keys);
     let system = match found {
@@ -72,9 +80,10 @@ pub fn copy<O: PageDevice, N: PageDevice, K: PseudoKey + Drop>(
     }
 }
 
-/// Pages of the file that one of version 1 of so many pages becomes: as many more as today's
-/// directory has, within the limits.
+/// Pages of the file that one of version 1 of so many pages becomes: 224 more, as today's directory
+/// has, within the limits.
 pub fn migrated_pages(older: u32) -> u32
+    ensures value { result ≡ max LEAST_PAGES (min (older + 224) MAX_PAGES) }
     ensures least { LEAST_PAGES ≤ result }
     ensures most { result ≤ MAX_PAGES }
 {

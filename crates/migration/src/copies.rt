@@ -5,6 +5,7 @@ ghost use Rattle.bucket_page.specs.Pseudokeys.{sha_key};
 ghost use Rattle.directory.specs.Layouts.{IsLayout};
 ghost use Rattle.directory.specs.declared.layout.TheConstants.{LEAST_PAGES};
 ghost use Rattle.page_device.specs.declared.page.TheConstants.{MAX_PAGES};
+ghost use Rattle.migration.specs.Causes.{HasCopyCause};
 ghost use Rattle.migration.specs.Copying.{IsCopied, IsToldOfOld};
 ghost use Rattle.migration.specs.Printing.{HasSize, IsDoneOrFault, deed_of};
 
@@ -174,6 +175,12 @@ where
     ensures err { IsTrue (O.is_honest old) →
         IfErr result.found (IsToldOfOld layout.now sha_key (O.content old)) }
     ensures same { O.content result.old ≡ O.content old }
+    ensures honest { (O.is_honest result.old ≡ O.is_honest old)
+        × (N.is_honest result.new ≡ N.is_honest target.device) }
+    ensures synced { IsTrue (N.is_honest target.device) →
+        IfOk result.found (λ _. IsTrue (N.is_synced result.new)) }
+    ensures cause { HasCopyCause (O.fault_count old) (O.fault_count result.old)
+        (N.fault_count target.device) (N.fault_count result.new) result.found }
 {
     let progress = Progress::new(errors);
     let target = Target {

@@ -1,9 +1,13 @@
 //! The file of a system is made.
 
-ghost use Rattle.std.specs.Prelude.{◌≡◌, ◌≤◌, [], false, IsTrue, OnOk};
+ghost use Rattle.std.specs.Prelude.{◌≡◌, ◌≤◌, [], false, length, IsTrue, OnOk};
 ghost use Rattle.directory.specs.declared.layout.TheConstants.{LEAST_PAGES};
 ghost use Rattle.page_device.specs.declared.page.TheConstants.{MAX_PAGES};
+ghost use Rattle.file_check.specs.Whole.{IsFileOf};
+ghost use Rattle.file_pages.specs.Files.{IsReady};
+ghost use Rattle.migration.specs.Causes.{HasMakingCause};
 ghost use Rattle.migration.specs.Copying.{IsMadeOf};
+ghost use Rattle.migration.specs.Writing.{KeepsDevice};
 
 use crate::fault::MakingFault;
 use crate::writer::write;
@@ -35,7 +39,7 @@ pub struct Made<D> {
     pub made: Result<(), MakingFault>,
 }
 
-/// Makes the file of a system, which is not stopped, and checks that it is one.
+/// Makes the file of a system, which is not stopped, and checks that it is one. It is synced then.
 pub fn make<D: PageDevice, K: PseudoKey>(
     alloc: Global,
     target: Target<D>,
@@ -45,8 +49,13 @@ pub fn make<D: PageDevice, K: PseudoKey>(
     requires empty { D.content target.device ≡ [] }
     requires least { LEAST_PAGES ≤ target.pages }
     requires most { target.pages ≤ MAX_PAGES }
-    ensures { IsTrue (D.is_honest target.device) → OnOk result.made (system.now.stopped ≡ false →
+    ensures ok { IsTrue (D.is_honest target.device) → OnOk result.made (system.now.stopped ≡ false →
         IsMadeOf (K.of_key keys.now) target.pages (D.content result.device) system.now) }
+    ensures synced { IsTrue (D.is_honest target.device) →
+        OnOk result.made (IsTrue (D.is_synced result.device)) }
+    ensures honest { D.is_honest result.device ≡ D.is_honest target.device }
+    ensures cause { HasMakingCause
+        (D.fault_count target.device) (D.fault_count result.device) result.made }
 {
     let Target { mut device, pages } = target;
     if let Err(fault) = format(&mut device, pages) {
@@ -58,7 +67,7 @@ pub fn make<D: PageDevice, K: PseudoKey>(
     let Made { mut device, made } = fill(alloc, device, keys, system);
     match made {
         Ok(()) => {
-            let made = confirm(alloc, &mut device, keys, pages, system);
+            let made = confirm(alloc, &mut device, keys, system);
             Made { device, made }
         }
         Err(fault) => Made {
@@ -70,9 +79,12 @@ pub fn make<D: PageDevice, K: PseudoKey>(
 
 /// Writes the records of a system into a new file.
 fn fill<D: PageDevice, K: PseudoKey>(alloc: Global, device: D, keys: &K, system: &System) -> Made<D>
-    ensures { D.is_honest result.device ≡ D.is_honest device }
+    ensures pages { length (D.content result.device) ≡ length (D.content device) }
+    ensures honest { D.is_honest result.device ≡ D.is_honest device }
+    ensures cause { HasMakingCause
+        (D.fault_count device) (D.fault_count result.device) result.made }
 {
-    let pool = match Pool::open(alloc, device, FRAMES) {
+    let mut pool = match Pool::open(alloc, device, FRAMES) {
         Ok(pool) => pool,
         Err((device, fault)) => {
             return Made {
@@ -81,59 +93,63 @@ fn fill<D: PageDevice, K: PseudoKey>(alloc: Global, device: D, keys: &K, system:
             };
         }
     };
-    let mut locks = match LockTable::new(alloc, 1) {
-        Ok(locks) => locks,
-        Err(_) => {
-            return Made {
-                device: pool.into_device(),
-                made: Err(MakingFault::NoMemory),
-            };
-        }
-    };
-    let mut pool = pool;
-    match write(alloc, &mut pool, &mut locks, keys, system) {
-        Ok(()) => {
-            let made = flush(&mut pool);
-            Made {
-                device: pool.into_device(),
-                made,
-            }
-        }
-        Err(fault) => Made {
-            device: pool.into_device(),
-            made: Err(fault),
-        },
+    let made = write_out(alloc, &mut pool, keys, system);
+    Made {
+        device: release(pool),
+        made,
     }
 }
 
-/// Writes what the pool keeps of a new file.
-fn flush<D: PageDevice>(pool: &mut Pool<D>) -> Result<(), MakingFault>
-    ensures { pool.new.honest ≡ pool.old.honest }
+/// Writes the records of a system into a new file in a pool, and the pool to its device.
+fn write_out<D: PageDevice, K: PseudoKey>(
+    alloc: Global,
+    pool: &mut Pool<D>,
+    keys: &K,
+    system: &System,
+) -> Result<(), MakingFault>
+    requires { IsReady pool.old }
+    ensures { KeepsDevice pool.old pool.new result }
 {
+    let mut locks = match LockTable::new(alloc, 1) {
+        Ok(locks) => locks,
+        Err(_) => return Err(MakingFault::NoMemory),
+    };
+    write(alloc, pool, &mut locks, keys, system)?;
     match pool.flush() {
         Ok(()) => Ok(()),
         Err(fault) => Err(MakingFault::Pool(fault)),
     }
 }
 
-/// Whether a new file is that of the system and has so many pages. A device that failed meanwhile is
-/// told, and else want of memory.
+/// The device of a pool, as it is.
+fn release<D: PageDevice>(pool: Pool<D>) -> D
+    ensures pages { length (D.content result) ≡ length pool.images }
+    ensures honest { D.is_honest result ≡ pool.honest }
+    ensures faults { D.fault_count result ≡ pool.faults }
+{
+    let _ = pool.pages();
+    pool.into_device()
+}
+
+/// Whether a new file is that of the system; it is synced then, since what was read says nothing of
+/// what outlasts the program. A device that failed meanwhile is told, and else want of memory.
 fn confirm<D: PageDevice, K: PseudoKey>(
     alloc: Global,
     device: &mut D,
     keys: &K,
-    pages: u32,
     system: &System,
 ) -> Result<(), MakingFault>
-    ensures { IsTrue (D.is_honest device.old) → OnOk result (system.now.stopped ≡ false →
-        IsMadeOf (K.of_key keys.now) pages (D.content device.new) system.now) }
+    ensures ok { IsTrue (D.is_honest device.old) → OnOk result (system.now.stopped ≡ false →
+        IsFileOf (K.of_key keys.now) (D.content device.new) system.now) }
+    ensures synced { IsTrue (D.is_honest device.old) →
+        OnOk result (IsTrue (D.is_synced device.new)) }
+    ensures same { D.content device.new ≡ D.content device.old }
+    ensures honest { D.is_honest device.new ≡ D.is_honest device.old }
+    ensures cause { HasMakingCause (D.fault_count device.old) (D.fault_count device.new) result }
 {
-    if device.pages() != pages {
-        return Err(MakingFault::Failed);
-    }
     let failed = device.faults();
     match is_file_of(alloc, device, keys, system) {
-        Ok(true) => Ok(()),
+        Ok(true) => Ok(device.sync()?),
         Ok(false) if device.faults() > failed => Err(MakingFault::Device(DeviceFault::Device)),
         Ok(false) => Err(MakingFault::NoMemory),
         Err(fault) => Err(MakingFault::Wrong(fault)),

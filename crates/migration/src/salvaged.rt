@@ -47,6 +47,9 @@ pub fn salvage<O: PageDevice, N: PageDevice, K: PseudoKey>(
     ensures ok { IsTrue (N.is_honest target.device) → IfOk result.found (λ rescue.
         IsMadeOf (K.of_key keys.now) target.pages (N.content result.new) rescue.system) }
     ensures same { O.content result.old ≡ O.content old }
+    ensures honest { N.is_honest result.new ≡ N.is_honest target.device }
+    ensures synced { IsTrue (N.is_honest target.device) →
+        IfOk result.found (λ _. IsTrue (N.is_synced result.new)) }
 {
     let mut old = old;
     let Rescue { system, losses } = match make_rescue(alloc, &mut old) {

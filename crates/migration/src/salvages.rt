@@ -154,6 +154,9 @@ where
     ensures ok { IsTrue (N.is_honest target.device) → IfOk result.found (λ rescue.
         IsMadeOf sha_key target.pages (N.content result.new) rescue.system) }
     ensures same { O.content result.old ≡ O.content old }
+    ensures honest { N.is_honest result.new ≡ N.is_honest target.device }
+    ensures synced { IsTrue (N.is_honest target.device) →
+        IfOk result.found (λ _. IsTrue (N.is_synced result.new)) }
 {
     let progress = Progress::new(errors);
     let target = Target {

@@ -3,7 +3,7 @@
 ghost use Rattle.std.specs.Prelude.{◌≡◌, [], OnOk};
 ghost use Rattle.queue_model.specs.Lawful.{IsLawfulQueue};
 ghost use Rattle.record_file.specs.Accesses.{access_locks};
-ghost use Rattle.migration.specs.Writing.{IsAlone};
+ghost use Rattle.migration.specs.Writing.{IsAlone, KeepsDevice};
 
 use crate::fault::MakingFault;
 use bucket_page::PseudoKey;
@@ -34,7 +34,7 @@ pub(crate) fn write<D: PageDevice, K: PseudoKey>(
 ) -> Result<(), MakingFault>
     requires { IsAlone [] pool.old locks.old }
     ensures alone { OnOk result (IsAlone [] pool.new locks.new) }
-    ensures honest { pool.new.honest ≡ pool.old.honest }
+    ensures kept { KeepsDevice pool.old pool.new result }
 {
     system.keeps_limits();
     for place in 0..system.queues() {
@@ -59,7 +59,7 @@ fn write_queue<D: PageDevice, K: PseudoKey>(
     requires alone { IsAlone [] pool.old locks.old }
     requires lawful { IsLawfulQueue queue.now }
     ensures alone { OnOk result (IsAlone [] pool.new locks.new) }
-    ensures honest { pool.new.honest ≡ pool.old.honest }
+    ensures kept { KeepsDevice pool.old pool.new result }
 {
     let Some(links) = QueueLinks::of(alloc, &queue.messages) else {
         return Err(MakingFault::NoMemory);
@@ -102,7 +102,7 @@ fn insert<D: PageDevice, K: PseudoKey>(
 ) -> Result<(), MakingFault>
     requires { IsAlone [] pool.old locks.old }
     ensures alone { OnOk result (IsAlone [] pool.new locks.new) }
-    ensures honest { pool.new.honest ≡ pool.old.honest }
+    ensures kept { KeepsDevice pool.old pool.new result }
 {
     if !record.is_in_range() {
         return Err(MakingFault::Failed);
@@ -124,7 +124,7 @@ fn replace<D: PageDevice, K: PseudoKey>(
 ) -> Result<(), MakingFault>
     requires { IsAlone [] pool.old locks.old }
     ensures alone { OnOk result (IsAlone [] pool.new locks.new) }
-    ensures honest { pool.new.honest ≡ pool.old.honest }
+    ensures kept { KeepsDevice pool.old pool.new result }
 {
     let record = Record::Counter(counter);
     if !record.is_in_range() {
@@ -145,7 +145,7 @@ fn drive<D: PageDevice, K: PseudoKey>(
     requires alone { IsAlone [] pool.old locks.old }
     requires begun { access_locks access.old [] ≡ [] }
     ensures alone { OnOk result (IsAlone [] pool.new locks.new) }
-    ensures honest { pool.new.honest ≡ pool.old.honest }
+    ensures kept { KeepsDevice pool.old pool.new result }
 {
     for _ in 0..MOST_STEPS {
         match access.step(pool, locks, keys, SEAT) {

@@ -4,13 +4,13 @@ ghost use Rattle.msgq_cli.specs.Tasks.{HasPages};
 
 use crate::crew::ThreadASeat;
 use crate::scripts::{run_file, serve};
+use crash_safe_runs::{Sources, replay_file};
 use migration::{
     CopyRequest, GrowRequest, SalvageRequest, Size, copy_file, grow_file, salvage_file,
 };
 use msgq_cli::{
     Ending, Output, Task, advise, complain, complain_of_lines, map_file, new_file, report_file,
 };
-use replays::{Sources, replay_file};
 use std::fs::File;
 use std::io::{Eprint, IsTerminal, Write};
 use std::rt::Files;

@@ -1,15 +1,20 @@
 //! Scripts run on the file of a device, a thread a seat.
 
-ghost use Rattle.std.specs.Prelude.{◌≡◌, ◌≤◌, ◌||◌, ℕ, false, length};
+ghost use Rattle.std.specs.Prelude.{◌≡◌, ◌≤◌, ◌||◌, ℕ, IsTrue, false, length};
 ghost use Rattle.std.specs.List.{list_any};
 ghost use Rattle.bucket_page.specs.Pseudokeys.{sha_key};
+ghost use Rattle.crash_safe_runs.specs.Scripts.{RunsScriptOver, RunsSeatsOver, effects_on};
+ghost use Rattle.crash_safe_runs.specs.deferred_sync.Deferred.{IsLent, IsSettled, start_of};
 ghost use Rattle.msgq_cli.specs.Scripts.{greatest_seat};
-ghost use Rattle.replays.specs.Beside.{RunsFrom, RunsScriptOn, counted_from};
+ghost use Rattle.replays.specs.Beside.{RunsBesideOn, RunsFrom, RunsScriptOn, counted_from, is_of_one_seat};
 ghost use Rattle.replays.specs.Desks.{AreMade, AreUntouched, IsPlanOf};
 ghost use Rattle.replays.specs.Lines.{is_stop};
 ghost use Rattle.workers.specs.Opening.{origin_of};
 
 use crate::crew::{ThreadASeat, make_all};
+use crash_safe_runs::conclude;
+use crash_safe_runs::deferred_sync::safe_device::{PagePair, SafeDevice};
+use crash_safe_runs::deferred_sync::{Beginning, DeferredSync, a_settled_device_is_lent};
 use interleaving_core::OpenFault;
 use msgq_cli::{Command, Line, Output, Script};
 use page_device::PageDevice;
@@ -73,6 +78,62 @@ pub fn run_on<
         Ok(prepared) => run_prepared::<Brand, R, D, W>(crew, prepared, plan, output),
         Err((device, fault)) => Ran::unrun(device, leave_refused(fault, output)),
     }
+}
+
+/// Runs a script over a file and its journal, as `run_on` does on the file of a device.
+///
+/// Cut off at any moment, it leaves what the next opening finds as the file of before, or as that
+/// of the system after the journal, of which all answers were printed; once it has ended well, only
+/// as the latter. Where the output refused a write, or a step has failed, only as the former.
+pub fn run_over<
+    R: Threads + Wait + Clock + Eprint + Sync,
+    P: PagePair + Drop + Send,
+    W: Write + Drop,
+>(
+    crew: &ThreadASeat<'_, R>,
+    device: SafeDevice<P>,
+    script: &Script,
+    output: &mut Output<W>,
+) -> Ran<SafeDevice<P>>
+    requires settled { IsTrue P.is_honest → IsSettled P.may_leave device }
+    ensures ran { RunsScriptOn script.now P.is_honest
+        (effects_on device result.device output.old output.new result.is_untold) result.ending }
+    ensures over { RunsScriptOver P.is_honest P.moment P.left_since P.may_leave
+        (P.moment device.pair) (P.left_since device.pair) script.now
+        (effects_on device result.device output.old output.new result.is_untold)
+        result.ending result.device.pair }
+{
+    if is_of_one_seat(script) {
+        return crash_safe_runs::run_over(crew.alloc(), device, script, output);
+    }
+    a_settled_device_is_lent(&device);
+    run_since::<Brand, R, P, W>(crew, device, script, output)
+}
+
+/// So a script of several seats since a beginning.
+fn run_since<
+    N: Beginning + Send + Sync,
+    R: Threads + Wait + Clock + Eprint + Sync,
+    P: PagePair + Drop + Send,
+    W: Write + Drop,
+>(
+    crew: &ThreadASeat<'_, R>,
+    device: SafeDevice<P>,
+    script: &Script,
+    output: &mut Output<W>,
+) -> Ran<SafeDevice<P>>
+    requires lent { IsLent P.is_honest P.moment P.left_since N.start N.left device }
+    requires start { N.start ≡ start_of P.moment device }
+    requires several { is_of_one_seat script.now.lines ≡ false }
+    ensures ran { RunsBesideOn script.now P.is_honest
+        (effects_on device result.device output.old output.new result.is_untold) result.ending }
+    ensures over { RunsSeatsOver P.is_honest P.moment P.left_since P.may_leave
+        N.start.moment N.left false script.now
+        (effects_on device result.device output.old output.new result.is_untold)
+        result.ending result.device.pair }
+{
+    let device = DeferredSync::<P, N>::new(device);
+    conclude(run_on(crew, device, script, output), output)
 }
 
 /// Runs a script on a file that was opened for its seats, on a service of this name.

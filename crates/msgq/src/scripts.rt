@@ -4,7 +4,7 @@ ghost use Rattle.std.specs.Prelude.{◌≡◌};
 ghost use Rattle.replays.specs.Beside.{RunsInputNew, RunsTextNew};
 
 use crate::crew::ThreadASeat;
-use crate::runs::run_on;
+use crate::runs::{run_on, run_over};
 use msgq_cli::record_file::format;
 use msgq_cli::{
     Ending, Output, Stage, complain_of, fail, leave_unopened, read_script, read_text, refuse,
@@ -28,7 +28,7 @@ const MEMORY: &str = "the file in memory";
 ///
 /// The script is read first: fault 20 or 60 alone where it can't be read, and nothing is run where
 /// it is wrong. Then the file is opened, and what a run that was cut off has left is undone:
-/// `fault N` alone where it is not. Then it is as `run_on` says.
+/// `fault N` alone where it is not. Then it is as `run_over` says.
 pub fn run_file<R, W, E>(
     rt: &R,
     file: Opening,
@@ -51,7 +51,7 @@ where
         Err(error) => return leave_unopened(file.path, error, output, errors),
     };
     let crew = ThreadASeat::new(rt, rt.alloc(), errors.is_terminal());
-    let ran = run_on(&crew, device, &script, output);
+    let ran = run_over(&crew, device, &script, output);
     complain_of_ran(file.path, ran, output, errors)
 }
 

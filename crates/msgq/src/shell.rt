@@ -8,12 +8,13 @@ use crate::own_ids::{STATUS, own_ids};
 use crate::trouble::{Awaited, Errand, Trouble};
 use command_runs::{
     CallerIds, CommandError, Deed, Form, Look, Patience, Printer, Ran, ReceiveTask, SendTask,
-    ShellTask, look_on, run_on,
+    ShellTask, look_on,
 };
+use crash_safe_runs::command_over;
 use msgq_cli::{Plain, complain, open_to_read};
 use queue_commands::{Command, ExitStatus, NewQueue, QueueName, Receiving, Request, Sending};
 use queue_model::Caller;
-use rollback_journal::{Opening, open_in_turn};
+use rollback_journal::{LeftOver, Opening, open_in_turn};
 use std::io::Write;
 use std::time::{Duration, Instant, SystemTime, UNIX_EPOCH};
 use std::{fs, io, process, thread};
@@ -227,7 +228,7 @@ fn run_once<W: Write + Drop>(
     };
     let device = open_in_turn(rt, opening).map_err(Trouble::Unopened)?;
     request.moment = moment(rt).map_err(Trouble::Clock)?;
-    let Ran { device, came } = run_on(rt.alloc(), device, errand.caller, request, output);
+    let Ran { device, came } = command_over(rt.alloc(), device, errand.caller, request, output);
     match came {
         Ok(()) => Ok(()),
         Err(error) => Err(Trouble::Undone(error, device.into_pair().into_refused())),
@@ -297,16 +298,28 @@ struct Sight {
 fn look_once(rt: &HostRuntime, errand: Errand<'_>, what: &Look) -> Option<Sight> {
     let alloc = rt.alloc();
     let before = Stamp::of(rt, errand.file);
-    let was_under_way = matches!(rollback_journal::look(rt, errand.file), Ok(Some(_)));
+    let found = rollback_journal::look(rt, errand.file);
     let device = open_to_read(rt, errand.file, &mut rt.stderr()).ok()?;
     let mut text = Printer::new(Vec::new(alloc));
     let Ran { device: _, came } = look_on(alloc, device, errand.caller, what, &mut text);
-    let is_under_way = was_under_way
-        || matches!(rollback_journal::is_under_way(rt, errand.file), Ok(true));
+    // (where no journal stood, another look would sync both files once more)
+    let is_under_way = match found {
+        Ok(Some(_)) => has_images(&found) || has_images(&rollback_journal::look(rt, errand.file)),
+        _ => matches!(rollback_journal::is_under_way(rt, errand.file), Ok(true)),
+    };
     Some(Sight {
         text: came.map(|()| text.into_writer()),
         is_steady: !is_under_way && Stamp::of(rt, errand.file) == before,
     })
+}
+
+/// Whether a run is writing FILE, or was cut off while it did. Calls that a server has answered may
+/// stand in the journal meanwhile: the pages of FILE stay until they are saved.
+fn has_images(found: &io::Result<Option<LeftOver>>) -> bool {
+    match found {
+        Ok(Some(left)) => left.calls == 0 || left.images > 0,
+        _ => false,
+    }
 }
 
 /// Prints what was looked at.

@@ -3,15 +3,16 @@
 ghost use Rattle.std.specs.Prelude.{◌≡◌, IfOk, IfSome};
 ghost use Rattle.msgq_cli.specs.Tasks.{HasPages, IsFileSize, ReadsInputOnce, pages_of};
 
-use crate::files::STANDARD_INPUT;
-use crate::parser::{
-    FILE, MAP, METRICS, NEW, OLD, PAGES, SCHEDULE, SCRIPT, TRACE, VERBOSE, WAIT, copy_command,
-    grow_command, new_command, program, replay_command, run_command, salvage_command,
+use crate::argument_names::{
+    FILE, MAP, METRICS, NEW, OLD, PAGES, SCHEDULE, SCRIPT, TRACE, VERBOSE, WAIT,
 };
+use crate::command_table::FILE_COMMANDS;
+use crate::files::STANDARD_INPUT;
+use crate::parser::{program, wrong_use, wrong_word};
 use crate::plain::Plain;
 use crate::reports::{Report, ReportRequest};
+use crate::table::{CommandRow, FileVerb, Verb, command_named};
 use crate::waiting::{WRONG_SECONDS, wait_of};
-use clap::error::ErrorKind;
 use clap::{ArgMatches, Error};
 use directory::LEAST_PAGES;
 use page_device::MAX_PAGES;
@@ -97,6 +98,9 @@ pub const USUAL_PAGES: u32 = 1000;
 /// What is wrong with two texts that would both be that of standard input.
 const ONE_INPUT: &str = "SCRIPT and SCHEDULE can't both be standard input";
 
+/// What a word of pages is.
+const WRONG_PAGES: &str = "PAGES, a decimal number from 258 to 65536, without a sign";
+
 /// What is wrong with words that the parser takes.
 #[derive(Clone, Copy, Debug, PartialEq, Eq)]
 enum Wrong<'a> {
@@ -119,74 +123,82 @@ pub fn read_command_line<'a>(alloc: Global, words: &'a [String]) -> Result<Task<
     let Some((name, arguments)) = matches.subcommand() else {
         return Ok(Task::Serve);
     };
-    match read_task(name, arguments) {
+    let Some(row) = command_named(FILE_COMMANDS, name) else {
+        return Ok(Task::Serve);
+    };
+    match read_task(row.verb, arguments) {
         Ok(task) => Ok(task),
-        Err(Wrong::OneInput) => Err(one_input(alloc)?),
-        Err(Wrong::Pages(word)) => Err(no_pages(alloc, name, word)?),
-        Err(Wrong::Wait(word)) => Err(no_wait(alloc, name, word)?),
+        Err(wrong) => Err(wrong.into_error(alloc, &row)?),
     }
 }
 
-/// What a subcommand asks for. It stands apart, since what was matched is live in the other.
-fn read_task<'a>(name: &str, arguments: &ArgMatches<'a>) -> Result<Task<'a>, Wrong<'a>>
+/// What a command asks for. It stands apart, since what was matched is live in the other.
+fn read_task<'a>(verb: Verb, arguments: &ArgMatches<'a>) -> Result<Task<'a>, Wrong<'a>>
     ensures pages { IfOk result HasPages }
     ensures input { IfOk result ReadsInputOnce }
 {
+    let Verb::File(verb) = verb else {
+        // (its parser has no other command)
+        return Ok(Task::Serve);
+    };
     let file = arguments.get_str(FILE).unwrap_or("");
-    if name == "run" {
-        return Ok(Task::Run {
-            file: opening(arguments)?,
-            script: arguments.get_str(SCRIPT).unwrap_or(""),
-        });
-    }
-    if name == "replay" {
-        let script = arguments.get_str(SCRIPT).unwrap_or("");
-        let schedule = arguments.get_str(SCHEDULE).unwrap_or("");
-        if script == STANDARD_INPUT && schedule == STANDARD_INPUT {
-            return Err(Wrong::OneInput);
-        }
-        return Ok(Task::Replay {
-            file: opening(arguments)?,
-            script,
-            schedule,
-            is_traced: arguments.get_flag(TRACE),
-        });
-    }
-    if name == "migrate" {
-        return Ok(Task::Migrate {
-            old: arguments.get_str(OLD).unwrap_or(""),
-            new: arguments.get_str(NEW).unwrap_or(""),
-        });
-    }
-    if name == "check" && arguments.get_flag(MAP) {
-        return Ok(Task::Map { file });
-    }
-    if name == "check" {
-        return Ok(Task::Report(ReportRequest {
-            file,
-            report: Report::Counts,
-            is_verbose: arguments.get_flag(VERBOSE),
-        }));
-    }
-    if name == "stat" {
-        return Ok(Task::Report(ReportRequest {
-            file,
-            report: queues_of(arguments),
-            is_verbose: arguments.get_flag(VERBOSE),
-        }));
-    }
-    let pages = size(arguments)?;
     let old = arguments.get_str(OLD).unwrap_or("");
     let new = arguments.get_str(NEW).unwrap_or("");
-    Ok(match name {
-        "copy" => Task::Copy { old, new, pages },
-        "grow" => Task::Grow {
+    match verb {
+        FileVerb::New => Ok(Task::New {
+            file,
+            pages: size(arguments)?,
+        }),
+        FileVerb::Run => Ok(Task::Run {
             file: opening(arguments)?,
-            pages,
-        },
-        "salvage" => Task::Salvage { old, new, pages },
-        _ => Task::New { file, pages },
+            script: arguments.get_str(SCRIPT).unwrap_or(""),
+        }),
+        FileVerb::Replay => read_replay(arguments),
+        FileVerb::Check if arguments.get_flag(MAP) => Ok(Task::Map { file }),
+        FileVerb::Check => Ok(Task::Report(request(arguments, Report::Counts))),
+        FileVerb::Stat => Ok(Task::Report(request(arguments, queues_of(arguments)))),
+        FileVerb::Migrate => Ok(Task::Migrate { old, new }),
+        FileVerb::Copy => {
+            let pages = size(arguments)?;
+            Ok(Task::Copy { old, new, pages })
+        }
+        FileVerb::Grow => {
+            let pages = size(arguments)?;
+            let file = opening(arguments)?;
+            Ok(Task::Grow { file, pages })
+        }
+        FileVerb::Salvage => {
+            let pages = size(arguments)?;
+            Ok(Task::Salvage { old, new, pages })
+        }
+    }
+}
+
+/// What `replay` asks for.
+fn read_replay<'a>(arguments: &ArgMatches<'a>) -> Result<Task<'a>, Wrong<'a>>
+    ensures pages { IfOk result HasPages }
+    ensures input { IfOk result ReadsInputOnce }
+{
+    let script = arguments.get_str(SCRIPT).unwrap_or("");
+    let schedule = arguments.get_str(SCHEDULE).unwrap_or("");
+    if script == STANDARD_INPUT && schedule == STANDARD_INPUT {
+        return Err(Wrong::OneInput);
+    }
+    Ok(Task::Replay {
+        file: opening(arguments)?,
+        script,
+        schedule,
+        is_traced: arguments.get_flag(TRACE),
     })
+}
+
+/// What a report shows, and of which file.
+fn request<'a>(arguments: &ArgMatches<'a>, report: Report) -> ReportRequest<'a> {
+    ReportRequest {
+        file: arguments.get_str(FILE).unwrap_or(""),
+        report,
+        is_verbose: arguments.get_flag(VERBOSE),
+    }
 }
 
 /// In which form the queues of a file are shown.
@@ -196,12 +208,6 @@ fn queues_of(arguments: &ArgMatches<'_>) -> Report {
     } else {
         Report::Queues
     }
-}
-
-/// What is said of two texts that would both be that of standard input.
-fn one_input(alloc: Global) -> Result<Error, AllocError> {
-    let mut replay = replay_command(alloc)?.bin_name("msgq replay")?;
-    replay.error(ErrorKind::ValueValidation, ONE_INPUT)
 }
 
 /// The file that is changed, and how long its opening waits.
@@ -230,31 +236,15 @@ fn size<'a>(arguments: &ArgMatches<'a>) -> Result<u32, Wrong<'a>>
     }
 }
 
-/// What is said of a word that is no number of seconds.
-fn no_wait(alloc: Global, name: &str, word: &str) -> Result<Error, AllocError> {
-    let word = Plain(word);
-    let why = format!(in alloc; "'{word}' is no {WRONG_SECONDS}")?;
-    let mut command = match name {
-        "grow" => grow_command(alloc)?.bin_name("msgq grow")?,
-        "replay" => replay_command(alloc)?.bin_name("msgq replay")?,
-        _ => run_command(alloc)?.bin_name("msgq run")?,
-    };
-    command.error(ErrorKind::ValueValidation, why.as_str())
-}
-
-/// What is said of a word that is no number of pages.
-fn no_pages(alloc: Global, name: &str, word: &str) -> Result<Error, AllocError> {
-    let word = Plain(word);
-    let why = format!(in alloc;
-        "'{word}' is no PAGES, a decimal number from 258 to 65536, without a sign"
-    )?;
-    let mut command = match name {
-        "copy" => copy_command(alloc)?.bin_name("msgq copy")?,
-        "grow" => grow_command(alloc)?.bin_name("msgq grow")?,
-        "salvage" => salvage_command(alloc)?.bin_name("msgq salvage")?,
-        _ => new_command(alloc)?.bin_name("msgq new")?,
-    };
-    command.error(ErrorKind::ValueValidation, why.as_str())
+impl<'a> Wrong<'a> {
+    /// What is said of it, with the usage of its command.
+    fn into_error(self, alloc: Global, row: &CommandRow) -> Result<Error, AllocError> {
+        match self {
+            Wrong::OneInput => wrong_use(alloc, row, ONE_INPUT),
+            Wrong::Pages(word) => wrong_word(alloc, row, word, WRONG_PAGES),
+            Wrong::Wait(word) => wrong_word(alloc, row, word, WRONG_SECONDS),
+        }
+    }
 }
 
 /// The number of pages that a word asks for, where a file can have so many.

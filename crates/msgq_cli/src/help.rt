@@ -1,4 +1,4 @@
-//! What stands behind the help of the program and of its subcommands.
+//! What stands behind the help of the program and of its commands.
 
 /// After the help of the program.
 pub(crate) const ENDING: &str = "\
@@ -18,6 +18,14 @@ Exit status:
 
 Scripts and schedules: docs/SCRIPTS.md, with examples in examples/. Commands from a shell, send to
 set: docs/SHELL.md. Faults: docs/FAULTS.md.";
+
+/// After the help of a command of a shell.
+pub(crate) const SHELL_ENDING: &str = "\
+KEY is a number of 32 bits, decimal or behind 0x hexadecimal; or @ and the id of a queue.
+Owners and modes are those that a caller claims: who may read FILE may read all of it.
+Exit status: 0 done; 1 a fault, or standard output refused a write; 2 the command line is wrong;
+3 there is no message, or no room; 4 any other refusal, which standard error names.
+More: docs/SHELL.md, msgq(1).";
 
 /// After the help of `new`.
 pub(crate) const NEW_PRINTS: &str = "\

@@ -1,191 +1,127 @@
-//! What the command line may say.
+//! The parser of command lines, built of the table of commands.
 
-use crate::help::{
-    CHECK_PRINTS, COPY_PRINTS, ENDING, GROW_PRINTS, MIGRATE_PRINTS, NEW_PRINTS, REPLAY_PRINTS,
-    RUN_PRINTS, SALVAGE_PRINTS, STAT_PRINTS,
-};
-use clap::{Arg, ArgAction, Command};
+use crate::argument_names::FOR_EVER;
+use crate::command_table::FILE_COMMANDS;
+use crate::help::ENDING;
+use crate::option_table::OPTIONS;
+use crate::plain::Plain;
+use crate::table::{CommandRow, Operand, OptionRow, Place, Value};
+use clap::error::ErrorKind;
+use clap::{Arg, ArgAction, ArgGroup, Command, Error};
 use std::alloc::{AllocError, Global};
 
 /// The version of the program, which its manual page and the changelog have too.
 const VERSION: &str = "0.2.0";
 
-/// Names of arguments.
-pub(crate) const FILE: &str = "FILE";
-
-pub(crate) const OLD: &str = "OLD";
-
-pub(crate) const NEW: &str = "NEW";
-
-pub(crate) const PAGES: &str = "PAGES";
-
-pub(crate) const SCRIPT: &str = "SCRIPT";
-
-pub(crate) const SCHEDULE: &str = "SCHEDULE";
-
-pub(crate) const MAP: &str = "map";
-
-pub(crate) const METRICS: &str = "metrics";
-
-pub(crate) const VERBOSE: &str = "verbose";
-
-pub(crate) const WAIT: &str = "wait";
-
-pub(crate) const TRACE: &str = "trace";
-
-/// What is said of PAGES.
-const SIZE: &str = "How many pages of 4,096 bytes it has: 258 to 65,536";
-
-/// What the command line may say, to which more commands can be added. One subcommand at a time is made
-/// and added, so that a growth that is refused leaves one of them at most to be dropped.
+/// What the command line may say of scripts and whole files, to which more commands can be added.
 pub fn program<'a>(alloc: Global) -> Result<Command<'a>, AllocError> {
     let program = Command::new(alloc, "msgq")
         .version(VERSION)
         .about("Message queues (XSI, POSIX.1-2017) kept in one file")
         .after_help(ENDING);
-    let program = program.subcommand(new_command(alloc)?)?;
-    let program = program.subcommand(run_command(alloc)?)?;
-    let program = program.subcommand(replay_command(alloc)?)?;
-    let program = program.subcommand(check_command(alloc)?)?;
-    let program = program.subcommand(stat_command(alloc)?)?;
-    let program = program.subcommand(migrate_command(alloc)?)?;
-    let program = program.subcommand(copy_command(alloc)?)?;
-    let program = program.subcommand(grow_command(alloc)?)?;
-    program.subcommand(salvage_command(alloc)?)
+    with_commands(alloc, program, FILE_COMMANDS)
 }
 
-/// `new FILE PAGES`.
-pub(crate) fn new_command<'a>(alloc: Global) -> Result<Command<'a>, AllocError> {
-    let pages = Arg::new(alloc, PAGES).action(ArgAction::Set).help(
-        "How many pages of 4,096 bytes it has: 258 to 65,536; 1,000 where none is given",
-    );
-    Command::new(alloc, "new")
-        .about("Makes a file of message queues")
-        .after_help(NEW_PRINTS)
-        .arg(argument(alloc, FILE).help("Where it is made; there may be nothing"))?
-        .arg(pages)
-}
-
-/// `run FILE SCRIPT`.
-pub(crate) fn run_command<'a>(alloc: Global) -> Result<Command<'a>, AllocError> {
-    let script = argument(alloc, SCRIPT).help("The script, or - for that of standard input");
-    Command::new(alloc, "run")
-        .about("Runs a script on a file of message queues")
-        .after_help(RUN_PRINTS)
-        .arg(argument(alloc, FILE).help("The file"))?
-        .arg(script)?
-        .arg(wait_argument(alloc))
-}
-
-/// `replay FILE SCRIPT SCHEDULE`.
-pub(crate) fn replay_command<'a>(alloc: Global) -> Result<Command<'a>, AllocError> {
-    let script = argument(alloc, SCRIPT).help("The script, or - for that of standard input");
-    let schedule = argument(alloc, SCHEDULE).help("The schedule, or - for that of standard input");
-    let trace = Arg::new(alloc, TRACE)
-        .long(TRACE)
-        .action(ArgAction::SetTrue)
-        .help("Tells on standard error each step as it is made, and who blocks whom");
-    Command::new(alloc, "replay")
-        .about("Runs the lines of several seats beside one another, by a schedule")
-        .after_help(REPLAY_PRINTS)
-        .arg(argument(alloc, FILE).help("The file"))?
-        .arg(script)?
-        .arg(schedule)?
-        .arg(wait_argument(alloc))?
-        .arg(trace)
-}
-
-/// The option of a command that changes a file.
-fn wait_argument<'a>(alloc: Global) -> Arg<'a> {
-    Arg::new(alloc, WAIT)
-        .long(WAIT)
-        .short('w')
-        .value_name("SECONDS")
-        .action(ArgAction::Set)
-        .help("Waits so long where another process uses the file; else that is fault 20 at once")
-}
-
-/// `migrate OLD NEW`.
-fn migrate_command<'a>(alloc: Global) -> Result<Command<'a>, AllocError> {
-    let new = argument(alloc, NEW).help("Where the new file is made; there may be nothing");
-    Command::new(alloc, "migrate")
-        .about("Makes a file of today's version of one of version 1")
-        .after_help(MIGRATE_PRINTS)
-        .arg(argument(alloc, OLD).help("The file of version 1, which is not written"))?
-        .arg(new)
-}
-
-/// `copy OLD NEW PAGES`.
-pub(crate) fn copy_command<'a>(alloc: Global) -> Result<Command<'a>, AllocError> {
-    let new = argument(alloc, NEW).help("Where the new file is made; there may be nothing");
-    Command::new(alloc, "copy")
-        .about("Makes a file of another size with the same queues")
-        .after_help(COPY_PRINTS)
-        .arg(argument(alloc, OLD).help("The file, which is not written"))?
-        .arg(new)?
-        .arg(argument(alloc, PAGES).help(SIZE))
-}
-
-/// `grow FILE PAGES`.
-pub(crate) fn grow_command<'a>(alloc: Global) -> Result<Command<'a>, AllocError> {
-    Command::new(alloc, "grow")
-        .about("Gives a file another size, in its place")
-        .after_help(GROW_PRINTS)
-        .arg(argument(alloc, FILE).help("The file"))?
-        .arg(argument(alloc, PAGES).help(SIZE))?
-        .arg(wait_argument(alloc))
-}
-
-/// `salvage OLD NEW PAGES`.
-pub(crate) fn salvage_command<'a>(alloc: Global) -> Result<Command<'a>, AllocError> {
-    let new = argument(alloc, NEW).help("Where the new file is made; there may be nothing");
-    Command::new(alloc, "salvage")
-        .about("Makes a file of what can be read of one that is wrong")
-        .after_help(SALVAGE_PRINTS)
-        .arg(argument(alloc, OLD).help("The file, which is not written"))?
-        .arg(new)?
-        .arg(argument(alloc, PAGES).help(SIZE))
-}
-
-/// `check FILE`.
-fn check_command<'a>(alloc: Global) -> Result<Command<'a>, AllocError> {
-    let about = "Checks a file of message queues";
-    let map = Arg::new(alloc, MAP)
-        .long(MAP)
-        .action(ArgAction::SetTrue)
-        .help("Prints its directory, its buckets and its free pages as JSON");
-    report_command(alloc, "check", about, CHECK_PRINTS)?.arg(map.conflicts_with(VERBOSE)?)
-}
-
-/// `stat FILE`.
-fn stat_command<'a>(alloc: Global) -> Result<Command<'a>, AllocError> {
-    let metrics = Arg::new(alloc, METRICS)
-        .long(METRICS)
-        .action(ArgAction::SetTrue)
-        .help("Prints them in the text format of Prometheus");
-    report_command(alloc, "stat", "Shows the queues of a file", STAT_PRINTS)?.arg(metrics)
-}
-
-/// A subcommand with the argument FILE, and the flag of a report.
-fn report_command<'a>(
+/// Adds the commands of these rows. One at a time is made and added, so that a growth that is refused
+/// leaves one of them at most to be dropped.
+pub fn with_commands<'a>(
     alloc: Global,
-    name: &'a str,
-    about: &'a str,
-    prints: &'a str,
+    program: Command<'a>,
+    rows: &[CommandRow],
 ) -> Result<Command<'a>, AllocError> {
-    let verbose = Arg::new(alloc, VERBOSE)
-        .short('v')
-        .long(VERBOSE)
-        .action(ArgAction::SetTrue)
-        .help("Says on standard error how full the file is, as on a terminal");
-    Command::new(alloc, name)
-        .about(about)
-        .after_help(prints)
-        .arg(argument(alloc, FILE).help("The file, which is not written"))?
-        .arg(verbose)
+    let mut program = program;
+    for row in rows {
+        program = program.subcommand(command(alloc, row)?)?;
+    }
+    Ok(program)
 }
 
-/// An argument that has to be given.
-fn argument<'a>(alloc: Global, name: &'a str) -> Arg<'a> {
-    Arg::new(alloc, name).required(true).action(ArgAction::Set)
+/// What is said of a command line that the parser takes, with the usage of its command.
+pub(crate) fn wrong_use(alloc: Global, row: &CommandRow, why: &str) -> Result<Error, AllocError> {
+    let name = row.name;
+    let program = format!(in alloc; "msgq {name}")?;
+    let mut command = command(alloc, row)?.bin_name(program.as_str())?;
+    command.error(ErrorKind::ValueValidation, why)
+}
+
+/// What is said of a word that its place does not take, and of what it takes.
+pub fn wrong_word(
+    alloc: Global,
+    row: &CommandRow,
+    word: &str,
+    wanted: &str,
+) -> Result<Error, AllocError> {
+    let word = Plain(word);
+    let why = format!(in alloc; "'{word}' is no {wanted}")?;
+    wrong_use(alloc, row, why.as_str())
+}
+
+/// What the command line of a command may say.
+fn command<'a>(alloc: Global, row: &CommandRow) -> Result<Command<'a>, AllocError> {
+    let mut command = Command::new(alloc, row.name)
+        .about(row.about)
+        .after_help(row.ending);
+    for operand in row.operands {
+        command = command.arg(argument(alloc, operand))?;
+    }
+    for option in OPTIONS {
+        if option.of.contains(&row.verb) {
+            command = command.arg(option_argument(alloc, option)?)?;
+        }
+    }
+    with_choice(alloc, command, row)
+}
+
+/// An operand.
+fn argument<'a>(alloc: Global, row: &Operand) -> Arg<'a> {
+    Arg::new(alloc, row.name)
+        .required(row.place == Place::Needed)
+        .action(ArgAction::Set)
+        .help(row.help)
+}
+
+/// An option. What it needs and the command has not counts for nothing.
+fn option_argument<'a>(alloc: Global, row: &OptionRow) -> Result<Arg<'a>, AllocError> {
+    let argument = Arg::new(alloc, row.long).long(row.long).help(row.help);
+    let argument = with_value(argument, row.value);
+    let argument = match row.short {
+        Some(letter) => argument.short(letter),
+        None => argument,
+    };
+    argument
+        .requires_all(row.needs)?
+        .conflicts_with_all(row.conflicts)
+}
+
+/// How the value of an option is given.
+fn with_value<'a>(argument: Arg<'a>, value: Value) -> Arg<'a> {
+    match value {
+        Value::Nothing => argument.action(ArgAction::SetTrue),
+        Value::Word(shown) | Value::User(shown) | Value::Group(shown) | Value::Path(shown) => {
+            argument.action(ArgAction::Set).value_name(shown)
+        }
+        Value::Signed(shown) => argument
+            .action(ArgAction::Set)
+            .value_name(shown)
+            .allow_negative_numbers(true),
+        Value::Perhaps(shown) => argument
+            .action(ArgAction::Set)
+            .value_name(shown)
+            .num_args(0..=1)
+            .require_equals(true)
+            .default_missing_value(FOR_EVER),
+    }
+}
+
+/// The options of which at least one is given.
+fn with_choice<'a>(
+    alloc: Global,
+    command: Command<'a>,
+    row: &CommandRow,
+) -> Result<Command<'a>, AllocError> {
+    if row.one_of.is_empty() {
+        return Ok(command);
+    }
+    let choice = ArgGroup::new(alloc, "what").args(row.one_of)?;
+    command.group(choice.required(true).multiple(true))
 }

@@ -3,7 +3,7 @@
 use crate::command_line::Task;
 use crate::inbox::{INBOX_BYTES, Inbox};
 use crate::trouble::Trouble;
-use rollback_journal::{Opening, SystemPair, open_in_turn};
+use rollback_journal::{Opening, SystemPair, open_with_calls};
 use serving::frames::{DONE, Reply, put};
 use serving::{Heard, Server, Unheard};
 use std::fs::File;
@@ -58,7 +58,7 @@ fn open(rt: &HostRuntime, task: &Task<'_>) -> Result<FileServer, Trouble> {
         path: task.file,
         wait: Duration::from_secs(TURN),
     };
-    let device = open_in_turn(rt, opening).map_err(Trouble::NotFound)?;
+    let device = open_with_calls(rt, opening).map_err(Trouble::NotFound)?;
     let now = moment(rt)?;
     Server::open(rt.alloc(), device, task.waits, task.durability, now).map_err(Trouble::Unopened)
 }
@@ -115,7 +115,7 @@ fn fill(rt: &HostRuntime, inbox: &mut Inbox) -> Result<Came, Trouble> {
 
 /// Brings all that was decided to the file.
 fn save(server: &mut FileServer) -> Result<(), Trouble> {
-    server.save().map_err(Trouble::Uncommitted)
+    server.checkpoint().map_err(Trouble::Uncommitted)
 }
 
 /// Hears the records that have come, and tells what may be told behind them.

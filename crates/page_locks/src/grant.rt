@@ -15,5 +15,5 @@ pub struct Attempt {
     /// What the seat is told.
     pub grant: Grant,
     /// The slots from the name's home to where it stood or was put, both counted.
-    pub looked: usize,
+    pub looked: u32,
 }

@@ -23,7 +23,7 @@ pub const MAX_SEATS: u8 = 64;
 pub struct LockTable {
     rows: Vec<Row>,
     slots: Slots,
-    looked: usize,
+    looked: u32,
 }
 
 impl Model for LockTable {
@@ -142,7 +142,7 @@ impl LockTable {
 
     /// How many slots the last `try_grant` or `attempt` looked at, from the name's home to where it
     /// stood or was put, both counted; 0 before the first.
-    pub fn looked(&self) -> usize
+    pub fn looked(&self) -> u32
         ensures begun { result ≡ 0 → IsUnheld self.now }
     {
         self.looked

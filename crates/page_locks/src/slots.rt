@@ -18,7 +18,7 @@ use std::marker::Model;
 #[derive(Clone, Copy, Debug)]
 pub struct Spot {
     pub place: usize,
-    pub looked: usize,
+    pub looked: u32,
     pub holders: Holders,
 }
 
@@ -64,7 +64,7 @@ impl Slots {
         let place = (home(name) + steps) % SLOTS;
         Spot {
             place,
-            looked: steps + 1,
+            looked: steps as u32 + 1,
             holders: self.slots[place].holders,
         }
     }

@@ -22,8 +22,12 @@ fn opened<R: Files<File = File>>(rt: &R, path: &str) -> Result<File, Fail> {
 }
 
 /// The file of the trials with its journal, as an opening has them.
-fn pair_of<R: Abort + Files<File = File>>(rt: &R) -> Result<SystemPair<File>, Fail> {
-    let mut pair = SystemPair::new(opened(rt, "kept")?, opened(rt, "kept.journal")?)?;
+fn pair_of<R>(rt: &R) -> Result<SystemPair<File>, Fail>
+where
+    R: Abort + Files<File = File> + AllocGlobal,
+{
+    let (file, journal) = (opened(rt, "kept")?, opened(rt, "kept.journal")?);
+    let mut pair = SystemPair::new(rt.alloc(), file, journal)?;
     assert!(rt; recover(&mut pair).is_ok());
     Ok(pair)
 }
@@ -56,7 +60,7 @@ fn begin_a_save<R: Abort + Files<File = File> + AllocGlobal>(
 }
 
 /// The first byte of each page of the file.
-fn first_bytes<R: Abort + Files<File = File>>(rt: &R) -> Result<[u8; 4], Fail> {
+fn first_bytes<R: Abort + Files<File = File> + AllocGlobal>(rt: &R) -> Result<[u8; 4], Fail> {
     let pair = pair_of(rt)?;
     let mut found = [0; 4];
     let mut page = page_of(0);

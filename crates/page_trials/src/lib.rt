@@ -19,6 +19,8 @@ mod directories;
 #[cfg(test)]
 mod inquiry_records;
 #[cfg(test)]
+mod kept_calls;
+#[cfg(test)]
 mod kept_journals;
 #[cfg(test)]
 mod kept_pseudokeys;
@@ -26,6 +28,10 @@ mod kept_pseudokeys;
 mod longest_file;
 #[cfg(test)]
 mod no_system;
+#[cfg(test)]
+mod noted_calls;
+#[cfg(test)]
+mod pairs;
 #[cfg(test)]
 mod plain_rows;
 #[cfg(test)]

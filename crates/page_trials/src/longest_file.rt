@@ -19,7 +19,7 @@ fn made<R: Files>(rt: &R, path: &str, pages: u32) -> Result<R::File, Fail> {
 #[test]
 fn a_device_is_full_at_65_536_pages(rt: HostRuntime) -> Result<(), Fail> {
     let file = made(&rt, "longest", MAX_PAGES - 1)?;
-    let pair = SystemPair::new(file, made(&rt, "longest.journal", 0)?)?;
+    let pair = SystemPair::new(rt.alloc(), file, made(&rt, "longest.journal", 0)?)?;
     let mut device = SafeDevice::new(rt.alloc(), pair)?;
     let mut page = [7; PAGE_BYTES];
     assert!(rt; device.extend(&page).is_ok());

@@ -161,7 +161,7 @@ fn a_session_of_four_pages_syncs_three_times(rt: HostRuntime) -> Result<(), Fail
     }
     assert!(rt; device.sync().is_ok());
     // One addition to the journal, four pages, the end of the journal, and three syncs.
-    assert_eq!(rt; device.into_pair().calls(), 9);
+    assert_eq!(rt; device.into_pair().transfers(), 9);
     Ok(())
 }
 
@@ -199,6 +199,6 @@ fn a_device_that_failed_asks_nothing_more(rt: HostRuntime) -> Result<(), Fail> {
     assert_eq!(rt; device.write(0, &page_of(12)), Err(DeviceFault::Device));
     assert_eq!(rt; device.sync(), Err(DeviceFault::Device));
     assert_eq!(rt; device.faults(), 3);
-    assert_eq!(rt; device.into_pair().calls(), 3);
+    assert_eq!(rt; device.into_pair().transfers(), 3);
     Ok(())
 }

@@ -15,6 +15,7 @@ use Rattle.step_rules.specs.Words.{chain}
 use Rattle.step_rules.proofs.BuddyLemmas.{hop_goes_elsewhere}
 use Rattle.step_rules.proofs.KindLemmas.{kind_keeps}
 use Rattle.step_rules.proofs.LockStepLemmas.{KeepsOthers-same, none_busy}
+use Rattle.split_merge.proofs.of_stale_search.CauseLemmas.{no_transfer}
 use Rattle.split_merge.proofs.of_stale_search.WayLemmas.{leads_in_file}
 use Rattle.record_file.proofs.of_split_merge.MoveLemmas.{read_only}
 use Rattle.record_file.proofs.of_split_merge.MergeRowLemmas.{directory_beside, no_other_held, no_page_held, page_held, without_last}
@@ -98,7 +99,7 @@ module _ (hash : RecordKey → ℕ) (seat : ℕ) (key : RecordKey) (k bytes : �
             images = reads.images;
             file = λ honest fine. absurd cc;
           }))
-          reads.images (λ same. absurd cc) refl
+          reads.images (no_transfer pool pool') refl
           (λ change keyed sees. absurd (hop_goes_elsewhere hash (old change) n k sees.sound
           sees.known.1.1.0.1.leads (other sees.honest) ((sight sees.honest).1 ∙ same)))
 

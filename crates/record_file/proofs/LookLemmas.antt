@@ -13,7 +13,7 @@ use Rattle.step_rules.specs.declared.kind.Kind.TheVariants as kinds
 use Rattle.step_rules.specs.Words.{IsBucketOf}
 use Rattle.step_rules.proofs.AnswerLemmas.{look_may_tell}
 use Rattle.step_rules.proofs.LockLemmas.{IsHeld-writer}
-use Rattle.split_merge.proofs.of_stale_search.CauseLemmas.{cause_after}
+use Rattle.split_merge.proofs.of_stale_search.CauseLemmas.{cause_after, no_transfer}
 use Rattle.split_merge.proofs.of_stale_search.WayLemmas.{leads_in_file}
 use Rattle.record_file.proofs.of_split_merge.BuddyFacts.{live_page, seen_shape, seen_used, seen_depth}
 use Rattle.record_file.proofs.of_split_merge.MoveLemmas.{read_only}
@@ -225,7 +225,7 @@ module _ (hash : RecordKey → ℕ) (seat : ℕ) (key : RecordKey) (k bytes : �
               images = reads.images;
               file = λ honest fine. absurd cc;
             }))
-            reads.images (λ same. absurd cc) refl
+            reads.images (no_transfer pool pool2) refl
             (λ change keyed sees. absurd (let far : ⊥ = omega (
               arith,
               deep,

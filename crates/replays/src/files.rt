@@ -1,77 +1,23 @@
-//! Scripts replayed on files: the subcommand of the program.
+//! The texts of runs and replays of files, and what is said of these.
 
 use crate::ending::Ran;
-use crate::texts::{Texts, refuse_schedule, replay_on};
+use crate::texts::refuse_schedule;
 use msgq_cli::{
     Ending, Failure, Output, Plain, STANDARD_INPUT, Script, complain, complain_of_fault,
-    complain_of_lines, complain_of_refused, leave_unopened, read_file, read_fullness, read_script,
-    refuse, unread,
+    complain_of_lines, complain_of_refused, read_file, read_fullness, read_script, refuse, unread,
 };
 use numbers::faults;
 use numbers::faults::BUSY;
+use rollback_journal::SystemPair;
 use rollback_journal::safe_device::SafeDevice;
-use rollback_journal::{Opening, SystemPair, open_in_turn};
 use schedules::read_schedule;
 use std::alloc::Global;
 use std::fs::File;
 use std::io::Write;
-use std::rt::{Clock, Files};
+use std::rt::Files;
 
 /// Why a replay is not closed.
 const LEFT: &str = "a line is left that no seat can finish";
-
-/// What a replay is made of, by their names, and whether it is traced. A script or a schedule of
-/// the name `-` is that of standard input.
-#[derive(Clone, Copy, Debug)]
-pub struct Sources<'a> {
-    /// The file.
-    pub file: Opening<'a>,
-    /// The script.
-    pub script: &'a str,
-    /// The schedule.
-    pub schedule: &'a str,
-    /// Each event is told on standard error.
-    pub is_traced: bool,
-}
-
-/// `replay FILE SCRIPT SCHEDULE`: runs the lines of several seats beside one another on a file of
-/// message queues, by a schedule.
-///
-/// The script is read first, then the schedule: fault 20 or 60 alone where one can't be read, and
-/// nothing is run where one is wrong. Then the file is opened, and what a run that was cut off has
-/// left is undone: `fault N` alone where it is not. Then it is as `replay_on` says.
-pub fn replay_file<R, W, E>(
-    rt: &R,
-    sources: Sources,
-    output: &mut Output<W>,
-    errors: &mut E,
-) -> Ending
-where
-    R: Files<File = File> + AllocGlobal + Input + Clock,
-    W: Write + Drop,
-    E: Write,
-{
-    // a wrong text is told before the file is opened
-    let script = match script_text(rt, sources.script, output, errors) {
-        Ok(script) => script,
-        Err(ending) => return ending,
-    };
-    let schedule = match schedule_text(rt, sources.schedule, output, errors) {
-        Ok(schedule) => schedule,
-        Err(ending) => return ending,
-    };
-    let device = match open_in_turn(rt, sources.file) {
-        Ok(device) => device,
-        Err(error) => return leave_unopened(sources.file.path, error, output, errors),
-    };
-    let texts = Texts {
-        script: script.as_slice(),
-        schedule: schedule.as_slice(),
-        is_traced: sources.is_traced,
-    };
-    let replayed = replay_on(rt.alloc(), device, texts, output, errors);
-    complain_of_ran(sources.file.path, replayed, output, errors)
-}
 
 /// Says of a run or a replay of a file of the system what its lines met, what refused its answers, and
 /// what it ended by. Then the file is let go.
@@ -143,7 +89,7 @@ where
 /// # Errors
 ///
 /// How the run ends where it can't be read or is wrong: that was told.
-fn script_text<R, W, E>(
+pub fn script_text<R, W, E>(
     rt: &R,
     name: &str,
     output: &mut Output<W>,
@@ -160,7 +106,11 @@ where
 }
 
 /// So of a schedule.
-fn schedule_text<R, W, E>(
+///
+/// # Errors
+///
+/// As those of a script.
+pub fn schedule_text<R, W, E>(
     rt: &R,
     name: &str,
     output: &mut Output<W>,

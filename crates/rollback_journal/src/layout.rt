@@ -1,5 +1,6 @@
-//! The bytes of a journal: a head, and then images, each with a digest of all that stands before.
-ghost use Rattle.std.specs.Prelude.{◌+◌, ◌^◌, ◌<◌, ◌≤◌, length};
+//! The bytes of a journal: a head, and then calls and images, each with a digest of all that stands
+//! before.
+ghost use Rattle.std.specs.Prelude.{◌+◌, ◌≤◌, length};
 
 use byteorder::{BigEndian, ByteOrder};
 use safe_device::page_device::{DIGEST_BYTES, PAGE_BYTES, PAYLOAD_BYTES, Page};
@@ -16,6 +17,21 @@ pub const HEAD_BYTES: usize = 80;
 /// before and of both.
 pub const IMAGE_BYTES: usize = 4132;
 
+/// Bytes of the word with which an entry begins.
+pub const WORD_BYTES: u64 = 4;
+
+/// Bytes of the shortest entry: its word and its digest.
+pub const LEAST_ENTRY: u64 = 36;
+
+/// An addition of calls has no more bytes.
+pub const MOST_CALL_BYTES: usize = 0x3fff_ffff;
+
+/// The bit of a word that says that calls follow. The others are how many bytes they have.
+const CALLS: u32 = 0x8000_0000;
+
+/// The word that says that all images before it were put back. No page has this number.
+const PUT_BACK: u32 = 0x4000_0000;
+
 /// Begins a journal of which something may have to be put back.
 const UNDER_WAY: [u8; 8] = *b"msgqundo";
 
@@ -23,6 +39,9 @@ const UNDER_WAY: [u8; 8] = *b"msgqundo";
 const ENDED: [u8; 8] = *b"msgqdone";
 
 const VERSION: u32 = 2;
+
+/// Calls may stand behind its head. One that has none is of `VERSION`.
+const VERSION_OF_CALLS: u32 = 3;
 
 /// Its heads have no number, and in the place of that and of a seal the SHA-256 of page 0.
 const FIRST_VERSION: u32 = 1;
@@ -67,6 +86,8 @@ impl PageZero {
 pub struct Head {
     /// How many pages the file had.
     pub count: u32,
+    /// Whether calls may stand behind it.
+    pub takes_calls: bool,
     /// The number of the save; 0 in version 1, where it has none.
     pub number: u64,
     /// Page 0 as it was.
@@ -87,12 +108,17 @@ pub enum FoundHead {
 }
 
 /// The bytes of the head of a save, and the digest with which it ends.
-pub fn spell_head(count: u32, number: u64, seal: &Seal) -> ([u8; HEAD_BYTES], Sum) {
+pub fn spell_head(head: &Head, seal: &Seal) -> ([u8; HEAD_BYTES], Sum) {
+    let version = if head.takes_calls {
+        VERSION_OF_CALLS
+    } else {
+        VERSION
+    };
     let mut bytes = [0; HEAD_BYTES];
     put(&UNDER_WAY, 0, &mut bytes);
-    put(&big_endian(count), COUNT_AT, &mut bytes);
+    put(&big_endian(head.count), COUNT_AT, &mut bytes);
     put(seal, SEAL_AT, &mut bytes);
-    let sum = finish(number, &mut bytes);
+    let sum = finish(version, head.number, &mut bytes);
     (bytes, sum)
 }
 
@@ -100,13 +126,13 @@ pub fn spell_head(count: u32, number: u64, seal: &Seal) -> ([u8; HEAD_BYTES], Su
 pub fn spell_end(number: u64) -> [u8; HEAD_BYTES] {
     let mut bytes = [0; HEAD_BYTES];
     put(&ENDED, 0, &mut bytes);
-    let _ = finish(number, &mut bytes);
+    let _ = finish(VERSION, number, &mut bytes);
     bytes
 }
 
 /// Puts the version and the number in their places, and the digest of all at the end.
-fn finish(number: u64, bytes: &mut [u8; HEAD_BYTES]) -> Sum {
-    put(&big_endian(VERSION), VERSION_AT, bytes);
+fn finish(version: u32, number: u64, bytes: &mut [u8; HEAD_BYTES]) -> Sum {
+    put(&big_endian(version), VERSION_AT, bytes);
     BigEndian::write_u64(&mut bytes[NAMED_AT..SEAL_AT], number);
     let sum = digest(&bytes[..SUM_AT]);
     put(&sum, SUM_AT, bytes);
@@ -152,13 +178,14 @@ pub fn read_head(bytes: &[u8; HEAD_BYTES]) -> FoundHead {
         return FoundHead::Torn;
     }
     let (number, page_zero) = match version {
-        VERSION => (number, PageZero::Seal(seal_at(SEAL_AT, bytes))),
+        VERSION | VERSION_OF_CALLS => (number, PageZero::Seal(seal_at(SEAL_AT, bytes))),
         FIRST_VERSION => (0, PageZero::Digest(sum_at(NAMED_AT, bytes))),
         _ => return FoundHead::OtherVersion,
     };
     let count = BigEndian::read_u32(&bytes[COUNT_AT..NAMED_AT]);
     let head = Head {
         count,
+        takes_calls: version == VERSION_OF_CALLS,
         number,
         page_zero,
     };
@@ -195,20 +222,80 @@ fn digest(bytes: &[u8]) -> Sum {
     hasher.finalize()
 }
 
-/// The digest with which an image ends, from that of what stands before it.
-pub fn chained(before: &Sum, number: &[u8; 4], page: &Page) -> Sum {
-    let mut hasher = Sha256::new();
-    hasher.update(before);
-    hasher.update(number);
-    hasher.update(page);
+/// The digest with which an entry ends, from that of what stands before it, its word and its bytes.
+pub fn chained(before: &Sum, word: &Word, bytes: &[u8]) -> Sum {
+    let mut hasher = begin_sum(before, word);
+    hasher.update(bytes);
     hasher.finalize()
 }
 
-/// Where an image begins, counted from 0.
-pub fn image_at(index: u32) -> u64
-    ensures { result < 2 ^ 63 }
-{
-    HEAD_BYTES as u64 + index as u64 * IMAGE_BYTES as u64
+/// The same, where its bytes are yet to come.
+pub fn begin_sum(before: &Sum, word: &Word) -> Sha256 {
+    let mut hasher = Sha256::new();
+    hasher.update(before);
+    hasher.update(word);
+    hasher
+}
+
+/// With which an entry begins.
+pub type Word = [u8; 4];
+
+/// What a word says that follows.
+#[derive(Clone, Copy, Debug, PartialEq, Eq)]
+pub enum Entry {
+    /// The image of a page.
+    Image,
+    /// An addition of calls of so many bytes.
+    Calls(u32),
+    /// Nothing: the images before it were put back.
+    PutBack,
+}
+
+impl Entry {
+    /// How many bytes it has with its word and its digest.
+    pub fn bytes(self) -> u64 {
+        match self {
+            Entry::Image => IMAGE_BYTES as u64,
+            Entry::Calls(bytes) => LEAST_ENTRY + bytes as u64,
+            Entry::PutBack => LEAST_ENTRY,
+        }
+    }
+}
+
+/// What a word says, behind a head that takes calls or not.
+pub fn read_word(word: &Word, takes_calls: bool) -> Entry {
+    let number = BigEndian::read_u32(word);
+    if takes_calls && number == PUT_BACK {
+        return Entry::PutBack;
+    }
+    if takes_calls && number & CALLS != 0 {
+        return Entry::Calls(number & !CALLS);
+    }
+    Entry::Image
+}
+
+/// The word of an addition of so many bytes, no more than the most.
+pub fn word_of_calls(bytes: usize) -> Option<Word> {
+    if bytes > MOST_CALL_BYTES {
+        return None;
+    }
+    Some(big_endian(CALLS | bytes as u32))
+}
+
+/// The bytes of the entry that says that the images before it were put back, and its digest, from that
+/// of what stands before it.
+pub fn spell_put_back(before: &Sum) -> ([u8; LEAST_ENTRY as usize], Sum) {
+    let mut bytes = [0; LEAST_ENTRY as usize];
+    let word = big_endian(PUT_BACK);
+    let sum = chained(before, &word, &[]);
+    put(&word, 0, &mut bytes);
+    put(&sum, WORD_BYTES as usize, &mut bytes);
+    (bytes, sum)
+}
+
+/// Where an image begins, counted from 0, of those that begin there.
+pub fn image_at(first: u64, index: u32) -> u64 {
+    first.saturating_add(index as u64 * IMAGE_BYTES as u64)
 }
 
 /// Where a page begins.

@@ -9,11 +9,14 @@ use std::fs::{self, File, OpenOptions};
 use std::io::{self, ErrorKind};
 use std::rt::Files;
 
-/// What a session that was cut off has left beside a file, which the next opening undoes.
+/// What a session that was cut off has left beside a file: the next opening undoes it, and makes the
+/// calls that were noted before.
 #[derive(Clone, Copy, Debug, PartialEq, Eq)]
 pub struct LeftOver {
     /// How many pages the file had.
     pub pages: u32,
+    /// How many additions of calls stand behind them.
+    pub calls: usize,
     /// How many of them the next opening puts back.
     pub images: u32,
 }
@@ -83,7 +86,8 @@ where
         Err(error) if error.kind() == ErrorKind::NotFound => return Ok(None),
         Err(error) => return Err(error),
     };
-    Ok(Some(SystemPair::new(how.open(rt, path)?, journal)?))
+    let file = how.open(rt, path)?;
+    Ok(Some(SystemPair::new(rt.alloc(), file, journal)?))
 }
 
 /// What a session that was cut off has left in a journal.
@@ -93,6 +97,7 @@ fn left_in(pair: &SystemPair<File>) -> io::Result<Option<LeftOver>> {
     };
     Ok(Some(LeftOver {
         pages: found.count,
+        calls: found.calls,
         images: found.images,
     }))
 }

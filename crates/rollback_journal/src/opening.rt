@@ -1,7 +1,8 @@
 //! Files of the system opened with their journals.
 
 use crate::holder::{Holder, holder_of};
-use crate::system_pair::{Refused, SystemPair};
+use crate::refused::Refused;
+use crate::system_pair::SystemPair;
 use numbers::faults;
 use safe_device::page_device::{PAGE_BYTES, unseal};
 use safe_device::{PagePair, RecoveryFault, SafeDevice, recover};
@@ -53,6 +54,9 @@ pub enum OpenError {
     /// The journal is of another version.
     #[error("its journal is of another version")]
     OtherVersion,
+    /// Calls stand in the journal that a server has answered, and that who opens it does not make.
+    #[error("calls stand in its journal: a server that opens it makes them")]
+    HasCalls,
     /// It does not hold whole pages.
     #[error("its length is no multiple of 4096, the bytes of a page")]
     NotWhole,
@@ -98,15 +102,48 @@ impl OpenError {
     }
 }
 
+/// Who makes the calls that stand in a journal.
+#[derive(Clone, Copy, Debug, PartialEq, Eq)]
+enum Calls {
+    /// Who opens the file.
+    AreMade,
+    /// Nobody: where there is one, the file is not opened.
+    AreRefused,
+}
+
 /// Opens a file to change it as `open` does. Where another process has it open it is tried again until
 /// the time that the opening waits is over.
 pub fn open_in_turn<R>(rt: &R, opening: Opening) -> Result<SafeDevice<SystemPair<File>>, OpenError>
 where
     R: Files<File = File> + AllocGlobal + Clock,
 {
+    try_in_turn(rt, opening, Calls::AreRefused)
+}
+
+/// Opens a file as `open_in_turn` does, for who makes the calls that stand in its journal: they are
+/// read by `SafeDevice::noted`, and its first sync ends them.
+pub fn open_with_calls<R>(
+    rt: &R,
+    opening: Opening,
+) -> Result<SafeDevice<SystemPair<File>>, OpenError>
+where
+    R: Files<File = File> + AllocGlobal + Clock,
+{
+    try_in_turn(rt, opening, Calls::AreMade)
+}
+
+/// Opens a file once no other process has it open, or says who has it when the time is over.
+fn try_in_turn<R>(
+    rt: &R,
+    opening: Opening,
+    calls: Calls,
+) -> Result<SafeDevice<SystemPair<File>>, OpenError>
+where
+    R: Files<File = File> + AllocGlobal + Clock,
+{
     let begun = Instant::now(rt).map_err(Refused::Clock)?;
     for _ in 0..u64::MAX {
-        let opened = open(rt, opening.path);
+        let opened = try_open(rt, opening.path, calls);
         let Err(OpenError::InUse(_)) = &opened else {
             return opened;
         };
@@ -121,7 +158,7 @@ where
 }
 
 /// Opens a file to change it, once what a session that was cut off has left is undone. Where another
-/// process has it open that is an error.
+/// process has it open that is an error; also where calls stand in its journal.
 ///
 /// Its journal stands beside it; who may not read the file may not read it. Where there is none it is
 /// made, but not beside a file that does not begin with a sealed page: that is refused. It is locked
@@ -131,8 +168,16 @@ pub fn open<R>(rt: &R, path: &str) -> Result<SafeDevice<SystemPair<File>>, OpenE
 where
     R: Files<File = File> + AllocGlobal,
 {
+    try_open(rt, path, Calls::AreRefused)
+}
+
+/// Opens the file that has a name, also where another one takes it meanwhile.
+fn try_open<R>(rt: &R, path: &str, calls: Calls) -> Result<SafeDevice<SystemPair<File>>, OpenError>
+where
+    R: Files<File = File> + AllocGlobal,
+{
     for _ in 0..TRIES {
-        if let Some(device) = open_named(rt, path)? {
+        if let Some(device) = open_named(rt, path, calls)? {
             return Ok(device);
         }
     }
@@ -140,7 +185,11 @@ where
 }
 
 /// Opens the file that has a name now. None where another one has it once the journal is locked.
-fn open_named<R>(rt: &R, path: &str) -> Result<Option<SafeDevice<SystemPair<File>>>, OpenError>
+fn open_named<R>(
+    rt: &R,
+    path: &str,
+    calls: Calls,
+) -> Result<Option<SafeDevice<SystemPair<File>>>, OpenError>
 where
     R: Files<File = File> + AllocGlobal,
 {
@@ -162,7 +211,14 @@ where
     if !has_name(rt, path, &file).map_err(Refused::File)? {
         return Ok(None);
     }
-    let mut pair = SystemPair::new(file, journal).map_err(Refused::File)?;
+    let mut pair = SystemPair::new(rt.alloc(), file, journal).map_err(Refused::File)?;
+    match pair.find_journal() {
+        Ok(Some(found)) if found.calls > 0 && calls == Calls::AreRefused => {
+            return Err(OpenError::HasCalls);
+        }
+        Ok(_) => {}
+        Err(error) => return Err(OpenError::of_recovery(error.into(), pair.into_refused())),
+    }
     if let Err(fault) = recover(&mut pair) {
         return Err(OpenError::of_recovery(fault, pair.into_refused()));
     }

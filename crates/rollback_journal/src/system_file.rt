@@ -44,6 +44,11 @@ impl<F: FileExt + OpenFile + Drop> SystemFile<F> {
         Ok(self.heard(self.file.metadata())?.len())
     }
 
+    /// The same as far as is known: nobody else writes it.
+    pub fn known_bytes(&self) -> u64 {
+        self.len.get()
+    }
+
     /// Reads all these bytes, which begin there.
     pub fn read(&self, into: &mut [u8], at: u64) -> io::Result<()> {
         self.heard(self.file.read_exact_at(into, at))

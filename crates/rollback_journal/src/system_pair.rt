@@ -1,17 +1,22 @@
 //! A file of the system, and its journal.
 
+use crate::chain::{Chain, find_calls, follow, part_of, parts_of, read_word_at};
 use crate::layout::{
-    FoundHead, HEAD_BYTES, Head, IMAGE_BYTES, PageZero, Sum, big_endian, chained, image_at,
-    page_at, read_head, seal_of, spell_end, spell_head, spell_image,
+    Entry, FoundHead, HEAD_BYTES, Head, PageZero, Sum, WORD_BYTES, Word, big_endian, chained,
+    image_at, page_at, read_head, read_word, seal_of, spell_end, spell_head, spell_image,
+    spell_put_back, word_of_calls,
 };
+use crate::refused::Refused;
+use crate::room::{Room, take_blocks};
 use crate::system_file::SystemFile;
 use byteorder::{BigEndian, ByteOrder};
-use safe_device::page_device::{DIGEST_BYTES, MAX_PAGES, PAGE_BYTES, Page};
-use safe_device::{FoundJournal, MOST_PENDING, PageImage, PagePair};
+use safe_device::page_device::{MAX_PAGES, PAGE_BYTES, Page};
+use safe_device::{CallsFault, FoundJournal, MOST_PENDING, PageImage, PagePair};
+use std::alloc::Global;
+use std::cell::Cell;
 use std::fs::OpenFile;
 use std::io::{self, ErrorKind};
 use std::os::unix::fs::FileExt;
-use thiserror::Error;
 
 /// A file of the system and its journal, both open for reads and writes.
 ///
@@ -22,45 +27,25 @@ pub struct SystemPair<F: Drop> {
     file: SystemFile<F>,
     journal: SystemFile<F>,
     pages: u32,
-    begun: Option<Begun>,
-}
-
-/// What the system said where it refused something of a file or its journal.
-#[derive(Debug, Drop, Error)]
-pub enum Refused {
-    /// Of the file.
-    #[error("{0}")]
-    File(io::Error),
-    /// Of its journal.
-    #[error("its journal: {0}")]
-    Journal(io::Error),
-    /// Of the clock by which an opening waits.
-    #[error("the clock: {0}")]
-    Clock(io::Error),
-}
-
-impl Refused {
-    /// Whether the system had no memory.
-    pub fn is_of_memory(&self) -> bool {
-        let (Refused::File(error) | Refused::Journal(error) | Refused::Clock(error)) = self;
-        error.kind() == ErrorKind::OutOfMemory
-    }
+    /// The journal that stands, where one was found or begun.
+    chain: Cell<Option<Chain>>,
+    /// The addition of calls that was looked for last, and where it begins.
+    looked: Cell<(usize, u64)>,
+    /// Room in which an addition is put together.
+    room: Room,
 }
 
 /// A journal of no more images keeps its length when it is ended: what is written over costs less than
 /// what is cut and added again.
 const MOST_KEPT: u32 = MOST_PENDING as u32;
 
-/// The journal of this session: how many images it holds, and the digest with which it ends.
-#[derive(Clone, Copy, Debug, Drop)]
-struct Begun {
-    images: u32,
-    sum: Sum,
-}
+/// The same of one that calls were noted in, in bytes.
+const MOST_KEPT_OF_CALLS: u64 = 8 << 20;
 
 impl<F: FileExt + OpenFile + Drop> SystemPair<F> {
     /// Two open files. One with more pages than there can be shows one too many.
-    pub fn new(file: F, journal: F) -> io::Result<SystemPair<F>> {
+    pub fn new(alloc: Global, file: F, journal: F) -> io::Result<SystemPair<F>> {
+        let room = Room::new(alloc)?;
         let file = SystemFile::new(file)?;
         let journal = SystemFile::new(journal)?;
         if journal.is_said_synced() {
@@ -73,7 +58,9 @@ impl<F: FileExt + OpenFile + Drop> SystemPair<F> {
             file,
             journal,
             pages,
-            begun: None,
+            chain: Cell::new(None),
+            looked: Cell::new((0, HEAD_BYTES as u64)),
+            room,
         })
     }
 
@@ -109,12 +96,27 @@ impl<F: FileExt + OpenFile + Drop> SystemPair<F> {
         Ok(page)
     }
 
-    /// Writes the head of a journal in place of whatever stands there.
-    fn begin(&mut self, count: u32) -> io::Result<Begun> {
+    /// The head of a journal that begins now, and the digest with which it ends.
+    fn head(&self, count: u32, takes_calls: bool) -> io::Result<([u8; HEAD_BYTES], Sum)> {
         let seal = seal_of(&self.page_zero()?);
-        let (bytes, sum) = spell_head(count, self.next_number()?, &seal);
+        let head = Head {
+            count,
+            takes_calls,
+            number: self.next_number()?,
+            page_zero: PageZero::Seal(seal),
+        };
+        Ok(spell_head(&head, &seal))
+    }
+
+    /// The journal that stands, or one that begins for images: its head is written in place of
+    /// whatever stands there.
+    fn chain_for_images(&self, count: u32) -> io::Result<Chain> {
+        if let Some(chain) = self.chain.get() {
+            return Ok(chain);
+        }
+        let (bytes, sum) = self.head(count, false)?;
         self.journal.write(&bytes, 0)?;
-        Ok(Begun { images: 0, sum })
+        Ok(Chain::new(false, sum))
     }
 
     /// A number that no save had of which images may stand in the journal: one above the last. Where
@@ -136,32 +138,32 @@ impl<F: FileExt + OpenFile + Drop> SystemPair<F> {
         Ok(1)
     }
 
-    /// Reads an image with the digest behind it.
-    fn read_image(&self, index: u32, page: &mut Page) -> io::Result<([u8; 4], Sum)> {
-        let at = image_at(index);
-        let mut number = [0; 4];
-        let mut sum = [0; DIGEST_BYTES];
-        self.journal.read(&mut number, at)?;
-        self.journal.read(page, at + 4)?;
-        self.journal.read(&mut sum, at + 4 + PAGE_BYTES as u64)?;
-        Ok((number, sum))
+    /// Begins a journal with calls: its head and they are written together.
+    fn begin_calls(&mut self, count: u32, word: &Word, calls: &[u8]) -> io::Result<()> {
+        let (head, sum) = self.head(count, true)?;
+        self.add_calls(Chain::new(true, sum), &head, word, calls)
     }
 
-    /// How many whole images stand after a head, from the first on, and whether one of them is this
-    /// page 0.
-    fn count_images(&self, most: u32, first: Sum, page_zero: &PageZero) -> io::Result<(u32, bool)> {
-        let mut before = first;
-        let mut has_page_zero = false;
-        let mut page = [0; PAGE_BYTES];
-        for index in 0..most {
-            let (number, sum) = self.read_image(index, &mut page)?;
-            if chained(&before, &number, &page) != sum {
-                return Ok((index, has_page_zero));
-            }
-            has_page_zero |= BigEndian::read_u32(&number) == 0 && page_zero.is(&page);
-            before = sum;
-        }
-        Ok((most, has_page_zero))
+    /// Adds calls to a journal, behind its head where they are the first.
+    fn add_calls(
+        &mut self,
+        chain: Chain,
+        head: &[u8],
+        word: &Word,
+        calls: &[u8],
+    ) -> io::Result<()> {
+        let sum = chained(&chain.sum, word, calls);
+        let longer = chain.with(read_word(word, true), sum);
+        take_blocks(&self.journal, longer.end())?;
+        self.room
+            .begin(chain.end().saturating_sub(head.len() as u64));
+        self.room.put(head, &self.journal)?;
+        self.room.put(word, &self.journal)?;
+        self.room.put(calls, &self.journal)?;
+        self.room.put(&sum, &self.journal)?;
+        self.room.write(&self.journal)?;
+        self.chain.set(Some(longer));
+        Ok(())
     }
 }
 
@@ -176,6 +178,15 @@ where
     let mut bytes = [0; HEAD_BYTES];
     journal.read(&mut bytes, 0)?;
     Ok(read_head(&bytes))
+}
+
+/// How many bytes a journal with this head may keep when it is ended.
+fn most_kept(head: &Head) -> u64 {
+    if head.takes_calls {
+        MOST_KEPT_OF_CALLS
+    } else {
+        image_at(HEAD_BYTES as u64, MOST_KEPT)
+    }
 }
 
 impl<F: FileExt + OpenFile + Drop> PagePair for SystemPair<F> {
@@ -238,45 +249,107 @@ impl<F: FileExt + OpenFile + Drop> PagePair for SystemPair<F> {
             }
             FoundHead::Whole(head, sum) => (head, sum),
         };
-        let len = self.journal.bytes()?.saturating_sub(HEAD_BYTES as u64);
-        let most = (len / IMAGE_BYTES as u64).min(u32::MAX as u64) as u32;
-        let (images, has_page_zero) = self.count_images(most, sum, &head.page_zero)?;
+        let (chain, has_page_zero) = follow(&self.journal, &head, sum)?;
+        // Its head may have outlasted a crash without the calls that were written with it.
+        if head.takes_calls && chain.calls == 0 && chain.images == 0 {
+            return Ok(None);
+        }
         if !has_page_zero && !head.page_zero.is(&self.page_zero()?) {
             return Err(ErrorKind::InvalidData.into());
         }
+        self.chain.set(Some(chain));
         Ok(Some(FoundJournal {
             count: head.count,
-            images,
+            calls: chain.calls,
+            images: chain.images,
         }))
     }
 
     fn load_image(&self, index: u32, into: &mut Page) -> io::Result<u32> {
-        let (number, _) = self.read_image(index, into)?;
-        Ok(BigEndian::read_u32(&number))
+        let Some(chain) = self.chain.get() else {
+            return Err(ErrorKind::UnexpectedEof.into());
+        };
+        let at = image_at(chain.images_at, index);
+        let word = read_word_at(&self.journal, at)?;
+        self.journal.read(into, at.saturating_add(WORD_BYTES))?;
+        Ok(BigEndian::read_u32(&word))
     }
 
     fn append_images(&mut self, count: u32, images: &[PageImage]) -> io::Result<()> {
-        let mut begun = match self.begun {
-            Some(begun) => begun,
-            None => self.begin(count)?,
-        };
+        let mut chain = self.chain_for_images(count)?;
         // What stands after a failed addition is not whole, and nothing more is added.
-        self.begun = Some(begun);
+        self.chain.set(Some(chain));
         for image in images {
             let number = big_endian(image.page);
-            begun.sum = chained(&begun.sum, &number, &image.bytes);
-            let bytes = spell_image(&number, &image.bytes, &begun.sum);
-            self.journal.write(&bytes, image_at(begun.images))?;
-            begun.images = begun.images.saturating_add(1);
+            let sum = chained(&chain.sum, &number, &image.bytes);
+            let bytes = spell_image(&number, &image.bytes, &sum);
+            self.journal.write(&bytes, chain.end())?;
+            chain = chain.with(Entry::Image, sum);
         }
-        self.begun = Some(begun);
+        self.chain.set(Some(chain));
+        Ok(())
+    }
+
+    fn calls(&self) -> usize {
+        match self.chain.get() {
+            Some(chain) => chain.calls,
+            None => 0,
+        }
+    }
+
+    fn load_calls(&self, index: usize, into: &mut Vec<u8>) -> Result<(), CallsFault> {
+        let found = find_calls(&self.journal, self.looked.get(), index);
+        let (at, many) = found.map_err(CallsFault::Failed)?;
+        self.looked.set((index, at));
+        into.clear();
+        let Ok(()) = into.reserve(many as usize) else {
+            return Err(CallsFault::NoMemory);
+        };
+        let mut bytes = [0; PAGE_BYTES];
+        let begun = at.saturating_add(WORD_BYTES);
+        for part in 0..parts_of(many) {
+            let next = part_of(many, part);
+            let from = begun.saturating_add(part as u64 * PAGE_BYTES as u64);
+            self.journal
+                .read(&mut bytes[..next], from)
+                .map_err(CallsFault::Failed)?;
+            let Ok(()) = into.extend_from_slice(&bytes[..next]) else {
+                return Err(CallsFault::NoMemory);
+            };
+        }
+        Ok(())
+    }
+
+    fn append_calls(&mut self, count: u32, calls: &[u8]) -> io::Result<()> {
+        let Some(word) = word_of_calls(calls.len()) else {
+            return Err(ErrorKind::InvalidInput.into());
+        };
+        let Some(chain) = self.chain.get() else {
+            return self.begin_calls(count, &word, calls);
+        };
+        if !chain.takes_calls || chain.images > 0 {
+            return Err(ErrorKind::InvalidInput.into());
+        }
+        self.add_calls(chain, &[], &word, calls)
+    }
+
+    fn end_images(&mut self) -> io::Result<()> {
+        let Some(chain) = self.chain.get() else {
+            return Ok(());
+        };
+        let chain = chain.without_images();
+        let (bytes, sum) = spell_put_back(&chain.sum);
+        self.journal.write(&bytes, chain.end())?;
+        self.chain.set(Some(chain.with(Entry::PutBack, sum)));
         Ok(())
     }
 
     fn end_journal(&mut self) -> io::Result<()> {
-        self.begun = None;
+        self.chain.set(None);
+        self.looked.set((0, HEAD_BYTES as u64));
+        let bytes = self.journal.bytes()?;
         match find_head(&self.journal)? {
-            FoundHead::Whole(head, _) if self.journal.bytes()? <= image_at(MOST_KEPT) => {
+            FoundHead::Whole(head, _) if bytes <= most_kept(&head) => {
                 self.journal.write(&spell_end(head.number), 0)
             }
             _ => self.journal.set_len(0),
@@ -286,7 +359,7 @@ impl<F: FileExt + OpenFile + Drop> PagePair for SystemPair<F> {
     fn sync_journal(&mut self) -> io::Result<()> {
         self.journal.sync()?;
         // Where it is ended, the file was synced before.
-        if self.begun.is_none()
+        if self.chain.get().is_none()
             && matches!(
                 find_head(&self.journal),
                 Ok(FoundHead::Torn | FoundHead::Ended(_))

@@ -88,7 +88,7 @@ impl Machines {
             SeatDeed::Searched(seat) => {
                 let hops = self.trial.hops(seat).ok_or(NO_SEAT)?;
                 line.word("hops");
-                line.number(u64::from(hops));
+                line.number(hops);
             }
             _ => return Err(Wrong::Elsewhere("a kernel")),
         }

@@ -1,6 +1,7 @@
 -- What a device shows after each thing that is done.
-use Rattle.std.proofs.Common.{◌≡◌, ◌≢◌, ◌<◌, ◌≤◌, ◌+◌, ℕ, Bool, true, false, List, [], ◌∷◌, ◌++◌, length, take, set}
+use Rattle.std.proofs.Common.{◌≡◌, ◌<◌, ◌≤◌, ◌+◌, ℕ, Bool, true, false, List, [], ◌∷◌, ◌++◌, length, take, set}
 use Rattle.std.proofs.Common.{slice_get, Some, refl, sym, ◌∙◌, ap, arith, IsTrue, length-set, length-append}
+use Rattle.std.proofs.lemmas.Bool.Decides.{nat_tests}
 use Rattle.std.proofs.lemmas.Int.{clamps}
 use Rattle.std.proofs.lemmas.List.{take_all, length-take, length-replicate}
 use Rattle.page_device.specs.Device.{DiffersAtMostAt}
@@ -109,8 +110,9 @@ content_read true count pending file page bytes read honest lt is laid =
 content_read false count pending file page bytes read honest lt is laid = absurd cc
 
 -- nothing was written yet
-pub opened_synced : (begun : Bool) (pending : List PageImage) → begun ≡ false → pending ≡ []
-    → IsTrue (is_synced begun pending)
-opened_synced false [] begun none = refl
-opened_synced true pending begun none = absurd cc
-opened_synced false (image ∷ pending) begun none = absurd cc
+pub opened_synced : (begun : Bool) (count : ℕ) (guarded : List ℕ) (pages : ℕ) (pending : List PageImage)
+    → guarded ≡ [] → count ≡ pages → pending ≡ [] → IsTrue (is_synced begun count guarded pages pending)
+opened_synced begun count (page ∷ guarded) pages pending none whole nothing = absurd cc
+opened_synced begun count [] pages (image ∷ pending) none whole nothing = absurd cc
+opened_synced false count [] pages [] none whole nothing = refl
+opened_synced true count [] pages [] none whole nothing = grind (arith, nat_tests, whole)

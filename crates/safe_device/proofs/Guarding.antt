@@ -1,7 +1,7 @@
 -- What each call of a guarded file leaves.
-use Rattle.std.proofs.Common.{◌≡◌, ◌++◌, [], ◌∷◌, ◌≤◌, ◌∙◌, ap, sym, subst, refl, ℕ, List, true, Some, Option}
+use Rattle.std.proofs.Common.{◌≡◌, ◌++◌, ◌≤◌, ◌∙◌, ap, sym, subst, refl, ℕ, List, true, Some, Option}
 use Rattle.std.proofs.Common.{length, length-append, length-set, set, arith}
-use Rattle.safe_device.specs.Left.{Left, recovered, recovered_by, added}
+use Rattle.safe_device.specs.Left.{Left, Saved, recovered, recovered_by, added}
 use Rattle.safe_device.specs.Crash.{Appended, TornAt, LongerBy, Elapses, Follows, LeavesOnly}
 use Rattle.safe_device.specs.Safe.{numbers, first_count, committed, IsSafe, IsSession, StandsFor}
 use Rattle.safe_device.specs.declared.guarded_file.GuardedFile.{GuardedFile}
@@ -14,7 +14,7 @@ use Rattle.safe_device.proofs.Sessions.{extend_step, extend_pages, longer_sessio
 
 module _ {P : Type 0} (file : P → Pages) (journal : P → Option Journal) (may_leave : P → Left → Type 0)
     (moment : P → ℕ) (left_since : P → ℕ → Left → Type 0) where
-  abbrev base : GuardedFile P → Pages
+  abbrev base : GuardedFile P → Saved
   base old = committed file journal old.pair
 
   abbrev first_of : GuardedFile P → ℕ
@@ -22,7 +22,7 @@ module _ {P : Type 0} (file : P → Pages) (journal : P → Option Journal) (may
 
   -- images are added to the journal of an old file
   module _ (old : GuardedFile P) (images : List PageImage) (n : ℕ) (mid : P)
-      (safe : IsSafe file journal may_leave old) (shows : Shows (base old) images) (starts : n ≡ first_of old)
+      (safe : IsSafe file journal may_leave old) (shows : Shows (base old).pages images) (starts : n ≡ first_of old)
       (follows : Follows (Appended n images) (may_leave old.pair) (may_leave mid)) where
     pub images_kept : (c : Left) → may_leave mid c → StandsFor (base old) c
     images_kept =
@@ -38,7 +38,7 @@ module _ {P : Type 0} (file : P → Pages) (journal : P → Option Journal) (may
 
   -- and were waited for
   module _ (old : GuardedFile P) (images : List PageImage) (n : ℕ) (new : P)
-      (safe : IsSafe file journal may_leave old) (shows : Shows (base old) images) (starts : n ≡ first_of old)
+      (safe : IsSafe file journal may_leave old) (shows : Shows (base old).pages images) (starts : n ≡ first_of old)
       (file_is : file new ≡ file old.pair) (journal_is : journal new ≡ Some (added n images (journal old.pair))) where
     journal_first : journal new ≡ Some (added (first_of old) images (journal old.pair))
     journal_first = journal_is ∙ ap (λ (m : ℕ). Some (added m images (journal old.pair))) starts
@@ -70,7 +70,7 @@ module _ {P : Type 0} (file : P → Pages) (journal : P → Option Journal) (may
 
   -- a call that kept it
   module _ (mid : GuardedFile P) (new : P) (kept : (c : Left) → may_leave new c → Kept mid c) where
-    pub still_only : (old : P) (pages : Pages) → LeavesOnly moment left_since old mid.pair (StandsFor pages)
+    pub still_only : (old : P) (pages : Saved) → LeavesOnly moment left_since old mid.pair (StandsFor pages)
         → base mid ≡ pages → Elapses moment left_since may_leave mid.pair new
         → LeavesOnly moment left_since old new (StandsFor pages)
     still_only old pages so_far is time =

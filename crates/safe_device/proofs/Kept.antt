@@ -2,15 +2,16 @@
 use Rattle.std.proofs.Common.{◌≡◌, ◌⊎◌, inl, inr, ⊎_elim, ℕ, zero, suc, ◌+◌, ◌≤◌, List, [], ◌∷◌, ◌++◌, length, take, drop}
 use Rattle.std.proofs.Common.{set, Option, Some, None, refl, sym, ◌∙◌, ap, subst, arith, length-append}
 use Rattle.std.proofs.lemmas.List.{append-nil, take_all}
-use Rattle.safe_device.specs.Left.{Left, added}
-use Rattle.safe_device.specs.Crash.{Elapses, Follows, TornAt, LongerBy, CutTo, Appended, Removed}
+use Rattle.safe_device.specs.Left.{Left, added, noted, without_images}
+use Rattle.safe_device.specs.Crash.{Elapses, Follows, TornAt, LongerBy, CutTo, Appended, Emptied, Noted, Removed}
+use Rattle.safe_device.specs.Safe.{IsResting}
 use Rattle.safe_device.specs.Memory.{FileMay, IsQuiet, MayLeave, Meets, MightLeave, Since}
 use Rattle.safe_device.specs.declared.journal.Journal.{Journal}
 use Rattle.safe_device.specs.declared.journal.PageImage.{PageImage}
-use Rattle.safe_device.specs.declared.memory.FileChange.{FileChange}
-use Rattle.safe_device.specs.declared.memory.FileChange.TheVariants.{Stored, Added, Cut}
+use Rattle.safe_device.specs.declared.snapshot.FileChange.{FileChange}
+use Rattle.safe_device.specs.declared.snapshot.FileChange.TheVariants.{Stored, Added, Cut}
 use Rattle.safe_device.specs.declared.memory.MemPair.{MemPair}
-use Rattle.safe_device.specs.declared.memory.Snapshot.{Snapshot}
+use Rattle.safe_device.specs.declared.snapshot.Snapshot.{Snapshot}
 use Rattle.safe_device.proofs.Restoring.{Pages}
 
 -- one change more is met last
@@ -103,18 +104,44 @@ append_follows s count images c now = ⊎_elim written lost now.1
     lost : c.journal ≡ s.synced_journal → (d : Left) × MayLeave s d × Appended count images d c
     lost is = (c, (now.0, inr is), record { file = refl; journal = inl refl })
 
-pub remove_follows : (s : Snapshot) → Follows Removed (MayLeave s) (MayLeave (with_journal s None))
-remove_follows s c now = ⊎_elim written lost now.1
-  where
-    written : c.journal ≡ None → (d : Left) × MayLeave s d × Removed d c
-    written is = (
-      record { file = c.file; journal = s.seen_journal },
-      (now.0, inl refl),
-      record { file = refl; journal = inr is },
-    )
+-- the journal is another: a crash leaves that, or what it might have left
+module _ (s : Snapshot) (journal : Option Journal) (step : Left → Left → Type 0)
+    (same : (c : Left) → step c c)
+    (is_step : (d c : Left) → c.file ≡ d.file → d.journal ≡ s.seen_journal → c.journal ≡ journal → step d c) where
+  journal_follows : Follows step (MayLeave s) (MayLeave (with_journal s journal))
+  journal_follows c now = ⊎_elim written lost now.1
+    where
+      written : c.journal ≡ journal → (d : Left) × MayLeave s d × step d c
+      written is =
+          let d : Left = record { file = c.file; journal = s.seen_journal } in
+          (d, (now.0, inl refl), is_step d c refl refl is)
 
-    lost : c.journal ≡ s.synced_journal → (d : Left) × MayLeave s d × Removed d c
-    lost is = (c, (now.0, inr is), record { file = refl; journal = inl refl })
+      lost : c.journal ≡ s.synced_journal → (d : Left) × MayLeave s d × step d c
+      lost is = (c, (now.0, inr is), same c)
+
+pub note_follows : (s : Snapshot) (count : ℕ) (calls : List ℕ)
+    → Follows (Noted count calls) (MayLeave s) (MayLeave (with_journal s (Some (noted count calls s.seen_journal))))
+note_follows s count calls =
+    journal_follows s (Some (noted count calls s.seen_journal)) (Noted count calls)
+    (λ c. record { file = refl; journal = inl refl })
+    (λ d c file was is. record {
+      file = file;
+      journal = inr (is ∙ ap (λ (o : Option Journal). Some (noted count calls o)) (sym was));
+    })
+
+pub empty_follows : (s : Snapshot)
+    → Follows Emptied (MayLeave s) (MayLeave (with_journal s (without_images s.seen_journal)))
+empty_follows s =
+    journal_follows s (without_images s.seen_journal) Emptied (λ c. record { file = refl; journal = inl refl })
+    (λ d c file was is. record {
+      file = file;
+      journal = inr (is ∙ ap (λ (o : Option Journal). without_images o) (sym was));
+    })
+
+pub remove_follows : (s : Snapshot) → Follows Removed (MayLeave s) (MayLeave (with_journal s None))
+remove_follows s =
+    journal_follows s None Removed (λ c. record { file = refl; journal = inl refl })
+    (λ d c file was is. record { file = file; journal = inr is })
 
 keeps : (past : List Snapshot) (s : Snapshot) (c : Left) → MightLeave past c → MightLeave (past ++ s ∷ []) c
 keeps [] s c had = absurd had
@@ -168,8 +195,8 @@ elapses old new same = record {
 pub quiet : (m : MemPair) → m.newest.synced_file ≡ m.newest.seen_file → m.newest.changes ≡ []
     → m.newest.synced_journal ≡ m.newest.seen_journal → m.newest.seen_journal ≡ None → IsQuiet m
 quiet m file changes journal none = record {
-  none = none;
-  no_journal = λ c now. ⊎_elim (λ is. is ∙ none) (λ is. is ∙ journal ∙ none) now.1;
+  rests = subst (λ (q : Option Journal). IsResting q m.newest.seen_file) (sym none) tt;
+  same_journal = λ c now. ⊎_elim (λ is. is) (λ is. is ∙ journal) now.1;
   same_file = λ c now.
       ⊎_elim (λ is. is)
       (λ may. subst (λ (l : List FileChange). FileMay l m.newest.synced_file c.file) changes may ∙ file) now.0;

@@ -3,5 +3,6 @@ mod Guarding
 mod Kept
 mod Moments
 mod Recovering
+mod Resting
 mod Restoring
 mod Sessions

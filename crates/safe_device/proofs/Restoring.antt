@@ -5,7 +5,7 @@ use Rattle.std.proofs.Common.{All, Contains, length-set, Option, None}
 use Rattle.std.proofs.lemmas.List.{set-set, set_comm, take-take, take-append-le, take-set-le, take_all, length-take}
 use Rattle.std.proofs.lemmas.Int.{clamps}
 use Rattle.std.proofs.lemmas.Bool.{cases_eq}
-use Rattle.safe_device.specs.Left.{put_back, restored, found_of, images_of}
+use Rattle.safe_device.specs.Left.{Saved, put_back, restored, recovered_by, found_of, images_of}
 use Rattle.safe_device.specs.Crash.{IsTornAt}
 use Rattle.safe_device.specs.Safe.{numbers, Fits}
 use Rattle.safe_device.specs.declared.journal.Journal.{Journal}
@@ -14,6 +14,9 @@ use Rattle.safe_device.specs.declared.journal.PageImage.{PageImage}
 
 abbrev pub Pages : Type 0
 Pages = List (List ℕ)
+
+abbrev pub saved : Pages → List (List ℕ) → Saved
+saved pages calls = record { pages = pages; calls = calls }
 
 -- an image that is no one's, where a term for one is needed
 abbrev pub no_image : PageImage
@@ -126,6 +129,12 @@ pub restored_cut : (count : ℕ) (images : List PageImage) (pages : Pages) (end 
     → restored count images (take end pages) ≡ restored count images pages
 restored_cut count images pages end le = ap (λ (ps : Pages). put_back ps images) (take-take count end pages le)
 
+-- what is restored alike is recovered alike
+pub recovered_alike : (j : Journal) (old new : Pages)
+    → restored j.count j.images new ≡ restored j.count j.images old
+    → recovered_by (Some j) new ≡ recovered_by (Some j) old
+recovered_alike j old new is = ap (λ (ps : Pages). saved ps j.calls) is
+
 -- images up to one that is found at a place, and with it
 one_more : (images : List PageImage) (i : ℕ) (image : PageImage) → slice_get images i ≡ Some image
     → take (suc i) images ≡ take i images ++ image ∷ []
@@ -159,7 +168,7 @@ pub fits_all : (q : Option Journal) (found : FoundJournal) (pages : Pages) (k : 
     → All (λ (image : PageImage). image.page < found.count) (take k (images_of q)) → Fits q pages
 fits_all None found pages k is counts many all = absurd cc
 fits_all (Some j) found pages k is counts many all =
-    let same : found ≡ record { count = j.count; images = length j.images } = cc in
+    let same : found ≡ record { count = j.count; calls = length j.calls; images = length j.images } = cc in
     let count_is : found.count ≡ j.count = ap (λ (f : FoundJournal). f.count) same in
     let images_is : found.images ≡ length j.images = ap (λ (f : FoundJournal). f.images) same in
     let whole : take k j.images ≡ j.images = take_all k j.images (omega (arith, images_is)) in

@@ -3,26 +3,26 @@ use Rattle.std.proofs.Common.{◌≡◌, ◌⊎◌, inl, inr, ⊎_elim, ℕ, zer
 use Rattle.std.proofs.lemmas.Int.{clamps}
 use Rattle.std.proofs.lemmas.List.Elements.{All-take}
 use Rattle.std.proofs.lemmas.List.{take_all, length-take, map-append}
-use Rattle.safe_device.specs.Left.{Left, found_of, images_of, put_back, restored, recovered, recovered_by, added}
-use Rattle.safe_device.specs.Crash.{TornAt, LongerBy, CutTo, Appended, Removed, Follows, HasJournal, Keeps}
+use Rattle.safe_device.specs.Left.{Left, Saved, found_of, images_of, put_back, restored, restored_by, recovered, recovered_by, added, rest_of}
+use Rattle.safe_device.specs.Crash.{TornAt, LongerBy, CutTo, Appended, Cleared, Follows, HasJournal, Keeps}
 use Rattle.safe_device.specs.Safe.{numbers, IsSession, IsLeftBefore, IsFoundOrLeft, IsRestoring, first_count}
 use Rattle.safe_device.specs.declared.journal.Journal.{Journal}
 use Rattle.safe_device.specs.declared.page_pair.FoundJournal.{FoundJournal}
 use Rattle.safe_device.specs.declared.journal.PageImage.{PageImage}
-use Rattle.safe_device.proofs.Restoring.{Pages, Shows, MayWrite, put_back-append, put_back-same, length-put_back, shown_restored, restored_torn, restored_longer, restored_cut}
+use Rattle.safe_device.proofs.Restoring.{Pages, saved, recovered_alike, Shows, MayWrite, put_back-append, put_back-same, length-put_back, shown_restored, restored_torn, restored_longer, restored_cut}
 
 -- what recovery gives, by the journal and the pages that are left
-by_parts : (c : Left) (q : Option Journal) (pages : Pages) → c.journal ≡ q → c.file ≡ pages
+pub by_parts : (c : Left) (q : Option Journal) (pages : Pages) → c.journal ≡ q → c.file ≡ pages
     → recovered c ≡ recovered_by q pages
 by_parts c q pages journal file = ap (λ (o : Option Journal). recovered_by o c.file) journal
     ∙ ap (λ (ps : Pages). recovered_by q ps) file
 
 -- what is restored from one that stands for so many pages has them all
 room : (j : Journal) (d : Left) (pages : Pages) → d.journal ≡ Some j → j.count ≤ length pages
-    → recovered d ≡ restored j.count j.images pages → j.count ≤ length d.file
+    → recovered d ≡ recovered_by (Some j) pages → j.count ≤ length d.file
 room j d pages journal le is =
-    let lengths : length (restored j.count j.images d.file) ≡ length (restored j.count j.images pages) = ap length
-    (sym (by_parts d (Some j) d.file journal refl) ∙ is) in
+    let lengths : length (restored j.count j.images d.file) ≡ length (restored j.count j.images pages) =
+    ap (λ (s : Saved). length s.pages) (sym (by_parts d (Some j) d.file journal refl) ∙ is) in
     omega (
       arith,
       clamps,
@@ -40,7 +40,7 @@ pub torn_kept : (j : Journal) (p : ℕ) (d c : Left) → d.journal ≡ Some j �
 torn_kept j p d c journal may torn =
     let kept = torn.journal ∙ journal in (kept, ⊎_elim (same kept) (other kept) torn.file)
   where
-    whole : recovered d ≡ restored j.count j.images d.file
+    whole : recovered d ≡ recovered_by (Some j) d.file
     whole = by_parts d (Some j) d.file journal refl
 
     same : c.journal ≡ Some j → c.file ≡ d.file → recovered c ≡ recovered d
@@ -48,7 +48,7 @@ torn_kept j p d c journal may torn =
 
     other : c.journal ≡ Some j → (v : List ℕ) × (c.file ≡ set d.file p v) → recovered c ≡ recovered d
     other kept it = by_parts c (Some j) (set d.file p it.0) kept it.1
-        ∙ restored_torn j.count j.images d.file p it.0 may ∙ sym whole
+        ∙ recovered_alike j d.file (set d.file p it.0) (restored_torn j.count j.images d.file p it.0 may) ∙ sym whole
 
 pub longer_kept : (j : Journal) (d c : Left) → d.journal ≡ Some j → j.count ≤ length d.file → LongerBy d c
     → (c.journal ≡ Some j) × (recovered c ≡ recovered d)
@@ -56,7 +56,9 @@ longer_kept j d c journal le longer =
     let kept = longer.journal ∙ journal in (
       kept,
       by_parts c (Some j) (d.file ++ longer.file.0) kept longer.file.1
-          ∙ restored_longer j.count j.images d.file longer.file.0 le ∙ sym (by_parts d (Some j) d.file journal refl),
+          ∙ recovered_alike j d.file (d.file ++ longer.file.0)
+          (restored_longer j.count j.images d.file longer.file.0 le)
+          ∙ sym (by_parts d (Some j) d.file journal refl),
     )
 
 pub cut_kept : (j : Journal) (d c : Left) → d.journal ≡ Some j → CutTo j.count d c
@@ -65,24 +67,30 @@ cut_kept j d c journal cut =
     let kept = cut.journal ∙ journal in (
       kept,
       by_parts c (Some j) (take cut.file.0 d.file) kept cut.file.2
-          ∙ restored_cut j.count j.images d.file cut.file.0 cut.file.1 ∙ sym (by_parts d (Some j) d.file journal refl),
+          ∙ recovered_alike j d.file (take cut.file.0 d.file)
+          (restored_cut j.count j.images d.file cut.file.0 cut.file.1)
+          ∙ sym (by_parts d (Some j) d.file journal refl),
     )
 
 -- images of what recovery gives change nothing of it
 pub added_kept : (q : Option Journal) (begun : Bool) (count : ℕ) (guarded : List ℕ) (pages : Pages)
     (images : List PageImage) → IsSession begun count guarded pages q
-    → Shows (recovered_by q pages) images
+    → Shows (restored_by q pages) images
     → (file : Pages) → recovered_by q file ≡ recovered_by q pages
     → recovered_by (Some (added (first_count begun count pages) images q)) file ≡ recovered_by q pages
 added_kept None begun count guarded pages images session all file is =
     let starts : first_count begun count pages ≡ length pages = ap
     (λ (b : Bool). first_count b count pages) session.0 in
-    ap (λ (n : ℕ). put_back (take n file) images) starts
-    ∙ ap (λ (ps : Pages). put_back ps images) (take_all (length pages) file (omega (arith, ap length is)) ∙ is)
-    ∙ put_back-same pages images all
+    let same : file ≡ pages = ap (λ (s : Saved). s.pages) is in
+    ap (λ (ps : Pages). saved ps [])
+    (ap (λ (n : ℕ). put_back (take n file) images) starts
+    ∙ ap (λ (ps : Pages). put_back ps images) (take_all (length pages) file (omega (arith, ap length same)) ∙ same)
+    ∙ put_back-same pages images all)
 added_kept (Some j) begun count guarded pages images session all file is =
-    put_back-append (take j.count file) j.images images ∙ ap (λ (ps : Pages). put_back ps images) is
-    ∙ put_back-same (restored j.count j.images pages) images all
+    let same : restored j.count j.images file ≡ restored j.count j.images pages = ap (λ (s : Saved). s.pages) is in
+    ap (λ (ps : Pages). saved ps j.calls)
+    (put_back-append (take j.count file) j.images images ∙ ap (λ (ps : Pages). put_back ps images) same
+    ∙ put_back-same (restored j.count j.images pages) images all)
 
 pub added_session : (q : Option Journal) (begun : Bool) (count : ℕ) (guarded : List ℕ) (pages : Pages)
     (images : List PageImage) → IsSession begun count guarded pages q
@@ -104,7 +112,7 @@ added_session (Some j) begun count guarded pages images session =
 -- each outcome of an addition stands for the same
 pub appended_kept : (q : Option Journal) (begun : Bool) (count : ℕ) (guarded : List ℕ) (pages : Pages)
     (images : List PageImage) (old new : Left → Type 0)
-    → IsSession begun count guarded pages q → Shows (recovered_by q pages) images
+    → IsSession begun count guarded pages q → Shows (restored_by q pages) images
     → ((c : Left) → old c → c.journal ≡ q) → ((c : Left) → old c → recovered c ≡ recovered_by q pages)
     → Follows (Appended (first_count begun count pages) images) old new → (c : Left) → new c
     → recovered c ≡ recovered_by q pages
@@ -129,7 +137,7 @@ appended_kept q begun count guarded pages images old new session all journal_kep
         (it.1 ∙ ap (λ (o : Option Journal). Some (added starts some o)) (journal_kept from.0 from.1)) from.2.file
         ∙ added_kept q begun count guarded pages some session
         (All-take (λ (image : PageImage). slice_get
-        (recovered_by q pages) image.page ≡ Some image.bytes) it.0 images all)
+        (restored_by q pages) image.page ≡ Some image.bytes) it.0 images all)
         from.0.file was
 
 -- a session that has begun has a journal
@@ -171,7 +179,7 @@ module _ (q : Option Journal) (b : Bool) (count page : ℕ) (guarded : List ℕ)
   may : MayWrite it.journal.count it.journal.images page
   may = may_write it.journal count page guarded it.count_is it.guarded_is is_guarded
 
-  pub write_step : (base : Pages) (old new : Left → Type 0) → ((c : Left) → old c → c.journal ≡ q)
+  pub write_step : (base : Saved) (old new : Left → Type 0) → ((c : Left) → old c → c.journal ≡ q)
       → ((c : Left) → old c → recovered c ≡ base)
       → Follows (TornAt page) old new → (c : Left) → new c → (c.journal ≡ q) × (recovered c ≡ base)
   write_step base old new journal_kept pages_kept follows c now =
@@ -181,7 +189,9 @@ module _ (q : Option Journal) (b : Bool) (count page : ℕ) (guarded : List ℕ)
 
   pub write_pages : (value : List ℕ) → recovered_by q (set pages page value) ≡ recovered_by q pages
   write_pages value = subst (λ (o : Option Journal). recovered_by o (set pages page value) ≡ recovered_by o pages)
-      (sym it.is) (restored_torn it.journal.count it.journal.images pages page value may)
+      (sym it.is)
+      (recovered_alike it.journal pages (set pages page value)
+      (restored_torn it.journal.count it.journal.images pages page value may))
 
 pub longer_session : (q : Option Journal) (b : Bool) (count : ℕ) (guarded : List ℕ) (pages more : Pages)
     → length pages ≤ length more → IsSession b count guarded pages q → IsSession b count guarded more q
@@ -212,13 +222,15 @@ module _ (q : Option Journal) (b : Bool) (count : ℕ) (guarded : List ℕ) (pag
 
   pub extend_pages : (more : Pages) → recovered_by q (pages ++ more) ≡ recovered_by q pages
   extend_pages more = subst (λ (o : Option Journal). recovered_by o (pages ++ more) ≡ recovered_by o pages)
-      (sym that.is) (restored_longer that.journal.count that.journal.images pages more fits)
+      (sym that.is)
+      (recovered_alike that.journal pages (pages ++ more)
+      (restored_longer that.journal.count that.journal.images pages more fits))
 
 -- a page that is not guarded reads as recovery gives it
 pub open_page : (q : Option Journal) (b : Bool) (count page : ℕ) (value : List ℕ) (guarded : List ℕ) (pages : Pages)
     → IsSession b count guarded pages q
     → (b ≡ true → (page < count) × (Contains guarded page → ⊥)) → slice_get pages page ≡ Some value
-    → slice_get (recovered_by q pages) page ≡ Some value
+    → slice_get (restored_by q pages) page ≡ Some value
 open_page None b count page value guarded pages session unguarded is = is
 open_page (Some j) b count page value guarded pages session unguarded is =
     let it = unguarded session.0 in
@@ -267,7 +279,7 @@ pub restoring_cut_on : (q : Option Journal) (found : FoundJournal) (old new : Le
     → Keeps (HasJournal q) old → Follows (CutTo found.count) old new → IsRestoring q old new
 restoring_cut_on None found old new is durable follows = absurd cc
 restoring_cut_on (Some j) found old new is durable follows =
-    let same : found ≡ record { count = j.count; images = length j.images } = cc in
+    let same : found ≡ record { count = j.count; calls = length j.calls; images = length j.images } = cc in
     let count_is : found.count ≡ j.count = ap (λ (f : FoundJournal). f.count) same in
     restoring_cut j old new durable (subst (λ (n : ℕ). Follows (CutTo n) old new) count_is follows)
 
@@ -276,7 +288,7 @@ pub found_images : (q : Option Journal) (found : FoundJournal) → Some found �
     → found.images ≡ length (images_of q)
 found_images None found is = absurd cc
 found_images (Some j) found is =
-    let same : found ≡ record { count = j.count; images = length j.images } = cc in
+    let same : found ≡ record { count = j.count; calls = length j.calls; images = length j.images } = cc in
     ap (λ (f : FoundJournal). f.images) same
 
 pub found_some : (q : Option Journal) (found : FoundJournal) → Some found ≡ found_of q → IsTrue (is_some q)
@@ -298,24 +310,28 @@ restoring_joined q start mid new one two = record {
       before_joined start mid c one.pages_kept via;
 }
 
--- the journal is removed once the file has what it restores
-pub removed_step : (found : Pages) (first old new : Left → Type 0) → ((c : Left) → old c → c.file ≡ found)
+-- once the file has what the journal restores, what is left of that stands for the same
+pub cleared_step : (q : Option Journal) (pages : Pages) (found : Saved) (first old new : Left → Type 0)
+    → recovered_by (rest_of q) pages ≡ found → Keeps (HasJournal q) old → ((c : Left) → old c → c.file ≡ pages)
     → ((c : Left) → old c → IsLeftBefore first c)
-    → Follows Removed old new → (c : Left) → new c → IsFoundOrLeft found first c
-removed_step found first old new file_kept pages_kept follows c now =
-    ⊎_elim same gone from.2.journal
+    → Follows (Cleared q) old new → (c : Left) → new c → IsFoundOrLeft found first c
+cleared_step q pages found first old new rest_is journal_kept file_kept pages_kept follows c now =
+    ⊎_elim same gone from.2.left
   where
-    from : (d : Left) × old d × Removed d c
+    from : (d : Left) × old d × Cleared q d c
     from = follows c now
 
     was : IsLeftBefore first from.0
     was = pages_kept from.0 from.1
 
-    same : c.journal ≡ from.0.journal → IsFoundOrLeft found first c
-    same is = inr (was.0, was.1, by_parts c from.0.journal from.0.file is from.2.file ∙ was.2)
+    same : c.journal ≡ q → IsFoundOrLeft found first c
+    same is =
+        let alike = by_parts c q from.0.file is from.2.file
+        ∙ sym (by_parts from.0 q from.0.file (journal_kept from.0 from.1) refl) in
+        inr (was.0, was.1, alike ∙ was.2)
 
-    gone : c.journal ≡ None → IsFoundOrLeft found first c
-    gone is = inl (by_parts c None found is (from.2.file ∙ file_kept from.0 from.1))
+    gone : c.journal ≡ rest_of q → IsFoundOrLeft found first c
+    gone is = inl (by_parts c (rest_of q) pages is (from.2.file ∙ file_kept from.0 from.1) ∙ rest_is)
 
 pub left_earlier : (first old : Left → Type 0) → ((c : Left) → old c → first c) → (c : Left) → IsLeftBefore old c
     → IsLeftBefore first c

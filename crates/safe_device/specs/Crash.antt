@@ -2,7 +2,7 @@
 use Rattle.std.specs.Prelude.{◌≡◌, ◌⊎◌, ℕ, ◌≤◌, List, ◌++◌, Option, Some, None, take, slice_set}
 use Rattle.safe_device.specs.declared.journal.Journal.{Journal}
 use Rattle.safe_device.specs.declared.journal.PageImage.{PageImage}
-use Rattle.safe_device.specs.Left.{Left, added}
+use Rattle.safe_device.specs.Left.{Left, added, noted, rest_of, without_images}
 
 -- the page is as it was, or holds anything; all others are the same
 abbrev pub IsTornAt : ℕ → List (List ℕ) → List (List ℕ) → Type 0
@@ -33,10 +33,25 @@ pub record Appended (count : ℕ) (images : List PageImage) (old new : Left) : T
   pub journal : (new.journal ≡ old.journal)
       ⊎ ((many : ℕ) × (new.journal ≡ Some (added count (take many images) old.journal)))
 
+-- the journal is as it was, or has this addition of calls too; the file is the same
+pub record Noted (count : ℕ) (calls : List ℕ) (old new : Left) : Type 0 where
+  pub file : new.file ≡ old.file
+  pub journal : (new.journal ≡ old.journal) ⊎ (new.journal ≡ Some (noted count calls old.journal))
+
+-- the journal is as it was, or has no image; the file is the same
+pub record Emptied (old new : Left) : Type 0 where
+  pub file : new.file ≡ old.file
+  pub journal : (new.journal ≡ old.journal) ⊎ (new.journal ≡ without_images old.journal)
+
 -- the journal is as it was or is none; the file is the same
 pub record Removed (old new : Left) : Type 0 where
   pub file : new.file ≡ old.file
   pub journal : (new.journal ≡ old.journal) ⊎ (new.journal ≡ None)
+
+-- of this journal there is all, or what is left of it once its images are put back; the file is the same
+pub record Cleared (journal : Option Journal) (old new : Left) : Type 0 where
+  pub file : new.file ≡ old.file
+  pub left : (new.journal ≡ journal) ⊎ (new.journal ≡ rest_of journal)
 
 -- each new outcome of a crash is an old outcome after a step
 abbrev pub Follows : (Left → Left → Type 0) → (Left → Type 0) → (Left → Type 0) → Type 0

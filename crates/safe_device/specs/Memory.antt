@@ -4,11 +4,11 @@ use mathlib.Core.Logic.{inl, inr}
 use mathlib.Core.Path.{refl}
 use Rattle.safe_device.specs.Crash.{IsTornAt, IsLongerBy}
 use Rattle.safe_device.specs.Left.{Left}
-use Rattle.safe_device.specs.declared.memory.FileChange.{FileChange}
-use Rattle.safe_device.specs.declared.memory.FileChange.TheVariants.{Stored, Added, Cut}
+use Rattle.safe_device.specs.declared.snapshot.FileChange.{FileChange}
+use Rattle.safe_device.specs.declared.snapshot.FileChange.TheVariants.{Stored, Added, Cut}
 use Rattle.safe_device.specs.Safe.{IsAtRest}
 use Rattle.safe_device.specs.declared.memory.MemPair.{MemPair}
-use Rattle.safe_device.specs.declared.memory.Snapshot.{Snapshot}
+use Rattle.safe_device.specs.declared.snapshot.Snapshot.{Snapshot}
 
 -- a change is met in full, in part or not at all
 abbrev pub Meets : FileChange → List (List ℕ) → List (List ℕ) → Type 0

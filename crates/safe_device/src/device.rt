@@ -3,26 +3,39 @@ ghost use Rattle.std.specs.Prelude.{◌≡◌, ◌↔◌, ◌≤◌, ◌<◌, �
 ghost use Rattle.page_device.specs.Device.{DiffersAtMostAt, HasCause, MayMeetTheEnd, MayBeFull, MayOnlyFail, HasRisen, MOST_FAULTS};
 ghost use Rattle.page_device.specs.declared.page.TheConstants.{MAX_PAGES};
 ghost use Rattle.safe_device.specs.Crash.{Keeps, LeavesOnly};
-ghost use Rattle.safe_device.specs.Left.{put_back};
-ghost use Rattle.safe_device.specs.Device.{HasRoom, IsOpened, IsWrittenOut, StaysCommitted, Commits};
+ghost use Rattle.safe_device.specs.Left.{alone, calls_of, put_back, with_calls};
+ghost use Rattle.safe_device.specs.Device.{HasEnded, HasNoted, HasRoom, FailsToNote, IsOpened, IsWrittenOut, Notes, StaysCommitted, Commits};
 ghost use Rattle.safe_device.specs.Safe.{committed, IsAtRest, StandsFor};
 
 use crate::guarded_file::GuardedFile;
 use crate::journal::{Images, PageImage};
-use crate::page_pair::PagePair;
+use crate::page_pair::{CallsFault, PagePair};
 use page_device::{DeviceFault, MAX_PAGES, Page, PageDevice};
 use std::alloc::{AllocError, Global};
 use std::marker::Model;
+use thiserror::Error;
+
+/// Why calls were not noted.
+#[derive(Clone, Copy, Debug, PartialEq, Eq, Error)]
+pub enum NoteFault {
+    /// Something was written since the last sync. Nothing was done.
+    #[error("something was written since the last sync")]
+    Written,
+    /// A transfer failed. Once the file is opened again the calls are noted, or they are not.
+    #[error("the calls could not be written")]
+    Device,
+}
 
 /// Pages that are written are kept in memory up to this number, and then written in one go.
 pub const MOST_PENDING: usize = 256;
 
-/// A device over a file and its rollback journal. It is honest where both files are.
+/// A device over a file and its journal. It is honest where both files are.
 ///
 /// Pages are kept in memory as they are written. A sync, or one page too many, brings the images of
 /// what is in their places to the journal, and then the pages to the file. A crash at any moment
-/// leaves the pages of the last sync that was done, or, while one is under way, of that one. Once
-/// a transfer failed that changes a file it asks nothing more of either: it is to be opened again.
+/// leaves the pages of the last sync that was done, or, while one is under way, of that one. Calls
+/// that are noted stand behind the pages of the last sync until the next one is done. Once a
+/// transfer failed that changes a file it asks nothing more of either: it is to be opened again.
 #[derive(Drop)]
 pub struct SafeDevice<P: PagePair> {
     file: GuardedFile<P>,
@@ -37,17 +50,19 @@ pub struct SafeDevice<P: PagePair> {
 impl<P: PagePair> Model for SafeDevice<P> {
     ghost use Rattle.std.specs.Prelude.{length, vec_capacity};
     ghost use Rattle.safe_device.specs.Device.{DeviceState, IsSound, content_of, is_synced};
+    ghost use Rattle.safe_device.specs.Left.{calls_of};
 
     ghost Value = { DeviceState P };
 
     ghost view = { λ d. record {
       pair = d.file.pair;
       content = content_of P.is_honest d.pages d.pending.items (P.file d.file.pair);
+      calls = calls_of (P.journal d.file.pair);
       pages = d.pages;
       pending = length d.pending.items;
       failed = d.failed;
       is_broken = d.is_broken;
-      is_synced = is_synced d.file.begun d.pending.items;
+      is_synced = is_synced d.file.begun d.file.count d.file.guarded.items d.pages d.pending.items;
     } };
 
     ghost invariant = { λ d. IsSound P.is_honest P.file P.journal P.may_leave
@@ -55,18 +70,19 @@ impl<P: PagePair> Model for SafeDevice<P> {
 }
 
 impl<P: PagePair> SafeDevice<P> {
-    /// A device over both files, as `recover` left them.
+    /// A device over both files, as `recover` left them. Calls may stand in the journal: they are
+    /// read by `noted`, and a sync ends them.
     #[tactic(auto, using(crate::proofs::DeviceLemmas::content_opened))]
     pub fn new(alloc: Global, pair: P) -> Result<SafeDevice<P>, AllocError>
     where
         P: Drop,
         requires { IsTrue P.is_honest → IsAtRest P.file P.journal P.may_leave pair }
-        ensures { IfOk result (IsOpened P.is_honest P.file pair) }
+        ensures { IfOk result (IsOpened P.is_honest P.file P.journal pair) }
     {
         let pending = Vec::with_capacity(alloc, MOST_PENDING)?;
         let images = Images::with_capacity(alloc, MOST_PENDING)?;
-        let pages = pair.pages();
         let file = GuardedFile::new(alloc, pair)?;
+        let pages = file.count;
         Ok(SafeDevice {
             file,
             pending,
@@ -82,6 +98,59 @@ impl<P: PagePair> SafeDevice<P> {
         ensures { result ≡ self.pair }
     {
         self.file.pair
+    }
+
+    /// Notes calls behind the pages of the last sync, with one addition to the journal and one wait.
+    /// It is for a device of which nothing was written since.
+    ///
+    /// # Errors
+    ///
+    /// Where something was written nothing is done. Where a transfer fails the device is to be
+    /// opened again.
+    pub fn note(&mut self, calls: &[u8]) -> Result<(), NoteFault>
+        ensures ok { OnOk result (HasNoted P.is_honest calls.now self.old self.new) }
+        ensures written { IsErrOf result NoteFault.Written ↔ (self.old.is_synced ≡ false) }
+        ensures err { (IsErrOf result NoteFault.Written → self.new ≡ self.old)
+            × (IsErrOf result NoteFault.Device → FailsToNote self.old self.new) }
+        ensures same { self.new.content ≡ self.old.content }
+        ensures any_moment { Notes P.is_honest P.file P.journal P.moment P.left_since
+            calls.now (is_ok result) self.old self.new }
+        ensures durable { IsTrue P.is_honest → OnOk result (Keeps
+            (StandsFor (with_calls calls.now (committed P.file P.journal self.old.pair)))
+            (P.may_leave self.new.pair)) }
+    {
+        if !self.pending.is_empty() || !self.file.is_unchanged(self.pages) {
+            return Err(NoteFault::Written);
+        }
+        if self.is_broken {
+            self.failed = self.failed.saturating_add(1);
+            return Err(NoteFault::Device);
+        }
+        let Ok(()) = self.file.note(calls) else {
+            self.is_broken = true;
+            self.failed = self.failed.saturating_add(1);
+            return Err(NoteFault::Device);
+        };
+        Ok(())
+    }
+
+    /// How many additions of calls stand behind the pages of the last sync.
+    pub fn noted_count(&self) -> usize
+        ensures { IsTrue P.is_honest → result ≡ length self.now.calls }
+    {
+        self.file.pair.calls()
+    }
+
+    /// Reads one of them, counted from 0, in place of what was there.
+    ///
+    /// # Errors
+    ///
+    /// There is no memory for it, or the transfer failed.
+    pub fn noted(&self, index: usize, into: &mut Vec<u8>) -> Result<(), CallsFault>
+        ensures { IsTrue P.is_honest →
+            OnOk result (slice_get self.now.calls index ≡ Some into.new.items) }
+    {
+        self.file.pair.load_calls(index, into)
     }
 
     /// Writes the pages that wait to the file. What they are does not change.
@@ -150,6 +219,7 @@ impl<P: PagePair> PageDevice for SafeDevice<P> {
         ensures past { IsErrOf result DeviceFault.PastEnd ↔ (length self.old.content ≤ page) }
         ensures same { self.new.content ≡ self.old.content }
         ensures files { self.new.pair ≡ self.old.pair }
+        ensures rest { self.new ≡ record self.old { failed = self.new.failed } }
         ensures cause { HasCause MayMeetTheEnd self.old.failed self.new.failed result }
     {
         if page >= self.pages {
@@ -226,8 +296,8 @@ impl<P: PagePair> PageDevice for SafeDevice<P> {
         ensures any_moment { Commits P.is_honest P.file P.journal P.moment P.left_since
             (is_ok result) self.old self.new }
         ensures durable { IsTrue P.is_honest →
-            OnOk result (Keeps (StandsFor self.old.content) (P.may_leave self.new.pair)) }
-        ensures usable { OnOk result (self.new.is_broken ≡ false) }
+            OnOk result (Keeps (StandsFor (alone self.old.content)) (P.may_leave self.new.pair)) }
+        ensures usable { OnOk result (HasEnded P.is_honest self.new) }
     {
         if self.is_broken {
             self.failed = self.failed.saturating_add(1);

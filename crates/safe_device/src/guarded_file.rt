@@ -2,9 +2,10 @@
 ghost use Rattle.std.specs.Prelude.{◌≡◌, ◌<◌, ◌≤◌, ◌⊎◌, [], ◌∷◌, ◌++◌, List, ℕ, true, false, length, Some, slice_get, slice_set, IfOk, OnOk, IsTrue, IsFalse};
 ghost use Rattle.std.specs.List.{All, Contains};
 ghost use Rattle.safe_device.specs.declared.journal.PageImage.{PageImage as TheImage};
-ghost use Rattle.safe_device.specs.Left.{put_back, restored};
+ghost use Rattle.safe_device.specs.Left.{alone, images_of, put_back, restored, with_calls};
+ghost use Rattle.safe_device.specs.Device.{is_unchanged};
 ghost use Rattle.safe_device.specs.Crash.{LeavesOnly, IsTornAt, IsLongerBy};
-ghost use Rattle.safe_device.specs.Safe.{numbers, first_count, committed, IsSafe, IsAtRest, IsEither, StandsFor};
+ghost use Rattle.safe_device.specs.Safe.{numbers, first_count, committed, IsSafe, IsAtRest, IsEither, IsUnchanged, StandsFor};
 
 use crate::journal::{Images, PageImage};
 use crate::page_pair::PagePair;
@@ -13,12 +14,16 @@ use std::alloc::{AllocError, Global};
 use std::io;
 
 /// A file of pages. A crash at any moment leaves its pages as they were at the last sync that was
-/// done, or, while one is under way, as they are after it. After an `Err` it is to be opened again.
+/// done, with the calls that were noted since, or, while a sync is under way, as they are after it.
+/// After an `Err` it is to be opened again.
 #[derive(Drop)]
 pub struct GuardedFile<P: PagePair> {
     pub pair: P,
+    /// Whether there is a journal.
     pub begun: bool,
+    /// How many pages it says that there were.
     pub count: u32,
+    /// The pages that have an image in it.
     pub guarded: Vec<u32>,
 }
 
@@ -32,15 +37,51 @@ impl<P: PagePair> GuardedFile<P> {
         requires { IsTrue P.is_honest → IsAtRest P.file P.journal P.may_leave pair }
         ensures safe { IsTrue P.is_honest → IfOk result (IsSafe P.file P.journal P.may_leave) }
         ensures same { IfOk result (λ made. made.pair ≡ pair) }
-        ensures rest { IfOk result (λ made. made.begun ≡ false) }
+        ensures none { IfOk result (λ made. made.guarded.items ≡ []) }
+        ensures whole { IsTrue P.is_honest → IfOk result (λ made. made.count ≡ length (P.file pair)) }
     {
         let guarded = Vec::with_capacity(alloc, MAX_PAGES as usize)?;
+        let begun = pair.calls() > 0;
+        let count = pair.pages();
         Ok(GuardedFile {
             pair,
-            begun: false,
-            count: 0,
+            begun,
+            count,
             guarded,
         })
+    }
+
+    /// Whether nothing was written since the last sync of a file that has so many pages.
+    pub fn is_unchanged(&self, pages: u32) -> bool
+        ensures { result ≡ is_unchanged self.now.begun self.now.count self.now.guarded.items pages }
+    {
+        self.guarded.is_empty() && (!self.begun || self.count == pages)
+    }
+
+    /// Notes calls in the journal, and waits until they outlast a crash.
+    pub fn note(&mut self, calls: &[u8]) -> io::Result<()>
+        requires safe { IsTrue P.is_honest → IsSafe P.file P.journal P.may_leave self.old }
+        requires unchanged { IsTrue P.is_honest → IsUnchanged self.old.begun self.old.count
+            self.old.guarded.items (length (P.file self.old.pair)) }
+        ensures safe { IsTrue P.is_honest →
+            OnOk result (IsSafe P.file P.journal P.may_leave self.new) }
+        ensures file { P.file self.new.pair ≡ P.file self.old.pair }
+        ensures committed { IsTrue P.is_honest →
+            OnOk result (committed P.file P.journal self.new.pair
+            ≡ with_calls calls.now (committed P.file P.journal self.old.pair)) }
+        ensures unchanged { IsTrue P.is_honest → OnOk result (IsUnchanged self.new.begun
+            self.new.count self.new.guarded.items (length (P.file self.new.pair))) }
+        ensures any_moment { IsTrue P.is_honest →
+            LeavesOnly P.moment P.left_since self.old.pair self.new.pair
+            (IsEither (committed P.file P.journal self.old.pair)
+            (with_calls calls.now (committed P.file P.journal self.old.pair))) }
+    {
+        let count = self.first_count();
+        self.pair.append_calls(count, calls)?;
+        self.pair.sync_journal()?;
+        self.count = count;
+        self.begun = true;
+        Ok(())
     }
 
     /// Whether a page may be written in place: it has an image in the journal, or it was added
@@ -71,7 +112,7 @@ impl<P: PagePair> GuardedFile<P> {
     fn add_images(&mut self, images: &[PageImage]) -> io::Result<()>
         requires safe { IsTrue P.is_honest → IsSafe P.file P.journal P.may_leave self.old }
         requires images { IsTrue P.is_honest → All (λ (image : TheImage).
-            slice_get (committed P.file P.journal self.old.pair) image.page ≡ Some image.bytes)
+            slice_get (committed P.file P.journal self.old.pair).pages image.page ≡ Some image.bytes)
             images.now }
         ensures safe { IsTrue P.is_honest →
             OnOk result (IsSafe P.file P.journal P.may_leave self.new) }
@@ -99,7 +140,7 @@ impl<P: PagePair> GuardedFile<P> {
     fn open_images(&self, images: &mut Images, pages: &[PageImage]) -> io::Result<()>
         requires safe { IsTrue P.is_honest → IsSafe P.file P.journal P.may_leave self.now }
         ensures images { IsTrue P.is_honest → OnOk result (All (λ (image : TheImage).
-            slice_get (committed P.file P.journal self.now.pair) image.page ≡ Some image.bytes)
+            slice_get (committed P.file P.journal self.now.pair).pages image.page ≡ Some image.bytes)
             images.new) }
     {
         images.clear();
@@ -265,18 +306,21 @@ impl<P: PagePair> GuardedFile<P> {
         Ok(())
     }
 
-    /// Ends the session: from then on a crash leaves the pages as they are now.
+    /// Ends the session, and the calls that were noted before it: from then on a crash leaves the
+    /// pages as they are now, and no call.
     pub fn sync(&mut self) -> io::Result<()>
         requires safe { IsTrue P.is_honest → IsSafe P.file P.journal P.may_leave self.old }
         ensures safe { IsTrue P.is_honest →
             OnOk result (IsSafe P.file P.journal P.may_leave self.new) }
         ensures file { P.file self.new.pair ≡ P.file self.old.pair }
         ensures committed { IsTrue P.is_honest →
-            OnOk result (committed P.file P.journal self.new.pair ≡ P.file self.old.pair) }
+            OnOk result (committed P.file P.journal self.new.pair
+            ≡ alone (P.file self.old.pair)) }
         ensures ended { OnOk result (self.new.begun ≡ false) }
         ensures any_moment { IsTrue P.is_honest →
             LeavesOnly P.moment P.left_since self.old.pair self.new.pair
-            (IsEither (committed P.file P.journal self.old.pair) (P.file self.old.pair)) }
+            (IsEither (committed P.file P.journal self.old.pair)
+            (alone (P.file self.old.pair))) }
     {
         if !self.begun {
             return Ok(());

@@ -2,7 +2,8 @@
 ghost use Rattle.std.specs.Prelude.{◌≡◌, None, IfOk, OnOk};
 ghost use Rattle.safe_device.specs.Memory.{FileMay, IsQuiet, MayLeave, Meets, left_of};
 
-use crate::memory::{Changes, FileChange, MemPair, Pages, Snapshot, copy_journal};
+use crate::memory::MemPair;
+use crate::snapshot::{Changes, FileChange, Pages, Snapshot, copy_journal};
 use page_device::{PAGE_BYTES, Page};
 use std::alloc::Global;
 use std::io;
@@ -24,7 +25,12 @@ impl MemPair {
     /// The files as a crash leaves them that takes so much of the file, and of the journal what was
     /// not synced, or nothing.
     #[tactic(auto, using(crate::proofs::Kept::quiet))]
-    pub fn crash(&self, loss: Loss, keeps_journal: bool, calls_left: usize) -> io::Result<MemPair>
+    pub fn crash(
+        &self,
+        loss: Loss,
+        keeps_journal: bool,
+        transfers_left: usize,
+    ) -> io::Result<MemPair>
         ensures left { IfOk result (λ after. MayLeave self.now.newest (left_of after.newest)) }
         ensures at_rest { IfOk result (λ after. after.newest.seen_journal ≡ None → IsQuiet after) }
     {
@@ -49,8 +55,8 @@ impl MemPair {
                 seen_journal: journal,
             },
             past: Vec::new(alloc),
-            calls_left,
-            calls: 0,
+            transfers_left,
+            transfers: 0,
         })
     }
 }
@@ -58,15 +64,15 @@ impl MemPair {
 impl MemPair {
     /// The files as the next program finds them where one was killed: nothing is lost of what was
     /// not synced, and a crash may still take it.
-    pub fn killed(self, calls_left: usize) -> MemPair
+    pub fn killed(self, transfers_left: usize) -> MemPair
         ensures { result.newest ≡ self.newest }
     {
         MemPair {
             alloc: self.alloc,
             newest: self.newest,
             past: self.past,
-            calls_left,
-            calls: 0,
+            transfers_left,
+            transfers: 0,
         }
     }
 }

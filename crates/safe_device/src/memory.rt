@@ -1,188 +1,35 @@
 //! Both files in memory. At a crash each forgets what was not synced, or keeps part of it.
-ghost use Rattle.std.specs.Prelude.{◌≡◌, ◌≤◌, [], ◌∷◌, ◌++◌, length, take, slice_set, None, IfOk, OnOk, OnErr};
+ghost use Rattle.std.specs.Prelude.{◌≡◌, ◌≤◌, [], ◌∷◌, ◌++◌, length, None, IfOk, OnOk, OnErr};
 ghost use Rattle.page_device.specs.declared.page.TheConstants.{MAX_PAGES};
-ghost use Rattle.safe_device.specs.Left.{added};
+ghost use Rattle.safe_device.specs.Left.{added, noted, without_images};
 ghost use Rattle.safe_device.specs.Memory.{IsQuiet, MayLeave, Since, seen_stays, counts, only};
 
-use crate::journal::{Images, Journal, PageImage};
-use crate::page_pair::{FoundJournal, PagePair};
-use page_device::{MAX_PAGES, PAGE_BYTES, Page};
+use crate::journal::{Calls, Images, Journal, PageImage};
+use crate::page_pair::{CallsFault, FoundJournal, PagePair};
+use crate::snapshot::{Changes, FileChange, Pages, Snapshot, copy_journal};
+use page_device::Page;
 use std::alloc::{AllocError, Global};
 use std::io;
 use std::io::ErrorKind;
-use std::marker::Model;
 
-/// Pages. A clause sees the list of them.
-#[derive(Drop)]
-pub struct Pages {
-    pub(crate) items: Vec<Page>,
-}
-
-impl Model for Pages {
-    ghost use Rattle.std.specs.Prelude.{ℕ, ◌≤◌, List, length};
-    ghost use Rattle.page_device.specs.declared.page.TheConstants.{MAX_PAGES};
-
-    ghost Value = { List (List ℕ) };
-
-    ghost view = { λ pages. pages.items.items };
-
-    ghost invariant = { λ pages. length pages.items.items ≤ MAX_PAGES };
-}
-
-impl Pages {
-    fn new(items: Vec<Page>) -> Pages
-        requires { length items.items ≤ MAX_PAGES }
-        ensures { result ≡ items.items }
-    {
-        Pages { items }
-    }
-
-    pub(crate) fn set(&mut self, page: u32, bytes: &Page) -> bool
-        ensures { self.new ≡ slice_set self.old page bytes.now }
-    {
-        let Some(place) = self.items.get_mut(page as usize) else {
-            return false;
-        };
-        *place = *bytes;
-        true
-    }
-
-    pub(crate) fn push(&mut self, bytes: &Page) -> io::Result<()>
-        ensures ok { OnOk result (self.new ≡ self.old ++ bytes.now ∷ []) }
-        ensures err { OnErr result (self.new ≡ self.old) }
-    {
-        if self.items.len() >= MAX_PAGES as usize {
-            return Err(ErrorKind::StorageFull.into());
-        }
-        self.items.push(*bytes)?;
-        Ok(())
-    }
-
-    pub(crate) fn cut(&mut self, pages: u32)
-        ensures { self.new ≡ take pages self.old }
-    {
-        self.items.truncate(pages as usize);
-    }
-
-    pub(crate) fn try_copy(&self, alloc: Global) -> Result<Pages, AllocError>
-        ensures { IfOk result (λ copy. copy ≡ self.now) }
-    {
-        let mut items = Vec::new(alloc);
-        for page in &self.items {
-            items.push(*page)?;
-        }
-        Ok(Pages { items })
-    }
-}
-
-/// A change of the file that was not synced.
-#[derive(Clone, Copy, Debug, PartialEq, Eq)]
-pub enum FileChange {
-    /// A page was written.
-    Stored(u32),
-    /// A page was added.
-    Added,
-    /// The file was cut to so many pages.
-    Cut(u32),
-}
-
-/// Changes, the first of them first.
-#[derive(Drop)]
-pub struct Changes {
-    pub(crate) items: Vec<FileChange>,
-}
-
-impl Model for Changes {
-    ghost use Rattle.std.specs.Prelude.{List};
-    ghost use Rattle.safe_device.specs.declared.memory.FileChange.{FileChange as TheChange};
-
-    ghost Value = { List TheChange };
-
-    ghost view = { λ changes. changes.items.items };
-}
-
-impl Changes {
-    pub(crate) fn new(alloc: Global) -> Changes
-        ensures { result ≡ [] }
-    {
-        Changes {
-            items: Vec::new(alloc),
-        }
-    }
-
-    fn push(&mut self, change: FileChange) -> Result<(), AllocError>
-        ensures { OnOk result (self.new ≡ self.old ++ change ∷ []) }
-    {
-        self.items.push(change)?;
-        Ok(())
-    }
-
-    fn try_copy(&self, alloc: Global) -> Result<Changes, AllocError>
-        ensures { IfOk result (λ copy. copy ≡ self.now) }
-    {
-        Ok(Changes {
-            items: self.items.to_vec(alloc)?,
-        })
-    }
-}
-
-/// What a read gives of both files, what was synced of them, and what the file has met since.
-#[derive(Drop)]
-pub struct Snapshot {
-    pub seen_file: Pages,
-    pub synced_file: Pages,
-    pub changes: Changes,
-    pub seen_journal: Option<Journal>,
-    pub synced_journal: Option<Journal>,
-}
-
-pub(crate) fn copy_journal(
-    journal: &Option<Journal>,
-    alloc: Global,
-) -> Result<Option<Journal>, AllocError>
-    ensures { IfOk result (λ copy. copy ≡ journal.now) }
-{
-    match journal {
-        None => Ok(None),
-        Some(journal) => Ok(Some(Journal {
-            count: journal.count,
-            images: journal.images.try_copy(alloc)?,
-        })),
-    }
-}
-
-impl Snapshot {
-    fn try_copy(&self, alloc: Global) -> Result<Snapshot, AllocError>
-        ensures { IfOk result (λ copy. copy ≡ self.now) }
-    {
-        Ok(Snapshot {
-            seen_file: self.seen_file.try_copy(alloc)?,
-            synced_file: self.synced_file.try_copy(alloc)?,
-            changes: self.changes.try_copy(alloc)?,
-            seen_journal: copy_journal(&self.seen_journal, alloc)?,
-            synced_journal: copy_journal(&self.synced_journal, alloc)?,
-        })
-    }
-}
-
-/// Both files in memory, and what they were. Each call that changes them is counted, and once they
-/// are used up each fails.
+/// Both files in memory, and what they were. Each transfer that changes them is counted, and once
+/// they are used up each fails.
 #[derive(Drop)]
 pub struct MemPair {
     pub(crate) alloc: Global,
     pub(crate) newest: Snapshot,
     pub(crate) past: Vec<Snapshot>,
-    pub(crate) calls_left: usize,
-    pub(crate) calls: usize,
+    pub(crate) transfers_left: usize,
+    pub(crate) transfers: usize,
 }
 
-/// Counts a call, and fails where none is left.
-fn spend(calls_left: &mut usize, calls: &mut usize) -> io::Result<()> {
-    if *calls_left == 0 {
+/// Counts a transfer, and fails where none is left.
+fn spend(transfers_left: &mut usize, transfers: &mut usize) -> io::Result<()> {
+    if *transfers_left == 0 {
         return Err(ErrorKind::Other.into());
     }
-    *calls_left -= 1;
-    *calls = calls.saturating_add(1);
+    *transfers_left -= 1;
+    *transfers = transfers.saturating_add(1);
     Ok(())
 }
 
@@ -204,9 +51,13 @@ fn change(
 }
 
 impl MemPair {
-    /// A file of these pages and no journal, all of it synced, of which so many calls succeed.
+    /// A file of these pages and no journal, all of it synced, of which so many transfers succeed.
     #[tactic(auto, using(crate::proofs::Kept::quiet))]
-    pub fn new(alloc: Global, pages: Vec<Page>, calls_left: usize) -> Result<MemPair, AllocError>
+    pub fn new(
+        alloc: Global,
+        pages: Vec<Page>,
+        transfers_left: usize,
+    ) -> Result<MemPair, AllocError>
         requires { length pages.items ≤ MAX_PAGES }
         ensures at_rest { IfOk result IsQuiet }
     {
@@ -222,14 +73,14 @@ impl MemPair {
                 synced_journal: None,
             },
             past: Vec::new(alloc),
-            calls_left,
-            calls: 0,
+            transfers_left,
+            transfers: 0,
         })
     }
 
-    /// How many calls have changed the files, or synced one.
-    pub fn calls(&self) -> usize {
-        self.calls
+    /// How many transfers have changed the files, or synced one.
+    pub fn transfers(&self) -> usize {
+        self.transfers
     }
 
     /// The pages that a read returns.
@@ -275,7 +126,7 @@ impl PagePair for MemPair {
 
     #[tactic(auto, using(crate::proofs::Kept::set_follows))]
     fn store(&mut self, page: u32, bytes: &Page) -> io::Result<()> {
-        spend(&mut self.calls_left, &mut self.calls)?;
+        spend(&mut self.transfers_left, &mut self.transfers)?;
         let mut next = self.newest.try_copy(self.alloc)?;
         next.changes.push(FileChange::Stored(page))?;
         if !next.seen_file.set(page, bytes) {
@@ -286,7 +137,7 @@ impl PagePair for MemPair {
 
     #[tactic(auto, using(crate::proofs::Kept::push_follows))]
     fn extend(&mut self, bytes: &Page) -> io::Result<()> {
-        spend(&mut self.calls_left, &mut self.calls)?;
+        spend(&mut self.transfers_left, &mut self.transfers)?;
         let mut next = self.newest.try_copy(self.alloc)?;
         next.changes.push(FileChange::Added)?;
         next.seen_file.push(bytes)?;
@@ -295,7 +146,7 @@ impl PagePair for MemPair {
 
     #[tactic(auto, using(crate::proofs::Kept::cut_follows, crate::proofs::Kept::not_cut))]
     fn cut(&mut self, pages: u32) -> io::Result<()> {
-        spend(&mut self.calls_left, &mut self.calls)?;
+        spend(&mut self.transfers_left, &mut self.transfers)?;
         let mut next = self.newest.try_copy(self.alloc)?;
         next.changes.push(FileChange::Cut(pages))?;
         next.seen_file.cut(pages);
@@ -303,7 +154,7 @@ impl PagePair for MemPair {
     }
 
     fn sync_file(&mut self) -> io::Result<()> {
-        spend(&mut self.calls_left, &mut self.calls)?;
+        spend(&mut self.transfers_left, &mut self.transfers)?;
         let mut next = self.newest.try_copy(self.alloc)?;
         next.synced_file = self.newest.seen_file.try_copy(self.alloc)?;
         next.changes = Changes::new(self.alloc);
@@ -319,6 +170,7 @@ impl PagePair for MemPair {
         };
         Ok(Some(FoundJournal {
             count: journal.count,
+            calls: journal.calls.len(),
             images,
         }))
     }
@@ -336,16 +188,54 @@ impl PagePair for MemPair {
 
     #[tactic(auto, using(crate::proofs::Kept::append_follows))]
     fn append_images(&mut self, count: u32, images: &[PageImage]) -> io::Result<()> {
-        spend(&mut self.calls_left, &mut self.calls)?;
+        spend(&mut self.transfers_left, &mut self.transfers)?;
         let mut next = self.newest.try_copy(self.alloc)?;
         let journal = longer(next.seen_journal, self.alloc, count, images)?;
         next.seen_journal = Some(journal);
         Ok(change(self.alloc, &mut self.newest, &mut self.past, next)?)
     }
 
+    fn calls(&self) -> usize {
+        match &self.newest.seen_journal {
+            None => 0,
+            Some(journal) => journal.calls.len(),
+        }
+    }
+
+    fn load_calls(&self, index: usize, into: &mut Vec<u8>) -> Result<(), CallsFault> {
+        let Some(journal) = &self.newest.seen_journal else {
+            return Err(CallsFault::Failed(ErrorKind::UnexpectedEof.into()));
+        };
+        let Some(calls) = journal.calls.get(index) else {
+            return Err(CallsFault::Failed(ErrorKind::UnexpectedEof.into()));
+        };
+        into.clear();
+        match into.extend_from_slice(calls.as_slice()) {
+            Ok(()) => Ok(()),
+            Err(_) => Err(CallsFault::NoMemory),
+        }
+    }
+
+    #[tactic(auto, using(crate::proofs::Kept::note_follows))]
+    fn append_calls(&mut self, count: u32, calls: &[u8]) -> io::Result<()> {
+        spend(&mut self.transfers_left, &mut self.transfers)?;
+        let mut next = self.newest.try_copy(self.alloc)?;
+        let journal = with_calls(next.seen_journal, self.alloc, count, calls)?;
+        next.seen_journal = Some(journal);
+        Ok(change(self.alloc, &mut self.newest, &mut self.past, next)?)
+    }
+
+    #[tactic(auto, using(crate::proofs::Kept::empty_follows))]
+    fn end_images(&mut self) -> io::Result<()> {
+        spend(&mut self.transfers_left, &mut self.transfers)?;
+        let mut next = self.newest.try_copy(self.alloc)?;
+        next.seen_journal = emptied(next.seen_journal, self.alloc);
+        Ok(change(self.alloc, &mut self.newest, &mut self.past, next)?)
+    }
+
     #[tactic(auto, using(crate::proofs::Kept::remove_follows))]
     fn end_journal(&mut self) -> io::Result<()> {
-        spend(&mut self.calls_left, &mut self.calls)?;
+        spend(&mut self.transfers_left, &mut self.transfers)?;
         let mut next = self.newest.try_copy(self.alloc)?;
         next.seen_journal = None;
         Ok(change(self.alloc, &mut self.newest, &mut self.past, next)?)
@@ -357,7 +247,7 @@ impl PagePair for MemPair {
     }
 
     fn sync_journal(&mut self) -> io::Result<()> {
-        spend(&mut self.calls_left, &mut self.calls)?;
+        spend(&mut self.transfers_left, &mut self.transfers)?;
         let mut next = self.newest.try_copy(self.alloc)?;
         next.synced_journal = copy_journal(&self.newest.seen_journal, self.alloc)?;
         Ok(change(self.alloc, &mut self.newest, &mut self.past, next)?)
@@ -376,11 +266,50 @@ fn longer(
     match journal {
         None => Ok(Journal {
             count,
+            calls: Calls::new(alloc),
             images: Images::with(Images::new(alloc), images)?,
         }),
         Some(journal) => Ok(Journal {
             count: journal.count,
+            calls: journal.calls,
             images: Images::with(journal.images, images)?,
+        }),
+    }
+}
+
+/// A journal with one addition of calls more.
+fn with_calls(
+    journal: Option<Journal>,
+    alloc: Global,
+    count: u32,
+    calls: &[u8],
+) -> Result<Journal, AllocError>
+    ensures { IfOk result (λ longer. longer ≡ noted count calls.now journal) }
+{
+    match journal {
+        None => Ok(Journal {
+            count,
+            calls: Calls::with(Calls::new(alloc), calls, alloc)?,
+            images: Images::new(alloc),
+        }),
+        Some(journal) => Ok(Journal {
+            count: journal.count,
+            calls: Calls::with(journal.calls, calls, alloc)?,
+            images: journal.images,
+        }),
+    }
+}
+
+/// A journal with its calls alone.
+fn emptied(journal: Option<Journal>, alloc: Global) -> Option<Journal>
+    ensures { result ≡ without_images journal }
+{
+    match journal {
+        None => None,
+        Some(journal) => Some(Journal {
+            count: journal.count,
+            calls: journal.calls,
+            images: Images::new(alloc),
         }),
     }
 }

@@ -1,26 +1,41 @@
-//! A file of pages and the rollback journal beside it, as a crash sees them.
+//! A file of pages and the journal beside it, as a crash sees them.
 ghost use Rattle.std.specs.Prelude.{◌≡◌, ◌≤◌, ℕ, Bool, [], ◌∷◌, ◌++◌, List, Option, Some, None, length, take, slice_get, slice_set, IfOk, OnOk, IsTrue};
-ghost use Rattle.safe_device.specs.Left.{Left, added, found_of, images_of};
-ghost use Rattle.safe_device.specs.Crash.{Follows, Keeps, HasBoth, IsTornAt, IsLongerBy, TornAt, LongerBy, CutTo, Appended, Removed, HasFile, HasJournal, Elapses};
+ghost use Rattle.safe_device.specs.Left.{Left, added, noted, without_images, found_of, images_of, calls_of};
+ghost use Rattle.safe_device.specs.Crash.{Follows, Keeps, HasBoth, IsTornAt, IsLongerBy, TornAt, LongerBy, CutTo, Appended, Noted, Emptied, Removed, HasFile, HasJournal, Elapses};
 ghost use Rattle.safe_device.specs.declared.journal.Journal.{Journal as TheJournal};
 
 use crate::journal::PageImage;
 use page_device::Page;
 use std::io;
+use thiserror::Error;
 
 /// What a journal says of itself, where a whole one is found.
 #[derive(Clone, Copy, Debug, PartialEq, Eq)]
 pub struct FoundJournal {
     /// How many pages the file had.
     pub count: u32,
+    /// How many additions of calls it holds.
+    pub calls: usize,
     /// How many images it holds.
     pub images: u32,
 }
 
-/// A file of pages, and a rollback journal beside it. Each keeps what was synced. Of the pages that
-/// were written since, a crash may leave any, each as it was or with anything in it.
+/// Why an addition of calls was not read.
+#[derive(Debug, Drop, Error)]
+pub enum CallsFault {
+    /// There is no memory for it.
+    #[error("out of memory")]
+    NoMemory,
+    /// The system failed to read it.
+    #[error("{0}")]
+    Failed(io::Error),
+}
+
+/// A file of pages, and a journal beside it. Each keeps what was synced. Of the pages that were
+/// written since, a crash may leave any, each as it was or with anything in it.
 ///
-/// A journal is found whole or not at all: an addition of images that is not whole is not seen.
+/// A journal is found whole or not at all: an image or an addition of calls that is not whole is
+/// not seen.
 pub trait PagePair {
     /// Both files give back what was written, and keep what was synced.
     ghost is_honest: { Bool };
@@ -102,7 +117,34 @@ pub trait PagePair {
             (may_leave self.old) (may_leave self.new) }
         ensures time { Elapses moment left_since may_leave self.old self.new };
 
-    /// Ends the journal, so that a reader finds none.
+    /// How many additions of calls the journal has.
+    fn calls(&self) -> usize
+        ensures { IsTrue is_honest → result ≡ length (calls_of (journal self.now)) };
+
+    /// Reads an addition of calls of the journal, counted from 0, in place of what was there.
+    fn load_calls(&self, index: usize, into: &mut Vec<u8>) -> Result<(), CallsFault>
+        ensures ok { IsTrue is_honest → OnOk result
+            (slice_get (calls_of (journal self.now)) index ≡ Some into.new.items) };
+
+    /// Notes calls in a journal that has no image: one addition. A journal that begins says that
+    /// there were `count` pages.
+    fn append_calls(&mut self, count: u32, calls: &[u8]) -> io::Result<()>
+        requires { IsTrue is_honest → images_of (journal self.old) ≡ [] }
+        ensures ok { IsTrue is_honest → OnOk result
+            (journal self.new ≡ Some (noted count calls.now (journal self.old))) }
+        ensures file { file self.new ≡ file self.old }
+        ensures crash { Follows (Noted count calls.now)
+            (may_leave self.old) (may_leave self.new) }
+        ensures time { Elapses moment left_since may_leave self.old self.new };
+
+    /// Lets the images of the journal go, and keeps its calls.
+    fn end_images(&mut self) -> io::Result<()>
+        ensures ok { OnOk result (journal self.new ≡ without_images (journal self.old)) }
+        ensures file { file self.new ≡ file self.old }
+        ensures crash { Follows Emptied (may_leave self.old) (may_leave self.new) }
+        ensures time { Elapses moment left_since may_leave self.old self.new };
+
+    /// Ends the journal with its calls and images, so that a reader finds none.
     fn end_journal(&mut self) -> io::Result<()>
         ensures ok { OnOk result (journal self.new ≡ None) }
         ensures file { file self.new ≡ file self.old }

@@ -2,9 +2,9 @@
 ghost use Rattle.std.specs.Prelude.{◌≡◌, ◌↔◌, ◌<◌, ◌≤◌, ℕ, length, take, Some, is_some, IfOk, OnOk, IsTrue, IsErrOf};
 ghost use Rattle.std.specs.List.{All};
 ghost use Rattle.safe_device.specs.declared.journal.PageImage.{PageImage as TheImage};
-ghost use Rattle.safe_device.specs.Left.{put_back, recovered_by, images_of, found_of};
-ghost use Rattle.safe_device.specs.Crash.{HasBoth, HasFile, HasJournal, Keeps, LeavesOnly};
-ghost use Rattle.safe_device.specs.Safe.{committed, Fits, IsAtRest, IsFoundOrLeft, IsLeftBefore, IsRestoring, StandsFor};
+ghost use Rattle.safe_device.specs.Left.{put_back, images_of, found_of, rest_of};
+ghost use Rattle.safe_device.specs.Crash.{Cleared, Elapses, Follows, HasBoth, HasFile, HasJournal, Keeps, LeavesOnly};
+ghost use Rattle.safe_device.specs.Safe.{committed, Fits, Holds, IsAtRest, IsFoundOrLeft, IsLeftBefore, IsRestoring, StandsFor};
 
 use crate::page_pair::{FoundJournal, PagePair};
 use page_device::PAGE_BYTES;
@@ -33,15 +33,16 @@ impl From<io::Error> for RecoveryFault {
     }
 }
 
-/// Puts the images of a journal back where there is one, and ends it. It may be cut off at any
-/// moment, and made again. Where there is none it sees to it that a crash brings none back: whoever
-/// ended it may have been killed before that was on the disk.
+/// Puts the images of a journal back where there is one. Its calls stay in it, for who opens the
+/// file; where it has none it is ended. This may be cut off at any moment, and made again. Where
+/// there is no journal it sees to it that a crash brings none back: whoever ended it may have been
+/// killed before that was on the disk.
 #[tactic(auto, using(crate::proofs::Recovering::same_committed))]
 pub fn recover<P: PagePair>(pair: &mut P) -> Result<(), RecoveryFault>
     ensures at_rest { IsTrue P.is_honest →
         OnOk result (IsAtRest P.file P.journal P.may_leave pair.new) }
     ensures pages { IsTrue P.is_honest →
-        OnOk result (P.file pair.new ≡ committed P.file P.journal pair.old) }
+        OnOk result (Holds P.file P.journal (committed P.file P.journal pair.old) pair.new) }
     // What is told of the pages from then on no crash takes back.
     ensures durable { IsTrue P.is_honest → OnOk result
         (Keeps (StandsFor (committed P.file P.journal pair.old)) (P.may_leave pair.new)) }
@@ -61,8 +62,26 @@ pub fn recover<P: PagePair>(pair: &mut P) -> Result<(), RecoveryFault>
     // It has to outlast a crash before a page is written: a kill may have left it unsynced.
     pair.sync_journal()?;
     put_back(pair, journal)?;
-    pair.end_journal()?;
+    clear(pair, journal)?;
     Ok(pair.sync_journal()?)
+}
+
+/// Lets the images of a journal go that are put back, and ends it where it has no calls.
+fn clear<P: PagePair>(pair: &mut P, journal: FoundJournal) -> io::Result<()>
+    requires found { IsTrue P.is_honest → Some journal ≡ found_of (P.journal pair.old) }
+    requires durable { IsTrue P.is_honest →
+        Keeps (HasJournal (P.journal pair.old)) (P.may_leave pair.old) }
+    ensures ok { IsTrue P.is_honest →
+        OnOk result (P.journal pair.new ≡ rest_of (P.journal pair.old)) }
+    ensures file { P.file pair.new ≡ P.file pair.old }
+    ensures crash { IsTrue P.is_honest → Follows (Cleared (P.journal pair.old))
+        (P.may_leave pair.old) (P.may_leave pair.new) }
+    ensures time { Elapses P.moment P.left_since P.may_leave pair.old pair.new }
+{
+    if journal.calls > 0 {
+        return pair.end_images();
+    }
+    pair.end_journal()
 }
 
 /// Brings both files to where they outlast a crash, where that is not known of them.
@@ -105,7 +124,7 @@ fn put_back<P: PagePair>(pair: &mut P, journal: FoundJournal) -> io::Result<()>
     requires durable { IsTrue P.is_honest →
         Keeps (HasJournal (P.journal pair.old)) (P.may_leave pair.old) }
     ensures file { IsTrue P.is_honest →
-        OnOk result (P.file pair.new ≡ committed P.file P.journal pair.old) }
+        OnOk result (P.file pair.new ≡ (committed P.file P.journal pair.old).pages) }
     ensures durable { OnOk result (Keeps (HasFile (P.file pair.new)) (P.may_leave pair.new)) }
     ensures restoring { IsTrue P.is_honest →
         IsRestoring (P.journal pair.old) (P.may_leave pair.old) (P.may_leave pair.new) }

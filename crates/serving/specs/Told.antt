@@ -59,8 +59,8 @@ told_to client reply = if is_own client then [] else told_of client reply
 -- what is told behind something that is done with the desk
 abbrev pub told_by : Event → List ℕ
 told_by (Asked a reply) = told_to a.client reply
-told_by (Next None) = []
-told_by (Next (Some told)) = told_to told.client told.reply
+told_by (Next None noted) = []
+told_by (Next (Some told) noted) = told_to told.client told.reply
 told_by (Withdrawn test some) = []
 told_by Stopped = []
 told_by Saved = []

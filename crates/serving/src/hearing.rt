@@ -35,6 +35,7 @@ impl<P: PagePair> Server<P> {
         ensures { OnOk result (GoesOn P.is_honest P.moment P.left_since P.may_leave
             self.old self.new) }
     {
+        self.now = moment;
         match read(self.alloc, record, moment) {
             Ok(incoming) => self.attend(incoming, moment),
             Err(Unread::Broken) => Err(Unheard::Broken),
@@ -101,8 +102,9 @@ impl<P: PagePair> Server<P> {
                 let note = found(self.queues.nth(place));
                 self.say(client, &note)
             }
+            // (so that who reads the file sees all of it)
             Operation::Save => {
-                self.save()?;
+                self.checkpoint()?;
                 self.say(client, &Note::code(DONE))
             }
             Operation::Info => {
@@ -213,7 +215,7 @@ impl<P: PagePair> Server<P> {
         self.tell_those_let_go(moment)?;
         self.let_go(None)?;
         self.settle(moment)?;
-        self.save()?;
+        self.checkpoint()?;
         Ok(())
     }
 

@@ -12,6 +12,7 @@ mod note;
 mod opening;
 mod outbox;
 mod reserving;
+mod returning;
 mod server;
 mod trouble;
 

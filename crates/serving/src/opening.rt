@@ -1,30 +1,30 @@
 //! A server is opened.
 
-ghost use Rattle.std.specs.Prelude.{OnOk};
+ghost use Rattle.std.specs.Prelude.{IsTrue, OnOk};
+ghost use Rattle.durable_desk.specs.Durable.{IsReady};
 ghost use Rattle.serving.specs.Serving.{GoesOn};
 
 use crate::durability::Durability;
 use crate::holding::{HOLDING_MODE, Holding, Holdings, KEEPER, ORIGIN_TYPE, Stage, carrier};
 use crate::live_queues::LiveQueues;
 use crate::outbox::Outbox;
-use crate::server::Server;
+use crate::server::{ITSELF, Server};
 use crate::trouble::{Unheard, Unopened};
 use durable_desk::DurableDesk;
-use durable_desk::desk::session::queue_model::{
-    Answer, Call, END_OF_IDS, Errno, MAX_QUEUES, Message, QueueInfo,
-};
+use durable_desk::desk::session::queue_model::{Answer, Call, MAX_QUEUES, Message, QueueInfo};
 use durable_desk::safe_device::{PagePair, SafeDevice};
 use std::alloc::Global;
 
 /// So many bytes may be held back before memory is asked for.
 const HELD_BYTES: usize = 1_048_576;
 
-/// The server itself.
-const ITSELF: u64 = 0;
+/// The calls of so many bytes may be noted at once, which is more than the records that are heard
+/// together come to.
+const NOTED_BYTES: usize = 1_048_576;
 
 impl<P: PagePair> Server<P> {
-    /// Opens the file of a device at this moment, in seconds; so many calls may wait at a time.
-    /// Messages that were in hand when a server was killed go back to their queues.
+    /// Opens the file of a device at this moment, in seconds, as it was recovered; so many calls may
+    /// wait at a time. Messages that were in hand when a server was killed go back to their queues.
     ///
     /// # Errors
     ///
@@ -38,11 +38,15 @@ impl<P: PagePair> Server<P> {
     ) -> Result<Server<P>, Unopened>
     where
         P: Drop,
+        requires { IsTrue P.is_honest → IsReady P.may_leave device }
     {
         let outbox = Outbox::new(Vec::with_capacity(alloc, HELD_BYTES)?);
         let queues = LiveQueues::new(alloc, MAX_QUEUES as usize)?;
         let holdings = Holdings::new(Vec::with_capacity(alloc, MAX_QUEUES as usize)?);
-        let desk = DurableDesk::open(alloc, device, most)?;
+        let mut seen = Vec::new(alloc);
+        let desk = DurableDesk::open(alloc, device, most, room_of(durability), &mut seen)?;
+        seen.sort_unstable();
+        seen.dedup();
         let mut server = Server {
             alloc,
             desk,
@@ -52,27 +56,27 @@ impl<P: PagePair> Server<P> {
             holdings,
             answered: 0,
             saves: 0,
+            now: moment,
+            checkpointed: moment,
         };
-        server.find_queues(moment)?;
+        server.find_queues(&seen, moment)?;
         server.settle(moment)?;
         Ok(server)
     }
 
-    /// Finds the queues that are alive, by asking for each id that was ever given out.
-    fn find_queues(&mut self, moment: u64) -> Result<(), Unheard>
+    /// Finds the queues that are alive, among those of these ids.
+    fn find_queues(&mut self, ids: &[u32], moment: u64) -> Result<(), Unheard>
         ensures { OnOk result (GoesOn P.is_honest P.moment P.left_since P.may_leave
             self.old self.new) }
     {
-        for id in 1..END_OF_IDS {
-            if !self.find_queue(id, moment)? {
-                break;
-            }
+        for id in ids {
+            self.find_queue(*id, moment)?;
         }
         Ok(())
     }
 
-    /// Notes that a queue is alive, where it is. Whether its id was ever given out.
-    fn find_queue(&mut self, id: u32, moment: u64) -> Result<bool, Unheard>
+    /// Notes that a queue is alive, where it is.
+    fn find_queue(&mut self, id: u32, moment: u64) -> Result<(), Unheard>
         ensures { OnOk result (GoesOn P.is_honest P.moment P.left_since P.may_leave
             self.old self.new) }
     {
@@ -81,11 +85,9 @@ impl<P: PagePair> Server<P> {
                 let Ok(()) = self.queues.insert(id) else {
                     return Err(Unheard::NoMemory);
                 };
-                self.find_holding(&info, moment)?;
-                Ok(true)
+                self.find_holding(&info, moment)
             }
-            Ok(Answer::Refused(Errno::EIDRM)) => Ok(true),
-            Ok(_) => Ok(false),
+            Ok(_) => Ok(()),
             Err(_) => Err(Unheard::NoMemory),
         }
     }
@@ -115,6 +117,14 @@ impl<P: PagePair> Server<P> {
             return Err(Unheard::NoMemory);
         }
         self.put_surely(info.id, &message, moment)
+    }
+}
+
+/// So many bytes of calls may be noted at once: none where each save brings the pages.
+fn room_of(durability: Durability) -> usize {
+    match durability {
+        Durability::EachGroup => NOTED_BYTES,
+        Durability::NowAndThen | Durability::InMemory => 0,
     }
 }
 

@@ -1,25 +1,22 @@
-//! Messages in hand: taken from their queue into a holding queue, until they are acknowledged or go
-//! back.
+//! Messages in hand: taken from their queue into a holding queue, until they are acknowledged or
+//! given up.
 
 ghost use Rattle.std.specs.Prelude.{OnOk};
 ghost use Rattle.serving.specs.Serving.{GoesOn};
 
-use crate::client::{connection_of, number_of};
-use crate::holding::{HOLDING_MODE, Holding, KEEPER, ORIGIN_BYTES, ORIGIN_TYPE, Stage, carrier};
+use crate::client::number_of;
+use crate::holding::{HOLDING_MODE, Holding, KEEPER, ORIGIN_TYPE, Stage, carrier};
 use crate::note::Note;
-use crate::server::Server;
+use crate::server::{ITSELF, Server};
 use crate::trouble::Unheard;
 use durable_desk::desk::Told;
 use durable_desk::desk::session::Unanswered;
 use durable_desk::desk::session::queue_model::{
-    Answer, Body, Call, Caller, Errno, GetArguments, MAX_BODY, MAX_MESSAGES, Message, QueueInfo,
-    ReceiveArguments, SUPERUSER, SendArguments,
+    Answer, Body, Call, Caller, Errno, GetArguments, MAX_BODY, Message, ReceiveArguments,
+    SUPERUSER, SendArguments,
 };
 use durable_desk::safe_device::PagePair;
 use frames::{DONE, ENDS, Operation};
-
-/// The server itself, where it asks for what nobody waits for.
-const ITSELF: u64 = 0;
 
 /// What a client asks to have reserved.
 #[derive(Clone, Copy, Debug)]
@@ -98,7 +95,7 @@ impl<P: PagePair> Server<P> {
     }
 
     /// A holding queue is told where its message comes from.
-    fn note_origin(
+    pub(crate) fn note_origin(
         &mut self,
         holding: Holding,
         moment: u64,
@@ -182,7 +179,7 @@ impl<P: PagePair> Server<P> {
     }
 
     /// A message is put last on a queue, with its sender.
-    fn put(
+    pub(crate) fn put(
         &mut self,
         queue: u32,
         message: &Message,
@@ -256,151 +253,6 @@ impl<P: PagePair> Server<P> {
     /// Whether a message is in hand in this queue.
     fn is_held(&self, queue: u32) -> bool {
         matches!(self.holdings.of(queue), Some(holding) if holding.stage == Stage::Held)
-    }
-
-    /// The reservations of a connection, or all, are given up. Whether there was one.
-    pub(crate) fn let_go(&mut self, connection: Option<u32>) -> Result<bool, Unheard>
-        ensures { OnOk result (GoesOn P.is_honest P.moment P.left_since P.may_leave
-            self.old self.new) }
-    {
-        let mut some = false;
-        let mut place = 0;
-        for _ in 0..self.holdings.len() {
-            let Some(holding) = self.holdings.get(place) else {
-                break;
-            };
-            let is_its = match connection {
-                Some(connection) => connection_of(holding.client) == connection,
-                None => holding.stage == Stage::Held,
-            };
-            if is_its && holding.stage == Stage::Waits {
-                self.withdraw(holding.queue as u64);
-                self.undo(holding.queue)?;
-                some = true;
-                continue;
-            }
-            if is_its {
-                self.holdings.set(holding.queue, Stage::GoesBack);
-                some = true;
-            }
-            place = place.saturating_add(1);
-        }
-        Ok(some)
-    }
-
-    /// Messages that are to go back go, for which there is room. Whether one went.
-    pub(crate) fn give_back_all(&mut self, moment: u64) -> Result<bool, Unheard>
-        ensures { OnOk result (GoesOn P.is_honest P.moment P.left_since P.may_leave
-            self.old self.new) }
-    {
-        let mut some = false;
-        let mut place = 0;
-        for _ in 0..self.holdings.len() {
-            let Some(holding) = self.holdings.get(place) else {
-                break;
-            };
-            if holding.stage == Stage::GoesBack && self.give_back(holding, moment)? {
-                some = true;
-            } else {
-                place = place.saturating_add(1);
-            }
-        }
-        Ok(some)
-    }
-
-    /// A message goes back to its queue, last, where there is room; where that queue is gone, so is
-    /// its message. Whether it went.
-    fn give_back(&mut self, holding: Holding, moment: u64) -> Result<bool, Unheard>
-        ensures { OnOk result (GoesOn P.is_honest P.moment P.left_since P.may_leave
-            self.old self.new) }
-    {
-        let Some(held) = self.look_at(holding.queue)? else {
-            self.holdings.remove(holding.queue);
-            return Ok(true);
-        };
-        let origin = self.look_at(holding.origin)?;
-        let Some(origin) = origin.filter(|_| held.qnum > 1) else {
-            self.undo(holding.queue)?;
-            return Ok(true);
-        };
-        let bytes = held.cbytes.saturating_sub(ORIGIN_BYTES);
-        if origin.cbytes.saturating_add(bytes) > origin.qbytes
-            || origin.qnum as usize >= MAX_MESSAGES as usize
-        {
-            return Ok(false);
-        }
-        if !self.carry_back(holding, moment)? {
-            return Ok(false);
-        }
-        self.undo(holding.queue)?;
-        Ok(true)
-    }
-
-    /// The message of a holding queue is taken out of it, and put back on its own. Where the file has
-    /// no room for it there, it stays.
-    fn carry_back(&mut self, holding: Holding, moment: u64) -> Result<bool, Unheard>
-        ensures { OnOk result (GoesOn P.is_honest P.moment P.left_since P.may_leave
-            self.old self.new) }
-    {
-        self.take_out(holding.queue, ORIGIN_TYPE, moment)?;
-        let Some(message) = self.take_out(holding.queue, 0, moment)? else {
-            return Ok(true);
-        };
-        if let Ok(Answer::Sent(_)) = self.put(holding.origin, &message, moment)? {
-            return Ok(true);
-        }
-        self.put_surely(holding.queue, &message, moment)?;
-        match self.note_origin(holding, moment)? {
-            Ok(Answer::Sent(_)) => Ok(false),
-            _ => Err(Unheard::Homeless),
-        }
-    }
-
-    /// The first message of a type is taken out of a queue, where there is one.
-    pub(crate) fn take_out(
-        &mut self,
-        queue: u32,
-        mtype: i64,
-        moment: u64,
-    ) -> Result<Option<Message>, Unheard>
-        ensures { OnOk result (GoesOn P.is_honest P.moment P.left_since P.may_leave
-            self.old self.new) }
-    {
-        let receive = Call::Receive(ReceiveArguments {
-            id: queue,
-            size: MAX_BODY as u32,
-            mtype,
-            nowait: true,
-            noerror: true,
-            moment,
-        });
-        match self.ask(ITSELF, carrier(0), receive)? {
-            Ok(Answer::Received(message)) => Ok(Some(message)),
-            Ok(_) => Ok(None),
-            Err(_) => Err(Unheard::NoMemory),
-        }
-    }
-
-    /// What Stat tells of a queue, where it is alive.
-    fn look_at(&mut self, queue: u32) -> Result<Option<QueueInfo>, Unheard>
-        ensures { OnOk result (GoesOn P.is_honest P.moment P.left_since P.may_leave
-            self.old self.new) }
-    {
-        match self.ask(ITSELF, carrier(0), Call::Stat { id: queue })? {
-            Ok(Answer::Info(info)) => Ok(Some(info)),
-            Ok(_) => Ok(None),
-            Err(_) => Err(Unheard::NoMemory),
-        }
-    }
-
-    /// A reservation is over: its holding queue is removed.
-    pub(crate) fn undo(&mut self, queue: u32) -> Result<(), Unheard>
-        ensures { OnOk result (GoesOn P.is_honest P.moment P.left_since P.may_leave
-            self.old self.new) }
-    {
-        self.holdings.remove(queue);
-        let _ = self.make(ITSELF, carrier(0), Call::Remove { id: queue })?;
-        Ok(())
     }
 }
 

@@ -24,7 +24,13 @@ use std::alloc::Global;
 use std::io::Write;
 use std::marker::Model;
 
-/// The core of a server: a desk whose pages are saved, and what may not be told yet.
+/// The server itself, where it asks for what nobody waits for.
+pub(crate) const ITSELF: u64 = 0;
+
+/// A save is a checkpoint so many seconds after the last one.
+const CHECKPOINT_SECONDS: u64 = 60;
+
+/// The core of a server: a desk whose calls are saved, and what may not be told yet.
 #[derive(Drop)]
 pub struct Server<P: PagePair> {
     pub(crate) alloc: Global,
@@ -35,6 +41,9 @@ pub struct Server<P: PagePair> {
     pub(crate) holdings: Holdings,
     pub(crate) answered: u64,
     pub(crate) saves: u64,
+    /// The moment of the last record, and of the last checkpoint, in seconds.
+    pub(crate) now: u64,
+    pub(crate) checkpointed: u64,
 }
 
 impl<P: PagePair> Model for Server<P> {
@@ -78,8 +87,25 @@ impl<P: PagePair> Server<P> {
         ensures held { self.new.held ≡ self.old.held }
         ensures same { self.new.durability ≡ self.old.durability }
     {
+        if self.now.saturating_sub(self.checkpointed) >= CHECKPOINT_SECONDS {
+            return self.checkpoint();
+        }
         self.desk.commit()?;
         self.saves = self.saves.saturating_add(1);
+        Ok(())
+    }
+
+    /// The same, so that no call is made again at the next opening.
+    pub fn checkpoint(&mut self) -> Result<(), Uncommitted>
+        ensures commits { Commits P.is_honest P.may_leave result self.old.desk self.new.desk }
+        ensures goes { OnOk result (GoesOn P.is_honest P.moment P.left_since P.may_leave
+            self.old self.new) }
+        ensures held { self.new.held ≡ self.old.held }
+        ensures same { self.new.durability ≡ self.old.durability }
+    {
+        self.desk.checkpoint()?;
+        self.saves = self.saves.saturating_add(1);
+        self.checkpointed = self.now;
         Ok(())
     }
 

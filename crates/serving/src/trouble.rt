@@ -1,8 +1,7 @@
 //! Why a server does not go on.
 
-use durable_desk::Uncommitted;
-use durable_desk::desk::session::OpenFault;
 use durable_desk::desk::session::queue_model::NoMemory;
+use durable_desk::{OpenRefusal, Uncommitted};
 use numbers::faults;
 use std::alloc::AllocError;
 use std::io;
@@ -85,9 +84,9 @@ pub enum Unopened {
     /// There is no memory.
     #[error("out of memory")]
     NoMemory,
-    /// The first thing that is wrong with the file, or what is lacking.
+    /// The first thing that is wrong with the file or its journal, or what is lacking.
     #[error("{0}")]
-    Wrong(OpenFault),
+    Wrong(OpenRefusal),
     /// The file has failed while its queues were looked for, or a message in hand has no room.
     #[error("{0}")]
     Unready(Unheard),
@@ -98,7 +97,8 @@ impl Unopened {
     pub fn number(self) -> u8 {
         match self {
             Unopened::NoMemory => faults::NO_MEMORY,
-            Unopened::Wrong(fault) => fault.number(),
+            Unopened::Wrong(OpenRefusal::File(fault)) => fault.number(),
+            Unopened::Wrong(OpenRefusal::Calls) => faults::DEVICE,
             Unopened::Unready(Unheard::Homeless) => faults::NO_ROOM,
             Unopened::Unready(Unheard::NoMemory) => faults::NO_MEMORY,
             Unopened::Unready(_) => faults::FAILED,
@@ -106,9 +106,9 @@ impl Unopened {
     }
 }
 
-impl From<OpenFault> for Unopened {
-    fn from(fault: OpenFault) -> Unopened {
-        Unopened::Wrong(fault)
+impl From<OpenRefusal> for Unopened {
+    fn from(why: OpenRefusal) -> Unopened {
+        Unopened::Wrong(why)
     }
 }
 

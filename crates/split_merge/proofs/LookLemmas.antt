@@ -1,6 +1,7 @@
 -- The steps that read the two buckets.
 use Rattle.std.proofs.Common.{◌≡◌, refl, sym, ap, ◌∙◌, subst, ℕ, ◌%◌, ◌^◌, ◌≤◌, true, false, List, [], Some, arith}
 use Rattle.split_merge.proofs.MergeNames.{AllKnown, ApproachPlace, At, BucketSight, FileFault, FileHasCause, HasShape, IsBucketOf, IsDevicesFault, IsFilePool, IsHeld-some, IsKnown, IsSeen, IsSoundWorld, IsTrue, IsWhole, OnlyReads, approach_facts_at, approach_locks_at, buddy_is_other_half, chain_valid, entry_at, entry_is_bucket, kind_of, lower_buddies, may_write, page_at}
+use Rattle.stale_search.proofs.CauseLemmas.{no_transfer}
 use Rattle.stale_search.specs.file_pages.declared.fault.FileFault.TheVariants.{Failed}
 use Rattle.step_rules.specs.declared.kind.Kind.TheVariants as kinds
 use Rattle.split_merge.specs.MergeWords.{RecordKey, Range, IsRange, is_lower, buddy_of, lower_half_of, parent_of, Lock, Selective, Directory, Page, Table, row_of, PoolState, store_of, Change, Moved, Fault, Built, BucketOf, ApproachView, HasNoFileLock, EndsRow, world, Own, MergePlace, Approaching, ReadBuddy, GrantRight, GiveBack, GiveUp}
@@ -57,7 +58,7 @@ module _ (seat : ℕ) (key : RecordKey) (a : ApproachView) (pool pool' : PoolSta
             as_many = reads.as_many;
             file = λ honest fine. absurd cc;
           })
-          reads.images (λ same. absurd cc) refl
+          reads.images (no_transfer pool pool') refl
           (λ hash change sees. absurd (wrong (subst IsRange
           (seen_shape (store_of pool.images) page sight (ok sees.honest)).range_is
           (chain_valid (store_of pool.images) _ page sees.sound.file.chained
@@ -169,7 +170,7 @@ module _ (seat : ℕ) (key : RecordKey) (a : ApproachView) (pool pool' : PoolSta
             as_many = reads.as_many;
             file = λ honest fine. absurd cc;
           })
-          reads.images (λ same. absurd cc) refl
+          reads.images (no_transfer pool pool') refl
           (λ hash change sees. absurd (not_itself hash change sees.honest sees.sound sees.known same))
 
       pub own_is_left : is_lower o.range ≡ true →

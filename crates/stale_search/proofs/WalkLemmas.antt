@@ -25,7 +25,7 @@ same_stage a b same = cc
 one_more : (count n m : ℕ) → hops_after count (Hop n) (Look m) ≤ suc count
 one_more count n m = by (n == m)
   where
-    by : (b : Bool) → (if b then count else min (count + 1) (2 ^ 32 - 1)) ≤ suc count
+    by : (b : Bool) → (if b then count else min (count + 1) (2 ^ 64 - 1)) ≤ suc count
     by true = omega arith
     by false = omega (arith, clamps)
 

@@ -127,7 +127,7 @@ IsLed did k s old new = new ≡ old
 
 -- a count of hops, which ends at what its number holds
 abbrev pub hops_after : ℕ → (old new : SearchPlace) → ℕ
-hops_after hops (Hop n) (Look m) = if n == m then hops else min (hops + 1) (2 ^ 32 - 1)
+hops_after hops (Hop n) (Look m) = if n == m then hops else min (hops + 1) (2 ^ 64 - 1)
 hops_after hops old new = hops
 
 -- what it looks for stays, it has ended where it has found, its hops are counted, and where it comes to is what it read

@@ -31,7 +31,7 @@ pub struct Search {
     pseudokey: u32,
     kind: LockKind,
     place: SearchPlace,
-    hops: u32,
+    hops: u64,
 }
 
 const _: () = prove!(size_of::<Search>() <= 300);
@@ -80,9 +80,9 @@ impl Search {
         self.place
     }
 
-    /// How often it went on from a page that did not answer to another one. From `u32::MAX` on
+    /// How often it went on from a page that did not answer to another one. From `u64::MAX` on
     /// it counts no more.
-    pub fn hops(&self) -> u32
+    pub fn hops(&self) -> u64
         ensures { result ≡ self.now.hops }
     {
         self.hops

@@ -83,7 +83,7 @@ fn a_receive_is_answered_while_a_send_is_held(rt: HostRuntime) -> Result<(), Fai
         kinds: &kinds,
     };
     let plan = plan(alloc, &shown)?;
-    let left = play(&rt, alloc, prepared(alloc, 352, 3)?, gate, &plan)?;
+    let left = play(&rt, alloc, prepared(alloc, 288, 3)?, gate, &plan)?;
     assert!(rt; shown.in_order.is_up());
     assert!(rt; is_told(left.journal.as_slice(), 1, answers(alloc)?.as_slice()));
     assert!(rt;

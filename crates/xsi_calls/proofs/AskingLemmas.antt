@@ -65,6 +65,7 @@ module _ (hash : RecordKey → ℕ) (seat : ℕ) (call : Call) (i : AnyInquiry) 
         begins = f.right.begins;
         grows = f.right.grows;
         names = f.right.names;
+        told = f.right.told;
         apart = f.right.apart;
         few = f.right.few;
       };

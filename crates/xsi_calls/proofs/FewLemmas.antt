@@ -1,12 +1,12 @@
 -- The names that a call holds are its own at each of its places, and it has few steps left there.
-use Rattle.std.proofs.Common.{ℕ, ◌≤◌, length, arith}
+use Rattle.std.proofs.Common.{ℕ, ◌≤◌, length, subst, arith}
 use Rattle.xsi_calls.proofs.PaymentFewLemmas.{few_paying}
-use Rattle.xsi_calls.proofs.UndecidedFewLemmas.{few_undecided, undecided_names}
+use Rattle.xsi_calls.proofs.UndecidedFewLemmas.{few_undecided, undecided_names, undecided_names_in}
 use Rattle.xsi_calls.proofs.Names.{in_order}
 use Rattle.xsi_calls.specs.Stages.{Stage, Undecided, Paying, Releasing}
 use Rattle.xsi_calls.specs.Machine.{left_at}
 use Rattle.xsi_calls.specs.Calling.{IsCallingAt}
-use Rattle.xsi_calls.specs.Laws.{HaveFewStepsLeft, HoldTheirNames, MOST_STEPS_LEFT}
+use Rattle.xsi_calls.specs.Laws.{HaveFewStepsLeft, HoldTheirNames, MOST_STEPS_LEFT, NameWhatIsThere}
 use Rattle.xsi_calls.specs.Words.{AreNamesOf, Call, Change, MAX_NAMES, PoolState, RecordKey, Records, State, Table, UndecidedCall, its_plan, store_of}
 
 module _ (hash : RecordKey → ℕ) (seat : ℕ) (call : Call) (s : State) (u : UndecidedCall) (records : Records)
@@ -35,6 +35,11 @@ module _ (hash : RecordKey → ℕ) (seat : ℕ) (call : Call) (s : State) (u : 
 pub hold_their_names : HoldTheirNames
 hold_their_names hash seat s m records pool locks change is =
     names_at hash seat m.call s m.undecided records pool locks change m.stage is
+
+pub name_what_is_there : NameWhatIsThere
+name_what_is_there hash seat s m records pool locks change undecided is =
+    undecided_names_in hash seat m.call s m.undecided records pool locks change
+    (subst (λ (stage : Stage). IsCallingAt hash seat m.call s m.undecided stage records pool locks change) undecided is)
 
 pub have_few_left : HaveFewStepsLeft
 have_few_left hash seat s m records pool locks change is =

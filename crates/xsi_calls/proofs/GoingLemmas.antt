@@ -18,6 +18,7 @@ use Rattle.xsi_calls.proofs.HeldTurnLemmas.{are_few_turns}
 use Rattle.xsi_calls.specs.declared.question.Question.{Question}
 use Rattle.xsi_calls.specs.QuestionWords.{RecordKey, PoolState, Table, Lock, Change, Store, row_of, with_row, IsSeat, store_of, Progress, Moved, Blocked, Fault, Ended, Look, World, is_fault, Step, world, NearsOrSpares, HasEnded, Record, ToFind, StandsAt, AccessView, Serves, access_answer, access_facts, access_key, access_left, access_locks, access_pseudokey, access_turn, has_set_out, AnyInquiry, caller_of, left_of, AreNames, names_in, names_for, names_left, MAX_NAMES, Begins, Call, State, Roomful}
 use Rattle.xsi_calls.specs.Answering.{MayRead}
+use Rattle.xsi_calls.specs.ToldNames.{AreTold}
 use Rattle.xsi_calls.specs.Counting.{enters_directory, finds_behind}
 use Rattle.xsi_calls.specs.Questions.{FIND_STEPS, ROUND_STEPS, IsAsked, IsRightQuestion, IsUnderWay, KnowsApart, KnowsItsKey, KnowsNear, QuestionsView, asks_more, changes, facts_of, locks_behind, questions_left, questions_locks, untold}
 use Rattle.xsi_calls.specs.QuestionSteps.{Closes, Faces, IsOver, Learns, MakesQuestions, Rests}
@@ -68,6 +69,7 @@ module _ (hash : RecordKey → ℕ) (seat : ℕ) (call : Call) (i : AnyInquiry) 
   pub record Comes (s : State) (j : AnyInquiry) (r : Roomful) (told : Bool) : Type 0 where
     pub begins : asks_more call j ≡ false → changes call j ≡ true → Begins held (names_for call j)
     pub grows : asks_more call j ≡ true → Begins held (names_for call j) ⊎ KnowsItsKey call j
+    pub named : AreTold call j held
     pub apart : KnowsApart call j r held
     pub knows : KnowsNear call (view_of j r None) s
     pub asked : told ≡ false → IsAsked call (view_of j r None) a'
@@ -331,6 +333,7 @@ module _ (hash : RecordKey → ℕ) (seat : ℕ) (call : Call) (i : AnyInquiry) 
             begins = (comes s change f fine).begins;
             grows = (comes s change f fine).grows;
             names = f.right.names;
+            told = (comes s change f fine).named;
             apart = (comes s change f fine).apart;
             few = few_searches counts;
           };

@@ -26,6 +26,7 @@ pub mod KnowLemmas
 pub mod LeftLemmas
 pub mod FindLemmas
 pub mod QuestionHeldLemmas
+pub mod ToldLemmas
 pub mod CountLemmas
 pub mod TurnLemmas
 pub mod AskingLemmas

@@ -19,6 +19,8 @@ use Rattle.xsi_calls.proofs.GoingLemmas.{Comes, faces, fails, goes_on, view_of}
 use Rattle.xsi_calls.proofs.KnowLemmas.{files_answer, heard, some_stands}
 use Rattle.xsi_calls.proofs.QuestionOwnLemmas.{own_names}
 use Rattle.xsi_calls.proofs.QuestionPlanLemmas.{begins_on, grows_on}
+use Rattle.xsi_calls.proofs.ToldLemmas.{told_on}
+use Rattle.xsi_calls.specs.ToldNames.{AreTold}
 
 some_not_none : (o : Option Wanted) (wanted : Wanted) → o ≡ Some wanted → o ≡ None → ⊥
 some_not_none o wanted is none = true≢false (sym (ap is_some is) ∙ ap is_some none)
@@ -98,6 +100,7 @@ module _ (hash : RecordKey → ℕ) (seat : ℕ) (call : Call) (i : AnyInquiry) 
           subst (λ (t : Told). ComesTo s t.inquiry t.room q'.told) (sym quiet.same.1) (record {
             begins = f.right.begins;
             grows = f.right.grows;
+            named = f.right.told;
             apart = f.right.apart;
             knows = f.knows;
             asked = asked;
@@ -144,6 +147,7 @@ module _ (hash : RecordKey → ℕ) (seat : ℕ) (call : Call) (i : AnyInquiry) 
           grows = λ asks. subst (λ (ls : List Lock). Begins ls (names_for call j) ⊎ KnowsItsKey call j) (sym was.names)
               (grows_on call i j (some_not_none (asked_of call i) was.wanted was.asked) asks
               (h.hears.fewer hears.0) (h.hears.follows hears.0));
+          named = subst (AreTold call j) (sym was.names) (told_on call i j was.wanted was.asked (h.hears.follows hears.0));
           apart = Holds (subst (λ (ls : List Lock). HoldsOwn call (names_in ls)) (sym was.names)
               (own_names call i room s (f.knows s f.agrees.filed (agrees_itself call _ s))));
           knows = hears.1;

@@ -23,7 +23,7 @@ last_of_all : (P : Lock → Type 0) (xs : List Lock) (last : Lock) → AllByRecu
 last_of_all P [] last all = all.0
 last_of_all P (x ∷ xs) last all = last_of_all P xs last all.1
 
-begin_all : (P : Lock → Type 0) (xs ys : List Lock) → AllByRecursion P (xs ++ ys) → AllByRecursion P xs
+pub begin_all : (P : Lock → Type 0) (xs ys : List Lock) → AllByRecursion P (xs ++ ys) → AllByRecursion P xs
 begin_all P [] ys all = tt
 begin_all P (x ∷ xs) ys all = (all.0, begin_all P xs ys all.1)
 

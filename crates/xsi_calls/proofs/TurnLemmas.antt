@@ -21,6 +21,8 @@ use Rattle.xsi_calls.specs.Questions.{HasBegun, HasKey, Holds, QuestionsView, Is
 use Rattle.xsi_calls.specs.QuestionSteps.{MakesQuestions}
 use Rattle.xsi_calls.proofs.CountLemmas.{uncounted}
 use Rattle.xsi_calls.proofs.QuestionHeldLemmas.{but_the_last}
+use Rattle.xsi_calls.proofs.ToldLemmas.{told_begun, told_first}
+use Rattle.xsi_calls.specs.ToldNames.{AreTold}
 use Rattle.xsi_calls.proofs.KnowLemmas.{near_more}
 use Rattle.xsi_calls.proofs.QuestionOwnLemmas.{own_more}
 
@@ -112,6 +114,7 @@ module _ (hash : RecordKey → ℕ) (seat : ℕ) (call : Call) (i : AnyInquiry) 
             begins = λ none does. begins_next;
             grows = λ asks. inl begins_next;
             names = record { come = i; begins = begins_next };
+            told = told_begun call i (held ++ lock ∷ []) begins_next;
             apart = more_apart held lock f.right.apart;
             few = f.right.few;
           };
@@ -204,6 +207,7 @@ module _ (hash : RecordKey → ℕ) (seat : ℕ) (call : Call) (i : AnyInquiry) 
             begins = λ none does. absurd (asks_on f.right none);
             grows = λ asks. inr (between f.right);
             names = but_the_last call held held' gives.1.0 gives.1.1 f.right.names;
+            told = told_first call i held' (gives.1.0 ∷ []) (subst (AreTold call i) gives.1.1 f.right.told);
             apart = HasKey (between f.right);
             few = f.right.few;
           };

@@ -1,10 +1,13 @@
 -- The names that a call holds until its Decide are its own, and it has few steps left wherever it is.
-use Rattle.std.proofs.Common.{ℕ, zero, suc, ◌≤◌, List, [], ◌∷◌, length, drop, Option, Some, None, arith}
+use Rattle.std.proofs.Common.{ℕ, zero, suc, ◌≤◌, List, [], ◌∷◌, length, drop, Option, Some, None, sym, subst, arith}
 use Rattle.xsi_calls.proofs.QuestionFewLemmas.{few_left as few_questions}
 use Rattle.xsi_calls.proofs.QuestionHeldLemmas.{all_held}
+use Rattle.xsi_calls.proofs.ToldLemmas.{all_told, told_names_in}
 use Rattle.xsi_calls.proofs.WriteFewLemmas.{few_left as few_writes}
 use Rattle.xsi_calls.specs.declared.due.Due.TheVariants.{Undoing, Writing}
+use Rattle.xsi_inquiry.proofs.AgreeLemmas.{agrees_itself}
 use Rattle.xsi_inquiry.specs.declared.write.TheConstants.{MAX_TRIALS}
+use Rattle.xsi_calls.specs.ToldNames.{AreNamesIn, AreTold}
 use Rattle.xsi_calls.specs.Undecided.{Trials, UndecidedCall, its_plan, left_in, undecided_left}
 use Rattle.xsi_calls.specs.UndecidedWords.{AreNamesOf, Call, Change, Due, Full, Plan, PoolState, QuestionsView, RecordKey, Records, State, Table, Trying, store_of}
 use Rattle.xsi_calls.specs.Knowing.{IsOnTrial, IsUndecided, IsUndecidedIn}
@@ -33,6 +36,15 @@ module _ (hash : RecordKey → ℕ) (seat : ℕ) (call : Call) (s : State) (q : 
   its_names None is = is.faces.right.names
   its_names (Some t) is = all_held call q.inquiry q.names is.names
 
+  -- and those that it takes by what it was told are the system's
+  names_in_system : (o : Option Trials) → IsUndecidedIn hash seat call s q o records pool locks change →
+      AreNamesIn call q.inquiry s q.names
+  names_in_system None is = told_names_in call q.inquiry q.room s q.names
+      (is.faces.knows s is.faces.agrees.filed (agrees_itself call _ s)) is.faces.right.told
+  names_in_system (Some t) is = told_names_in call q.inquiry q.room s q.names
+      (is.knows s is.filed (agrees_itself call _ s))
+      (subst (AreTold call q.inquiry) (sym is.names) (all_told call q.inquiry))
+
   few_in : (o : Option Trials) → IsUndecidedIn hash seat call s q o records pool locks change →
       left_in call q o (store_of pool.images) ≤ MOST_UNDECIDED_LEFT
   few_in None is =
@@ -47,6 +59,13 @@ pub undecided_names : (hash : RecordKey → ℕ) (seat : ℕ) (call : Call) (s :
     IsUndecided hash seat call s u records pool locks change → AreNamesOf call u.questions.names
 undecided_names hash seat call s u records pool locks change is =
     its_names hash seat call s u.questions records pool locks change u.trials is
+
+pub undecided_names_in : (hash : RecordKey → ℕ) (seat : ℕ) (call : Call) (s : State) (u : UndecidedCall)
+    (records : Records) (pool : PoolState) (locks : Table) (change : Change) →
+    IsUndecided hash seat call s u records pool locks change →
+    AreNamesIn call u.questions.inquiry s u.questions.names
+undecided_names_in hash seat call s u records pool locks change is =
+    names_in_system hash seat call s u.questions records pool locks change u.trials is
 
 pub few_undecided : (hash : RecordKey → ℕ) (seat : ℕ) (call : Call) (s : State) (u : UndecidedCall)
     (records : Records) (pool : PoolState) (locks : Table) (change : Change) →

@@ -24,6 +24,7 @@ use Rattle.xsi_calls.specs.UndecidedWords.{AreAlike, Call, Change, HasBegun, Kno
 use Rattle.xsi_calls.specs.Knowing.{IsUndecided, IsUndecidedIn}
 use Rattle.xsi_calls.specs.UndecidedLaws.{HaveFewSteps, MOST_UNDECIDED_STEPS}
 use Rattle.xsi_calls.proofs.QuestionHeldLemmas.{none_held}
+use Rattle.xsi_calls.specs.ToldNames.{AreTold}
 use Rattle.xsi_calls.proofs.UndecidedNames.{few_searches as questions_begin_few}
 
 pub few_steps : QuestionsHaveFew → HaveFewSteps
@@ -55,6 +56,7 @@ begin_right hash seat call s u records pool locks change fresh knows row sees ag
           grows = λ asks. inl (subst (λ (ls : List Lock). Begins ls (names_for call u.questions.inquiry))
               (sym names) (names_for call u.questions.inquiry, refl));
           names = none_held call u.questions.inquiry u.questions.names names;
+          told = subst (AreTold call u.questions.inquiry) (sym names) tt;
           apart = HasBegun (λ t filed. knows t t filed (agrees_itself call _ t));
           few = let none = fresh.finds in
               let few = fresh.few in

@@ -3,6 +3,7 @@ use Rattle.std.specs.Prelude.{ℕ, ◌≡◌, ◌≤◌, [], None}
 use Rattle.queue_model.specs.declared.call.Call.TheVariants.{Receive}
 use Rattle.queue_model.specs.declared.call.ReceiveArguments.{ReceiveArguments}
 use Rattle.xsi_calls.specs.Stages.{Undecided}
+use Rattle.xsi_calls.specs.ToldNames.{AreNamesIn}
 use Rattle.xsi_calls.specs.Words.{Agrees, AreNamesOf, Sees, Change, PoolState, RecordKey, Records, State, Store, Table, most_asked, row_of, store_of}
 use Rattle.xsi_calls.specs.Machine.{CallView, IsNew, call_left, finds_of}
 use Rattle.xsi_calls.specs.Calling.{IsCalling}
@@ -29,6 +30,13 @@ abbrev pub HoldTheirNames : Type 0
 HoldTheirNames = (hash : RecordKey → ℕ) (seat : ℕ) (s : State) (m : CallView) (records : Records) (pool : PoolState)
     (locks : Table) (change : Change) → IsCalling hash seat s m records pool locks change →
     AreNamesOf m.call m.undecided.questions.names
+
+-- until its Decide the queue that a Get names is the next id of the system, and the key that a Remove names, unless it is
+-- refused, that of its queue
+abbrev pub NameWhatIsThere : Type 0
+NameWhatIsThere = (hash : RecordKey → ℕ) (seat : ℕ) (s : State) (m : CallView) (records : Records) (pool : PoolState)
+    (locks : Table) (change : Change) → m.stage ≡ Undecided → IsCalling hash seat s m records pool locks change →
+    AreNamesIn m.call m.undecided.questions.inquiry s m.undecided.questions.names
 
 -- a call that has not decided, and inserts nothing on trial yet, has begun no more searches than it may ask questions
 abbrev pub BeginFewSearches : Type 0

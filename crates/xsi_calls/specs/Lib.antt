@@ -10,6 +10,7 @@ pub mod MakeSteps
 pub mod WriteLaws
 pub mod QuestionWords
 pub mod Answering
+pub mod ToldNames
 pub mod Agreeing
 pub mod Counting
 pub mod Questions

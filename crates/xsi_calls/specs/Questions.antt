@@ -15,6 +15,7 @@ use Rattle.xsi_control.specs.declared.stage.Stage.TheVariants.{Keyed}
 use Rattle.xsi_calls.specs.declared.question.Question.{Question}
 use Rattle.xsi_calls.specs.QuestionWords.{RecordKey, Store, Lock, LockName, Known, Turn, HasEnded, ToFind, AccessView, Serves, access_answer, access_facts, access_key, access_left, access_locks, access_pseudokey, access_turn, has_set_out, searches_under, AnyInquiry, KnowsOf, asked_of, left_of, plan_of, names_in, names_for, MAX_NAMES, Begins, name_turn, names_left, NameTurn, Take, GiveBack, Ready, Call, State, Wanted, IsSoNear, IsFiled, Roomful}
 use Rattle.xsi_calls.specs.Answering.{MayRead, key_asked}
+use Rattle.xsi_calls.specs.ToldNames.{AreTold}
 
 pub record QuestionsView : Type 0 where
   pub inquiry : AnyInquiry
@@ -171,6 +172,8 @@ pub record IsRight (hash : RecordKey → ℕ) (call : Call) (v : QuestionsView) 
       Begins v.names (names_for call v.inquiry) ⊎ KnowsItsKey call v.inquiry
   -- and at each place they are names of the call
   pub names : AreNamesOf call v.names
+  -- the queue of a Get and the key of a Remove are those that it was told
+  pub told : AreTold call v.inquiry v.names
   -- so others don't change what it knows
   pub apart : KnowsApart call v.inquiry v.room v.names
   -- it begins one search a question: those that it has begun, with the questions that are left, are at most as many as

@@ -2,7 +2,7 @@
 
 ghost use Rattle.std.specs.Prelude.{◌+◌, ◌<◌};
 ghost use Rattle.xsi_calls.specs.FileLocks.{HoldTheirFileLocks};
-ghost use Rattle.xsi_calls.specs.Laws.{BeginFewSearches, BeginRight, HaveFewSteps, HaveFewStepsLeft, HoldTheirNames, MOST_CALL_STEPS, MOST_STEPS_LEFT, ReceiveByThree};
+ghost use Rattle.xsi_calls.specs.Laws.{BeginFewSearches, BeginRight, HaveFewSteps, HaveFewStepsLeft, HoldTheirNames, MOST_CALL_STEPS, MOST_STEPS_LEFT, NameWhatIsThere, ReceiveByThree};
 
 use crate::undecided_laws::calls_decide_in_few_steps;
 
@@ -25,6 +25,12 @@ pub fn calls_have_few_steps_left()
 /// in their kinds.
 pub fn calls_hold_their_names()
     ensures { HoldTheirNames }
+{}
+
+/// Until its Decide the queue that a Get names is the next id of the system, so its own, and the key
+/// that a Remove names, unless it is refused, is that of its queue.
+pub fn calls_name_what_is_there()
+    ensures { NameWhatIsThere }
 {}
 
 /// Of the file a call holds at each of its places exactly the locks that it asks for there: the

@@ -38,7 +38,7 @@ pub use held_laws::{a_turn_is_made_for_the_names, turns_come_to_an_end};
 pub use held_names::HeldNames;
 pub use laws::{
     a_call_begins_few_searches, calls_begin_right, calls_have_few_steps, calls_have_few_steps_left,
-    calls_hold_their_file_locks, calls_hold_their_names,
+    calls_hold_their_file_locks, calls_hold_their_names, calls_name_what_is_there,
 };
 pub use payment_laws::{
     a_payment_owes_what_is_held, a_payment_that_is_over_owes_nothing, what_is_decided_is_paid,

@@ -4,6 +4,7 @@ use Rattle.std.specs.Prelude.{◌==◌, if◌then◌else◌}
 use Rattle.std.proofs.lemmas.Bool.{true≢false}
 use Rattle.file_pages.specs.declared.fault.FileFault.{FileFault}
 use Rattle.file_pages.specs.declared.fault.FileFault.TheVariants.{Failed}
+use Rattle.record_file.proofs.of_stale_search.CauseLemmas.{no_transfer, told_cause}
 use Rattle.xsi_remove.specs.declared.work.Deed.{Deed}
 use Rattle.xsi_remove.specs.declared.work.Deed.TheVariants.{Reading, DeletingMessage, DeletingType}
 use Rattle.xsi_remove.specs.declared.work.Next.{Next}
@@ -94,9 +95,8 @@ nears_next Ended left left' more all pool pool' moved less near = absurd cc
 
 -- ---- faults
 
--- what no page may say is not the fault of a transfer
 pub failed_cause : (pool pool' : PoolState) → StepHasCause (Fault Failed) pool pool'
-failed_cause pool pool' fault is = λ same. absurd cc
+failed_cause pool pool' = told_cause Failed pool pool' (no_transfer pool pool')
 
 pub faulted : {b : Bool} (pool pool' : PoolState) → OnlyWrites b pool pool' → OnlyWrites false pool pool'
 faulted pool pool' writes = record {

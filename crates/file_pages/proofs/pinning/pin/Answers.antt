@@ -1,6 +1,6 @@
 -- A page of a file is not pinned only where the device failed.
 use Rattle.std.proofs.Common.{length}
-use Rattle.file_pages.proofs.ReadLemmas.{not_past, pin_fails}
+use Rattle.file_pages.proofs.ReadLemmas.{not_past, pin_fails, pin_has_cause}
 use Rattle.file_pages.proofs.pinning.pin.Goals as goal
 
 pub returns-in-Err-clause-fault : goal.returns-in-Err-clause-fault
@@ -21,3 +21,8 @@ returns-in-Ok-clause-ok g c =
       stored = e.keeps.stored;
       later = e.cause.later;
     }
+
+pub returns-in-Err-clause-cause : goal.returns-in-Err-clause-cause
+returns-in-Err-clause-cause g c =
+    let e = c.in-Err.ensures in
+    pin_has_cause c.in-Err.fault c.args.pool.now _ _ c.requires.ready e.crowded.0 e.cause.told e.cause.failed

@@ -1,5 +1,5 @@
 -- The last image of the page is what stands there.
-use Rattle.std.proofs.Common.{rules, ◌≡◌, ◌<◌, inl, inr, ℕ, length, get_or}
+use Rattle.std.proofs.Common.{rules, ◌≡◌, ◌<◌, inl, inr, length, get_or}
 use Rattle.std.proofs.lemmas.Option.{slice_get-get_or}
 use Rattle.safe_device.proofs.Restoring.{laid_over, no_image}
 use Rattle.safe_device.proofs.device.overlay.Goals as goal

@@ -1,5 +1,5 @@
 -- Each image is of a page that was there.
-use Rattle.std.proofs.Common.{rules, ◌≡◌, ◌+◌, ◌<◌, ◌≤◌, ◌++◌, sym, subst, ℕ, List, take, All}
+use Rattle.std.proofs.Common.{rules, ◌<◌, ◌≤◌, sym, subst, List, take, All}
 use Rattle.std.proofs.lemmas.List.Elements.{All-push}
 use Rattle.safe_device.specs.Left.{images_of}
 use Rattle.safe_device.specs.declared.journal.PageImage.{PageImage}

@@ -1,6 +1,6 @@
 -- An image that is put back changes nothing of what recovery gives.
-use Rattle.std.proofs.Common.{◌≡◌, ◌∙◌, ap, sym, subst, refl, ℕ, Option, length, IsTrue, is_some}
-use Rattle.safe_device.specs.Left.{put_back, images_of}
+use Rattle.std.proofs.Common.{◌∙◌, ap, sym, subst, refl, Option, length, IsTrue, is_some}
+use Rattle.safe_device.specs.Left.{images_of}
 use Rattle.safe_device.specs.Safe.{IsLeftBefore, IsRestoring}
 use Rattle.safe_device.specs.declared.journal.Journal.{Journal}
 use Rattle.safe_device.proofs.Moments.{first, goes_on, joined}

@@ -1,5 +1,5 @@
 -- An image is written over a page that has it.
-use Rattle.std.proofs.Common.{◌≡◌, ◌∙◌, ap, sym, subst, ℕ, Option, Some, slice_get, set, IsTrue}
+use Rattle.std.proofs.Common.{◌≡◌, ◌∙◌, ap, sym, subst, Option, Some, slice_get, set, IsTrue}
 use Rattle.safe_device.specs.Left.{images_of}
 use Rattle.safe_device.specs.declared.journal.Journal.{Journal}
 use Rattle.safe_device.specs.declared.journal.PageImage.{PageImage}

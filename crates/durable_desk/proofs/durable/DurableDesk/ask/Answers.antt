@@ -19,4 +19,4 @@ invariant_of-self g c =
     c.self.inside.device b) (sym is)
     (asked_durable g.P.PagePair.is_honest g.P.PagePair.may_leave c.self.inside.desk c.ask-reply.new.self
     c.self.inside.device (record { client = c.args.client; caller = c.args.caller; call = c.args.call })
-    c.ask-reply.result had c.self.invariant c.ask-reply.ensures)
+    c.ask-reply.result had c.self.invariant c.ask-reply.ensures.asks)

@@ -4,6 +4,7 @@ use Rattle.std.proofs.Common.{rules, refl, sym, ap, subst, true, false, ◌∙�
 use Rattle.std.proofs.lemmas.Result.{err_from_is_err_and}
 use Rattle.std.proofs.lemmas.List.{length-take-le, take_at}
 use Rattle.file_pages.specs.declared.fault.FileFault.TheVariants.{Failed}
+use Rattle.record_file.proofs.of_stale_search.CauseLemmas.{no_transfer}
 use Rattle.record_file.proofs.ReadLemmas.{copied_whole, front_of, read_fails, short_value, some_of}
 use Rattle.record_file.proofs.TakingLemmas.{answer_of_find, front_fails, front_takes, too_short, unread, value_fails, value_takes}
 use Rattle.record_file.specs.AccessWords.{RecordKey, SpellsRecord, value_of}
@@ -30,7 +31,7 @@ returns-then-len-gt-MAX_VALUE_BYTES g c =
     let finds = answer_of_find a.operation c.in-Find.field-0 c.in-Find.is ∙ at in
     let gt = c.if-len-gt-MAX_VALUE_BYTES.true in
     rw (← c.self.view_is) (value_fails a.operation a.links a.value a.value a.written c.in-Some.page c.in-Some-found.len
-    finds c.args.pool.now c.copy_value.new.pool Failed true c.in_ok-copied-in-Find.ensures.reads (λ same. absurd cc)
+    finds c.args.pool.now c.copy_value.new.pool Failed true c.in_ok-copied-in-Find.ensures.reads (no_transfer _ _)
     (λ r sees holds len spells. let short = short_value r spells.in_range in absurd (omega (arith, gt, short, len))))
 
 pub returns-then-is_err : goal.returns-then-is_err
@@ -40,7 +41,7 @@ returns-then-is_err g c =
     let finds = answer_of_find a.operation c.in-Find.field-0 c.in-Find.is ∙ at in
     let fits = c.if-len-gt-MAX_VALUE_BYTES.false in
     rw (← c.self.view_is) (value_fails a.operation a.links a.value a.value a.written c.in-Some.page c.in-Some-found.len
-    finds c.args.pool.now c.copy_value.new.pool Failed true c.in_ok-copied-in-Find.ensures.reads (λ same. absurd cc)
+    finds c.args.pool.now c.copy_value.new.pool Failed true c.in_ok-copied-in-Find.ensures.reads (no_transfer _ _)
     (λ r sees holds len spells.
     let copies = c.in_ok-copied-in-Find.ensures.ok sees.honest in
     let here = copied_whole c.in-Some-found.len copies (search rules) (omega (arith, fits)) in
@@ -73,7 +74,7 @@ returns-then-len-bytes g c =
     let size = c.front_bytes-bytes.ensures in
     rw (← c.self.view_is, c.in-Some-Some.is-0) (front_fails a.operation c.in-Some-Some.links a.value a.written
     c.in-Some.page c.in-Some-Some.len at replace c.args.pool.now c.args.pool.now Failed a.value
-    (unread c.args.pool.now c.requires.ready) (λ same. absurd cc)
+    (unread c.args.pool.now c.requires.ready) (no_transfer _ _)
     (λ r sees such value long. too_short a.operation c.in-Some-Some.links a.value a.written c.in-Some.page
     c.in-Some-Some.len at replace c.args.pool.now c.args.pool.now (omega (arith, less, size)) r such long))
 

@@ -1,5 +1,5 @@
 -- Until a transfer has failed the file is safe, and has all its pages.
-use Rattle.std.proofs.Common.{rules, ◌≡◌, ◌≤◌, ◌∙◌, ap, arith}
+use Rattle.std.proofs.Common.{rules, ◌∙◌, ap, arith}
 use Rattle.safe_device.specs.Device.{DeviceState}
 use Rattle.safe_device.proofs.DeviceLemmas.{written_length}
 use Rattle.safe_device.proofs.Restoring.{others_longer}

@@ -1,5 +1,5 @@
 -- One page waits that did not, whatever the files.
-use Rattle.std.proofs.Common.{rules, ◌≡◌, ◌++◌, [], ◌∷◌, ◌∙◌, ap, sym, subst, ℕ, List}
+use Rattle.std.proofs.Common.{rules, ◌≡◌, ◌++◌, [], ◌∷◌, ◌∙◌, ap, sym, subst, List}
 use Rattle.page_device.specs.Device.{DiffersAtMostAt}
 use Rattle.safe_device.specs.Device.{DeviceState, content_of}
 use Rattle.safe_device.specs.declared.journal.PageImage.{PageImage}

@@ -1,7 +1,6 @@
 -- A page that is written is one of those that may differ.
-use Rattle.std.proofs.Common.{rules, ◌≡◌, ◌<◌, ◌∙◌, ap, sym, ℕ, length, get_or, set, IsTrue}
+use Rattle.std.proofs.Common.{rules, ◌<◌, ◌∙◌, ap, sym, length, get_or, set, IsTrue}
 use Rattle.std.proofs.lemmas.Option.{slice_get-get_or}
-use Rattle.safe_device.specs.Safe.{committed}
 use Rattle.safe_device.proofs.Moments.{joined}
 use Rattle.safe_device.proofs.Restoring.{Pages, no_image, number_found, put_back_found, torn_hidden}
 use Rattle.safe_device.proofs.guarded_file.GuardedFile.write_each.Goals as goal

@@ -1,9 +1,9 @@
-use Rattle.std.proofs.Common.{◌≡◌, ◌++◌, [], ◌∷◌, ◌∙◌, ap, sym, subst, ℕ, List}
+use Rattle.std.proofs.Common.{◌≡◌, ◌++◌, [], ◌∷◌, ◌∙◌, ap, sym, subst, List}
 use Rattle.safe_device.specs.Crash.{Follows, LongerBy}
 use Rattle.safe_device.specs.Memory.{MayLeave}
-use Rattle.safe_device.specs.declared.memory.FileChange.{FileChange}
-use Rattle.safe_device.specs.declared.memory.FileChange.TheVariants.{Added}
-use Rattle.safe_device.specs.declared.memory.Snapshot.{Snapshot}
+use Rattle.safe_device.specs.declared.snapshot.FileChange.{FileChange}
+use Rattle.safe_device.specs.declared.snapshot.FileChange.TheVariants.{Added}
+use Rattle.safe_device.specs.declared.snapshot.Snapshot.{Snapshot}
 use Rattle.safe_device.proofs.Kept.{changed, elapses, push_follows}
 use Rattle.safe_device.proofs.Restoring.{Pages}
 use Rattle.safe_device.proofs.memory.MemPairPagePair.extend.Goals as goal

@@ -1,9 +1,9 @@
-use Rattle.std.proofs.Common.{◌≡◌, ◌++◌, [], ◌∷◌, ◌∙◌, ap, sym, subst, ℕ, List, set}
+use Rattle.std.proofs.Common.{◌≡◌, ◌∙◌, ap, sym, subst, List, set}
 use Rattle.safe_device.specs.Crash.{Follows, TornAt}
 use Rattle.safe_device.specs.Memory.{MayLeave}
-use Rattle.safe_device.specs.declared.memory.FileChange.{FileChange}
-use Rattle.safe_device.specs.declared.memory.FileChange.TheVariants.{Stored}
-use Rattle.safe_device.specs.declared.memory.Snapshot.{Snapshot}
+use Rattle.safe_device.specs.declared.snapshot.FileChange.{FileChange}
+use Rattle.safe_device.specs.declared.snapshot.FileChange.TheVariants.{Stored}
+use Rattle.safe_device.specs.declared.snapshot.Snapshot.{Snapshot}
 use Rattle.safe_device.proofs.Kept.{changed, elapses, set_follows}
 use Rattle.safe_device.proofs.Restoring.{Pages}
 use Rattle.safe_device.proofs.memory.MemPairPagePair.store.Goals as goal

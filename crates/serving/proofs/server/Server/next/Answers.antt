@@ -8,13 +8,20 @@ use Rattle.serving.proofs.server.Server.next.Goals as goal
 pub returns-in_default : goal.returns-in_default
 returns-in_default g c =
     rw (← c.self.view_is) (goes_untold g.P.PagePair.is_honest g.P.PagePair.moment g.P.PagePair.left_since g.P.PagePair.may_leave _ _
-    refl (Does (Next None)) (record { happens = c.in_default.ensures.tells; file = c.in_default.ensures.file }) refl refl
-    refl)
+    refl (Does (Next None c.in_default.ensures.tells.noted)) (record {
+      happens = c.in_default.ensures.tells.tells;
+      file = c.in_default.ensures.file;
+      notes = c.in_default.ensures.tells.notes;
+    }) refl refl refl)
 
 -- or the first
 pub returns : goal.returns
 returns g c =
     rw (← c.self.view_is) (goes_told g.P.PagePair.is_honest g.P.PagePair.moment g.P.PagePair.left_since g.P.PagePair.may_leave _ _
-    c.in_ok-tell.ensures.same c.next.new.self (Does (Next (Some c.in-Some.told)))
-    (record { happens = c.in-Some.ensures.tells; file = c.in-Some.ensures.file }) c.in_ok-tell.ensures.sound
+    c.in_ok-tell.ensures.same c.next.new.self (Does (Next (Some c.in-Some.told) c.in-Some.ensures.tells.noted))
+    (record {
+      happens = c.in-Some.ensures.tells.tells;
+      file = c.in-Some.ensures.file;
+      notes = c.in-Some.ensures.tells.notes;
+    }) c.in_ok-tell.ensures.sound
     c.in_ok-tell.ensures.desk c.in_ok-tell.ensures.told)

@@ -2,6 +2,7 @@ use Rattle.std.proofs.Common.{refl}
 use Rattle.desk.specs.Desk.{is_of}
 use Rattle.desk.specs.History.{Withdrawn}
 use Rattle.durable_desk.specs.History.{Does}
+use Rattle.call_entries.proofs.LogLemmas.{as_it_was}
 use Rattle.serving.proofs.ServingLemmas.{goes_untold}
 use Rattle.serving.proofs.server.Server.withdraw.Goals as goal
 
@@ -9,4 +10,8 @@ pub returns : goal.returns
 returns g c =
     rw (← c.self.view_is) (goes_untold g.P.PagePair.is_honest g.P.PagePair.moment g.P.PagePair.left_since g.P.PagePair.may_leave _ _
     refl (Does (Withdrawn (is_of c.args.client) c.cancel.result))
-    (record { happens = c.cancel.ensures.cancels; file = c.cancel.ensures.file }) refl refl refl)
+    (record {
+      happens = c.cancel.ensures.cancels;
+      file = c.cancel.ensures.file;
+      notes = as_it_was _ _ c.cancel.ensures.log;
+    }) refl refl refl)

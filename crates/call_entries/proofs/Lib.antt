@@ -1,0 +1,4 @@
+pub mod LogLemmas
+pub mod EntryLemmas
+pub mod ReadLemmas
+pub mod RuleLemmas

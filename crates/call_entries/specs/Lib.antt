@@ -1,0 +1,4 @@
+pub mod Entries
+pub mod Log
+pub mod Reading
+pub mod Laws

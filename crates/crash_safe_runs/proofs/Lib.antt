@@ -1,0 +1,6 @@
+pub mod CrashLemmas
+pub mod EndLemmas
+pub mod ScriptLemmas
+pub mod CommandLemmas
+pub mod ReplayLemmas
+pub mod BesideLemmas

@@ -1,0 +1,2 @@
+pub mod Deferred
+pub use Rattle.safe_device.specs as safe_device
