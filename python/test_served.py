@@ -61,7 +61,8 @@ def calls(queues):
     return queue
 
 
-def many(queue):
+def many(queues):
+    queue = queues.get(8, create=True)
     serials = queue.send_all([b"%d" % n for n in range(70)], type=6)
     expect(serials, list(range(serials[0], serials[0] + 70)), "seventy at once")
     expect([int(message.body) for message in queue], list(range(70)), "in their order")
@@ -150,7 +151,7 @@ with msgq.connect(path + ".socket") as queues:
     expect(queues.is_served, True, "a server")
 queues = msgq.attach(path)
 queue = calls(queues)
-many(queue)
+many(queues)
 reservations(queue)
 signals(queue)
 processes(queues, queue)

@@ -35,7 +35,8 @@ unless_refused false e = sym (append-nil (entry_bytes e))
 
 pub noted_is : (caller : Caller) (call : Call) (answer : Option Answer) (old mid new : LogState) →
     Begins caller call old mid → Ends answer mid new → Notes (noted caller call answer) old new
-noted_is caller call answer old mid new begins ends = then_notes (noted caller call answer) old mid new begins.notes (record {
+noted_is caller call answer old mid new begins ends = then_notes (noted caller call answer) old mid new begins.notes
+    (record {
   whole = ends.whole;
   bytes = λ whole.
       ends.bytes whole
@@ -75,7 +76,8 @@ is_ended old new answer begun told is whole = record {
 
 -- the entries end where the bytes do
 at_end : (end : ℕ) (items : List ℕ) → end ≤ length items → drop end items ≡ [] → length items ≡ end
-at_end end items within none = let long = length-drop end items in let nothing = ap length none in omega (arith, within, long, nothing)
+at_end end items within none = let long = length-drop end items in let nothing = ap length none in
+    omega (arith, within, long, nothing)
 
 -- a call is written down behind them
 module _ (old mid new : LogState) (caller : Caller) (call : Call) (end : ℕ) (items more : List ℕ)

@@ -113,7 +113,8 @@ module _ (c : Caller) (s : State) where
   comes_again (Get a) = got_by a a.key
   comes_again (Send a) =
       where_test (int_lt a.mtype (pos 1) || nat_lt MAX_BODY (length a.body)) (refuse EINVAL s)
-      (on_queue a.id s (send_to c a s)) (refuse EINVAL (running s)) (on_queue a.id (running s) (send_to c a (running s)))
+      (on_queue a.id s (send_to c a s)) (refuse EINVAL (running s))
+      (on_queue a.id (running s) (send_to c a (running s)))
       (refused EINVAL s (refuse EINVAL (running s)))
       (where_queue a.id s (send_to c a s) (send_to c a (running s)) (λ q.
       let after = with_queue a.id (with_message c.pid a q) s in

@@ -102,7 +102,8 @@ module _ (Is : Asking (List ℕ)) (c : Caller) (x : SessionState) (content : Pag
   }
 
   -- it is always closed
-  pub comes_to_close : (text : List ℕ) (error : CommandError) → Comes (λ s. Stands content c s x) (λ call s. Lacks content c call s x) Is (Ok text) →
+  pub comes_to_close : (text : List ℕ) (error : CommandError) → Comes (λ s. Stands content c s x)
+      (λ call s. Lacks content c call s x) Is (Ok text) →
       ((s : State) → RestsOver sha_key s x.kernel → IsClosed x.kernel (Err error)) → ComesTo c Is content (Err error)
   comes_to_close text error comes closed = absurd (closed comes.system comes.stands.rests)
 
@@ -138,7 +139,8 @@ never_unprinted c r content (errors.Unclosed fault) P asks = tt
 -- ---- it ends on the device
 
 module _ (c : Caller) (content left : Pages) (old new : Option (List ℕ)) (was mid now : ℕ) where
-  ended : was ≤ mid → (Is : Asking (List ℕ)) (asked : Asked) (came : Result Unit CommandError) → IsAsked Is content asked →
+  ended : was ≤ mid → (Is : Asking (List ℕ)) (asked : Asked) (came : Result Unit CommandError) → IsAsked Is content
+      asked →
       EndsWith asked left (seen old new mid now) came → EndsAs c Is content left (seen old new was now) came
   ended before Is asked (Ok done) is ends = (
     record {

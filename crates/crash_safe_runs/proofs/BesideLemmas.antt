@@ -147,7 +147,8 @@ module _ {P : Type 0} (honest : Bool) (moment : P → ℕ) (left_since : P → �
         (done_to start.pages start.failed first untold pages new.is_synced new.failed told) ended new.pair)
         (sym commits.same)
         record {
-          run = beside_brought script honest start.pages start.failed first untold old.content due old.failed said ending
+          run = beside_brought script honest start.pages start.failed first untold old.content due old.failed said
+              ending
               new.is_synced new.failed told ended None run none (λ is. none_some FAILED is) no_number
               (no_reason honest start.failed new.failed) (λ _ sure. commits.synced sure refl)
               (says.0 ∙ last.0, says.1 ∙ last.1);
@@ -161,7 +162,8 @@ module _ {P : Type 0} (honest : Bool) (moment : P → ℕ) (left_since : P → �
         (done_to start.pages start.failed first untold pages new.is_synced new.failed told) ended new.pair)
         (sym commits.same)
         record {
-          run = beside_brought script honest start.pages start.failed first untold old.content due old.failed said ending
+          run = beside_brought script honest start.pages start.failed first untold old.content due old.failed said
+              ending
               new.is_synced new.failed told ended (Some DEVICE) run none device_failed is_device
               (its_reason honest start.failed new.failed (commits.failed refl)) (λ is sure. absurd cc)
               (subst (λ (o : OutputState). IsFaultAlone DEVICE o told ended) last.0 says);

@@ -71,7 +71,8 @@ module _ {P : Type 0} (honest : Bool) (file : P → Pages) (journal : P → Opti
       -- a write or an extension commits nothing
       stays : (succeeded : Bool) (old new : DeviceState P) (broken : Bool) → old.is_broken ≡ broken →
           StaysCommitted honest file journal moment left_since succeeded old new →
-          IsLent honest moment left_since start left old → IsTrue honest → Since (StandsFor (alone start.pages)) new.pair
+          IsLent honest moment left_since start left old → IsTrue honest → Since (StandsFor (alone start.pages))
+          new.pair
       stays succeeded old new true was call lent sure =
           subst (Since (StandsFor (alone start.pages))) (sym (call.broken was).0) (lent.leaves sure)
       stays succeeded old new false was call lent sure =
@@ -101,7 +102,8 @@ module _ {P : Type 0} (honest : Bool) (file : P → Pages) (journal : P → Opti
           })
       either succeeded old new false was call lent sure =
           let so_far = lent.leaves sure in
-          since old.pair new.pair _ _ (IsEither (alone start.pages) (alone old.content)) so_far (call.any_moment sure was)
+          since old.pair new.pair _ _ (IsEither (alone start.pages) (alone old.content)) so_far
+          (call.any_moment sure was)
           (λ c is. inl is)
           (λ c is. ⊎_elim (λ then. inl (then ∙ still_committed old.pair sure so_far)) (λ now. inr now) is)
 

@@ -247,7 +247,8 @@ module _ {K : Type 0} (of : K → RecordKey → ℕ) (seat : ℕ) (slot : Option
   asked_at_once still ends_is marked undecided asks =
       left_by 7 old.locks (marked ∙ ap (λ (c : Option Conclusion). decided_by c many a.decided)
       (sym (undecided_at a.machine.stage undecided)))
-      (seven_steps of seat old whole is sound a its_call (none_is a.wait awake) kept noted ended has notes ends over still
+      (seven_steps of seat old whole is sound a its_call (none_is a.wait awake) kept noted ended has notes ends over
+      still
       m (asks old.stopped) ends_is)
 
   -- by a write that went to its page so, by which its call is marked as by a step

@@ -67,7 +67,8 @@ module _ {K : Type 0} (law : AnswersByTheRules K) (hash : RecordKey → ℕ) (se
         lacks_room then_served.active.machine ≡ true → Cause
     by_machine (progress.Moved k) come makes there told lacks = short (lacks_room was) refl
       where
-        does : StepsCall {F = FileFault} hash seat lone.now (progress.Moved k) was come.machine lone.together.records before.pool
+        does : StepsCall {F = FileFault} hash seat lone.now (progress.Moved k) was come.machine lone.together.records
+            before.pool
             after.pool before.locks after.locks lone.together.change
         does = makes.step lone.now lone.together.records lone.together.change
             (under_way hash seat caller call s was before.pool before.locks lone).calls (lone.mark ∙ way.served.mark)

@@ -105,7 +105,8 @@ module _ (many : ℕ) where
   -- those before a place were refused, and nobody has begun at the others
   pub record IsRefusing (old now : List DeskView) (count : ℕ) : Type 0 where
     pub as_many : length now ≡ length old
-    pub refused : (place : ℕ) → place < count → place < length old → IsMadeOf many (desk_at old place) (desk_at now place)
+    pub refused : (place : ℕ) → place < count → place < length old → IsMadeOf many (desk_at old place)
+        (desk_at now place)
     pub left : (place : ℕ) → count ≤ place → desk_at now place ≡ desk_at old place
 
   pub refusing_starts : (old : List DeskView) → IsRefusing old old 0

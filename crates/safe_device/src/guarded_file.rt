@@ -38,7 +38,7 @@ impl<P: PagePair> GuardedFile<P> {
         ensures safe { IsTrue P.is_honest → IfOk result (IsSafe P.file P.journal P.may_leave) }
         ensures same { IfOk result (λ made. made.pair ≡ pair) }
         ensures none { IfOk result (λ made. made.guarded.items ≡ []) }
-        ensures whole { IsTrue P.is_honest → IfOk result (λ made. made.count ≡ length (P.file pair)) }
+        ensures whole { IsTrue P.is_honest → IfOk result (λ it. it.count ≡ length (P.file pair)) }
     {
         let guarded = Vec::with_capacity(alloc, MAX_PAGES as usize)?;
         let begun = pair.calls() > 0;

@@ -67,7 +67,8 @@ module _ {P : Type 0} (honest : Bool) (moment : P → ℕ) (left_since : P → �
       happen = subst
           (λ (es : List Event). HappenAlong honest moment left_since may_leave es first.desk new.desk)
           (sym (events_then comes.deeds (Says client note) ∙ append-nil (events comes.deeds)))
-          (subst (λ (d : DurableState P). HappenAlong honest moment left_since may_leave (events comes.deeds) first.desk d)
+          (subst (λ (d : DurableState P). HappenAlong honest moment left_since may_leave (events comes.deeds)
+          first.desk d)
           (sym same) comes.happen);
       none_fails = subst NoneFails
           (sym (events_then comes.deeds (Says client note) ∙ append-nil (events comes.deeds))) comes.none_fails;

@@ -147,7 +147,8 @@ module _ (hash : RecordKey → ℕ) (seat : ℕ) (call : Call) (i : AnyInquiry) 
           grows = λ asks. subst (λ (ls : List Lock). Begins ls (names_for call j) ⊎ KnowsItsKey call j) (sym was.names)
               (grows_on call i j (some_not_none (asked_of call i) was.wanted was.asked) asks
               (h.hears.fewer hears.0) (h.hears.follows hears.0));
-          named = subst (AreTold call j) (sym was.names) (told_on call i j was.wanted was.asked (h.hears.follows hears.0));
+          named = subst (AreTold call j) (sym was.names)
+              (told_on call i j was.wanted was.asked (h.hears.follows hears.0));
           apart = Holds (subst (λ (ls : List Lock). HoldsOwn call (names_in ls)) (sym was.names)
               (own_names call i room s (f.knows s f.agrees.filed (agrees_itself call _ s))));
           knows = hears.1;

@@ -31,8 +31,8 @@ HoldTheirNames = (hash : RecordKey → ℕ) (seat : ℕ) (s : State) (m : CallVi
     (locks : Table) (change : Change) → IsCalling hash seat s m records pool locks change →
     AreNamesOf m.call m.undecided.questions.names
 
--- until its Decide the queue that a Get names is the next id of the system, and the key that a Remove names, unless it is
--- refused, that of its queue
+-- until its Decide the queue that a Get names is the next id of the system, and the key that a Remove names, unless it
+-- is refused, that of its queue
 abbrev pub NameWhatIsThere : Type 0
 NameWhatIsThere = (hash : RecordKey → ℕ) (seat : ℕ) (s : State) (m : CallView) (records : Records) (pool : PoolState)
     (locks : Table) (change : Change) → m.stage ≡ Undecided → IsCalling hash seat s m records pool locks change →

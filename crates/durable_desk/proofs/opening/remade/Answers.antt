@@ -11,5 +11,6 @@ returns-in_default-clause-made g c =
 -- or not
 pub returns-clause-refused : goal.returns-clause-refused
 returns-clause-refused g c =
-    refused_read g.P.PagePair.is_honest c.args.device.now c.read_all.new.device c.in-Err-make_again.why c.read_all.ensures.same
+    refused_read g.P.PagePair.is_honest c.args.device.now c.read_all.new.device c.in-Err-make_again.why
+    c.read_all.ensures.same
     c.in-Err-make_again.ensures.refused

@@ -15,5 +15,6 @@ abbrev pub invariant-loop-work : goal.invariant-loop-work
 invariant-loop-work g l =
     (goal.iterator-loop-work g).can_next l.work-iterator ×
     (goal.iterator-loop-work g).is_finite l.work-iterator ×
-    IsLeading (IsMadeOf (length g.N.Base.origin.callers)) l.fn.desks.items l.work-iterator.rest.items l.work-iterator.rest.len l.made.items
+    IsLeading (IsMadeOf (length g.N.Base.origin.callers)) l.fn.desks.items l.work-iterator.rest.items
+    l.work-iterator.rest.len l.made.items
     (vec_capacity l.made)

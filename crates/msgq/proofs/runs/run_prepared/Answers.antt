@@ -128,7 +128,8 @@ returns-clause-ran g c =
     let stopped = c.print_all-so_far.result.1 in
     let printed = subst (λ (l : List Line). IsPrintedOf l c.make_lines-desks.result.0.items c.args.output.now first
     c.print_all-so_far.result.0 stopped) c.lines-2.ensures
-    (subst (λ (l : List DeskView). IsPrintedOf c.lines-2.result.now l c.args.output.now first c.print_all-so_far.result.0
+    (subst (λ (l : List DeskView). IsPrintedOf c.lines-2.result.now l c.args.output.now first
+    c.print_all-so_far.result.0
     stopped) c.as_slice.ensures.value c.print_all-so_far.ensures) in
     let ended = subst (λ (l : List Sitter). HasEnded g.N.Base.origin l c.stop_if-stopper.result.used
     c.has_refused-is_untold.result c.end_service-ended.result.1

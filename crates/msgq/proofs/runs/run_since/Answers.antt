@@ -24,7 +24,8 @@ returns-clause-ran g c =
     let ending = c.run_on.result.ending in
     let ended = c.conclude.result.ending in
     let lent = c.new-device.result.device in
-    let first_effects = done_to lent.content lent.failed first untold old.device.content old.is_due old.device.failed said
+    let first_effects = done_to lent.content lent.failed first untold old.device.content old.is_due old.device.failed
+        said
     in
     let same = ap (λ (d : DeferredState g.row.P.Denot). d.device) c.new-device.ensures in
     to_device P.moment N.start c.args.device new c.requires.start (λ (e : Effects). RunsBesideOn script honest e ended)
@@ -35,7 +36,8 @@ returns-clause-ran g c =
     (from_lent P.moment N.start lent c.args.device c.requires.start same
     (λ (e : Effects). RunsBesideOn script honest e ending) first said untold old.device.content old.is_due
     old.device.failed
-    (subst (λ (one : Bool). RunsAsOne one script honest first_effects ending) c.requires.several c.run_on.ensures.ran))).runs
+    (subst (λ (one : Bool). RunsAsOne one script honest first_effects ending) c.requires.several
+    c.run_on.ensures.ran))).runs
 
 pub returns-clause-over : goal.returns-clause-over
 returns-clause-over g c =
@@ -52,7 +54,8 @@ returns-clause-over g c =
     let ending = c.run_on.result.ending in
     let ended = c.conclude.result.ending in
     let lent = c.new-device.result.device in
-    let first_effects = done_to lent.content lent.failed first untold old.device.content old.is_due old.device.failed said
+    let first_effects = done_to lent.content lent.failed first untold old.device.content old.is_due old.device.failed
+        said
     in
     let same = ap (λ (d : DeferredState g.row.P.Denot). d.device) c.new-device.ensures in
     to_device P.moment N.start c.args.device new c.requires.start (λ (e : Effects). RunsSeatsOver honest P.moment
@@ -64,4 +67,5 @@ returns-clause-over g c =
     (from_lent P.moment N.start lent c.args.device c.requires.start same
     (λ (e : Effects). RunsBesideOn script honest e ending) first said untold old.device.content old.is_due
     old.device.failed
-    (subst (λ (one : Bool). RunsAsOne one script honest first_effects ending) c.requires.several c.run_on.ensures.ran))).over
+    (subst (λ (one : Bool). RunsAsOne one script honest first_effects ending) c.requires.several
+    c.run_on.ensures.ran))).over

@@ -18,7 +18,8 @@ returns-in-Ok g c = λ content a s stands answers.
     let before = subst (λ (x : SessionState). Stands content a s x) (sym c.self.view_is) stands in
     answers_call c.a_lone_call_is_answered_by_the_rules.ensures content a c.args.call s inside.fault inside.kernel
     c.shorten.new.kernel c.begin.new.self c.drive.new.self c.shorten.ensures.renewed c.is_whole.ensures
-    (ap length c.shorten.ensures.callers ∙ c.self.invariant) before c.in_default.ensures.ok c.drive.ensures.run.rest c.drive.result c.in-Ok.answer inside.fault c.drive.ensures.driven
+    (ap length c.shorten.ensures.callers ∙ c.self.invariant) before c.in_default.ensures.ok c.drive.ensures.run.rest
+    c.drive.result c.in-Ok.answer inside.fault c.drive.ensures.driven
     (sym c.told.ensures ∙ c.in-Ok.is)
 
 -- or fails
@@ -28,5 +29,6 @@ returns-in-Err-told g c = λ content a s stands answers.
     let before = subst (λ (x : SessionState). Stands content a s x) (sym c.self.view_is) stands in
     lacks_answer c.a_lone_call_is_answered_by_the_rules.ensures content a c.args.call s inside.fault inside.kernel
     c.shorten.new.kernel c.begin.new.self c.drive.new.self c.shorten.ensures.renewed c.is_whole.ensures
-    (ap length c.shorten.ensures.callers ∙ c.self.invariant) before c.in_default.ensures.ok c.drive.ensures.run.rest c.drive.result c.in-Err-told.fault c.drive.ensures.driven answers
+    (ap length c.shorten.ensures.callers ∙ c.self.invariant) before c.in_default.ensures.ok c.drive.ensures.run.rest
+    c.drive.result c.in-Err-told.fault c.drive.ensures.driven answers
     (sym c.told.ensures ∙ c.in-Err-told.is)

@@ -8,7 +8,8 @@ use Rattle.serving.proofs.server.Server.ask.Goals as goal
 pub returns : goal.returns
 returns g c =
     let a : Asking = record { client = c.args.client; caller = c.args.caller; call = c.args.call } in
-    rw (← c.self.view_is) (goes_told g.P.PagePair.is_honest g.P.PagePair.moment g.P.PagePair.left_since g.P.PagePair.may_leave _ _
+    rw (← c.self.view_is) (goes_told g.P.PagePair.is_honest g.P.PagePair.moment g.P.PagePair.left_since
+    g.P.PagePair.may_leave _ _
     c.in_ok-tell.ensures.same c.ask-reply.new.self (Does (Asked a c.ask-reply.result))
     (record {
       happens = c.ask-reply.ensures.asks;

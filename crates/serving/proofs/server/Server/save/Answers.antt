@@ -5,6 +5,8 @@ use Rattle.serving.proofs.server.Server.save.Goals as goal
 
 pub returns-clause-goes : goal.returns-clause-goes
 returns-clause-goes g c =
-    rw (← c.self.view_is) (goes_untold g.P.PagePair.is_honest g.P.PagePair.moment g.P.PagePair.left_since g.P.PagePair.may_leave _ _
+    rw (← c.self.view_is) (goes_untold g.P.PagePair.is_honest g.P.PagePair.moment g.P.PagePair.left_since
+    g.P.PagePair.may_leave _ _
     refl (Commit (Ok tt))
-    (record { commits = c.in_ok-commit.ensures.becomes; any_moment = c.in_ok-commit.ensures.any_moment }) refl refl refl)
+    (record { commits = c.in_ok-commit.ensures.becomes; any_moment = c.in_ok-commit.ensures.any_moment }) refl refl
+        refl)

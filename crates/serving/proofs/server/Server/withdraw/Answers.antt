@@ -8,7 +8,8 @@ use Rattle.serving.proofs.server.Server.withdraw.Goals as goal
 
 pub returns : goal.returns
 returns g c =
-    rw (← c.self.view_is) (goes_untold g.P.PagePair.is_honest g.P.PagePair.moment g.P.PagePair.left_since g.P.PagePair.may_leave _ _
+    rw (← c.self.view_is) (goes_untold g.P.PagePair.is_honest g.P.PagePair.moment g.P.PagePair.left_since
+    g.P.PagePair.may_leave _ _
     refl (Does (Withdrawn (is_of c.args.client) c.cancel.result))
     (record {
       happens = c.cancel.ensures.cancels;

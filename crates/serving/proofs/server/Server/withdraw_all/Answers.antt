@@ -8,7 +8,8 @@ use Rattle.serving.proofs.server.Server.withdraw_all.Goals as goal
 
 pub returns : goal.returns
 returns g c =
-    rw (← c.self.view_is) (goes_untold g.P.PagePair.is_honest g.P.PagePair.moment g.P.PagePair.left_since g.P.PagePair.may_leave _ _
+    rw (← c.self.view_is) (goes_untold g.P.PagePair.is_honest g.P.PagePair.moment g.P.PagePair.left_since
+    g.P.PagePair.may_leave _ _
     refl (Does (Withdrawn (is_on_connection c.args.connection) c.leave.result))
     (record {
       happens = c.leave.ensures.leaves;
