@@ -2,8 +2,9 @@
 
 ghost use Rattle.msgq_cli.specs.Tasks.{HasPages};
 
+use crate::answered::Progress;
 use crate::crew::ThreadASeat;
-use crate::scripts::{run_file, serve};
+use crate::scripts::{Scripted, run_file, serve};
 use crash_safe_runs::{Sources, replay_file};
 use migration::{
     CopyRequest, GrowRequest, SalvageRequest, Size, copy_file, grow_file, salvage_file,
@@ -21,8 +22,15 @@ use std::time::Clock;
 /// What faults of lines are told of, where a script is run without a file.
 const MEMORY: &str = "the file in memory";
 
-/// Does what a command line asks for, and gives the exit status.
-pub fn fixed<R, W, E>(rt: &R, task: Task<'_>, output: &mut Output<W>, errors: &mut E) -> u8
+/// Does what a command line asks for, and gives the exit status. The output is one that tells the
+/// progress what was answered.
+pub fn fixed<R, W, E>(
+    rt: &R,
+    task: Task<'_>,
+    progress: &Progress<'_, R>,
+    output: &mut Output<W>,
+    errors: &mut E,
+) -> u8
 where
     R: Files<File = File> + AllocGlobal + Input + Clock + Eprint + Threads + Wait + Sync,
     W: Write + Drop,
@@ -31,7 +39,7 @@ where
 {
     // These two say themselves what became of their file.
     let is_run = matches!(&task, Task::Run { .. } | Task::Replay { .. });
-    let ending = perform(rt, task, output, errors);
+    let ending = perform(rt, task, progress, output, errors);
     output.flush();
     if let Some(error) = output.refusal() {
         if !is_run {
@@ -43,7 +51,13 @@ where
 
 /// Does what a command line asks for. Standard error is told what can be done with a file that is
 /// refused.
-fn perform<R, W, E>(rt: &R, task: Task<'_>, output: &mut Output<W>, errors: &mut E) -> Ending
+fn perform<R, W, E>(
+    rt: &R,
+    task: Task<'_>,
+    progress: &Progress<'_, R>,
+    output: &mut Output<W>,
+    errors: &mut E,
+) -> Ending
 where
     R: Files<File = File> + AllocGlobal + Input + Clock + Eprint + Threads + Wait + Sync,
     W: Write + Drop,
@@ -51,7 +65,7 @@ where
     requires pages { HasPages task }
 {
     let (file, ending) = match task {
-        Task::Serve => return serve_input(rt, output, errors),
+        Task::Serve => return serve_input(rt, progress, output, errors),
         Task::New { file, pages } => return new_file(rt, file, pages, output, errors),
         Task::Migrate { old, new } => {
             let size = Size::Migrated;
@@ -68,7 +82,11 @@ where
             let request = SalvageRequest { old, new, pages };
             return salvage_file(rt, request, output, errors);
         }
-        Task::Run { file, script } => (file.path, run_file(rt, file, script, output, errors)),
+        Task::Run { file, script } => {
+            let path = file.path;
+            let run = Scripted { file, script };
+            (path, run_file(rt, run, progress, output, errors))
+        }
         Task::Replay {
             file,
             script,
@@ -91,14 +109,19 @@ where
 }
 
 /// Runs the script of standard input on a file in memory.
-fn serve_input<R, W, E>(rt: &R, output: &mut Output<W>, errors: &mut E) -> Ending
+fn serve_input<R, W, E>(
+    rt: &R,
+    progress: &Progress<'_, R>,
+    output: &mut Output<W>,
+    errors: &mut E,
+) -> Ending
 where
     R: Files<File = File> + AllocGlobal + Input + Clock + Eprint + Threads + Wait + Sync,
     W: Write + Drop,
     E: Write + IsTerminal,
 {
     let crew = ThreadASeat::new(rt, rt.alloc(), errors.is_terminal());
-    let ending = serve(&crew, &mut rt.reader(), output, errors);
+    let ending = serve(&crew, progress, &mut rt.reader(), output, errors);
     complain_of_lines(MEMORY, None, output, errors);
     ending
 }

@@ -3,6 +3,7 @@
 
 #![tactic(auto)]
 
+mod answered;
 mod crew;
 mod fixed;
 mod input;
@@ -13,6 +14,7 @@ mod shell;
 mod stack;
 mod trouble;
 
+use answered::{Progress, Watched};
 use clap::Error;
 use clap::error::ErrorKind;
 use command_runs::read_command;
@@ -22,14 +24,15 @@ use numbers::faults;
 use shell::shell;
 use stack::has_stack;
 use std::fs::{File, OpenOptions};
-use std::io;
-use std::io::{BufWriter, Eprint, Write};
+use std::io::{BufWriter, Eprint, IsTerminal, Write};
 use std::os::fd::{AsRawFd, RawFd};
+use std::os::unix::fs::FileTypeExt;
 use std::process::ExitCode;
 use std::rt::Files;
 use std::sync::Wait;
 use std::thread::Threads;
 use std::time::Clock;
+use std::{fs, io};
 
 fn main(rt: HostRuntime) -> ExitCode {
     if !has_stack(rt.alloc()) {
@@ -66,11 +69,24 @@ where
         Ok(task) => task,
         Err(error) => return tell(rt, error),
     };
-    let Ok(writer) = BufWriter::new(alloc, io::writer(rt)) else {
+    let progress = Progress::new(threads, rt.stderr().is_terminal() && is_kept(rt));
+    let Ok(writer) = BufWriter::new(alloc, Watched::new(io::writer(rt), &progress)) else {
         return without_memory(rt);
     };
     let mut output = Output::new(writer);
-    ExitCode::from(fixed(threads, task, &mut output, &mut rt.stderr()))
+    ExitCode::from(fixed(threads, task, &progress, &mut output, &mut rt.stderr()))
+}
+
+/// Whether what is printed goes to a file or a device that is no terminal. Who reads a pipe may
+/// print on the terminal meanwhile.
+fn is_kept(rt: &HostRuntime) -> bool {
+    if rt.stdout().is_terminal() {
+        return false;
+    }
+    let Ok(found) = fs::metadata(rt, "/dev/stdout") else {
+        return false;
+    };
+    found.is_file() || found.file_type().is_char_device()
 }
 
 /// Takes the place of a standard stream that is closed, so that no file which is opened later gets

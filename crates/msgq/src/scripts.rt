@@ -3,6 +3,7 @@
 ghost use Rattle.std.specs.Prelude.{◌≡◌};
 ghost use Rattle.replays.specs.Beside.{RunsInputNew, RunsTextNew};
 
+use crate::answered::Progress;
 use crate::crew::ThreadASeat;
 use crate::runs::{run_on, run_over};
 use msgq_cli::record_file::format;
@@ -23,6 +24,13 @@ use std::time::Clock;
 /// What the faults of a file in memory are told of.
 const MEMORY: &str = "the file in memory";
 
+/// A script and the file on which it is run.
+pub struct Scripted<'a> {
+    pub file: Opening<'a>,
+    /// The name of the script's own file, or `-` for standard input.
+    pub script: &'a str,
+}
+
 /// `run FILE SCRIPT`: runs the script of a file, or of standard input, on a file of message queues,
 /// the lines of each seat in a thread of its own.
 ///
@@ -31,8 +39,8 @@ const MEMORY: &str = "the file in memory";
 /// `fault N` alone where it is not. Then it is as `run_over` says.
 pub fn run_file<R, W, E>(
     rt: &R,
-    file: Opening,
-    script: &str,
+    run: Scripted<'_>,
+    progress: &Progress<'_, R>,
     output: &mut Output<W>,
     errors: &mut E,
 ) -> Ending
@@ -41,6 +49,7 @@ where
     W: Write + Drop,
     E: Write + IsTerminal,
 {
+    let Scripted { file, script } = run;
     // a wrong script is told before the file is opened
     let script = match script_in(rt, script, output, errors) {
         Ok(script) => script,
@@ -51,6 +60,9 @@ where
         Err(error) => return leave_unopened(file.path, error, output, errors),
     };
     let crew = ThreadASeat::new(rt, rt.alloc(), errors.is_terminal());
+    if is_of_one_seat(&script) {
+        progress.begin(script.lines().len());
+    }
     let ran = run_over(&crew, device, &script, output);
     complain_of_ran(file.path, ran, output, errors)
 }
@@ -61,6 +73,7 @@ where
 /// make the file, and fault 20 alone where the reader fails otherwise.
 pub fn serve<R: Threads + Wait + Clock + Eprint + Sync, I: Read, W: Write + Drop, E: Write>(
     crew: &ThreadASeat<'_, R>,
+    progress: &Progress<'_, R>,
     reader: &mut I,
     output: &mut Output<W>,
     errors: &mut E,
@@ -68,7 +81,7 @@ pub fn serve<R: Threads + Wait + Clock + Eprint + Sync, I: Read, W: Write + Drop
     ensures { RunsInputNew (I.remaining reader.old) output.old output.new result }
 {
     match read_text(crew.alloc(), reader) {
-        Ok(text) => serve_beside(crew, text.as_slice(), output, errors),
+        Ok(text) => serve_beside(crew, progress, text.as_slice(), output, errors),
         Err(error) => unread("standard input", &error, output, errors),
     }
 }
@@ -76,6 +89,7 @@ pub fn serve<R: Threads + Wait + Clock + Eprint + Sync, I: Read, W: Write + Drop
 /// Runs a text as a script on a new file in memory.
 fn serve_beside<R: Threads + Wait + Clock + Eprint + Sync, W: Write + Drop, E: Write>(
     crew: &ThreadASeat<'_, R>,
+    progress: &Progress<'_, R>,
     text: &[u8],
     output: &mut Output<W>,
     errors: &mut E,
@@ -88,6 +102,7 @@ fn serve_beside<R: Threads + Wait + Clock + Eprint + Sync, W: Write + Drop, E: W
         Err(error) => return refuse(alloc, error, text, output, errors),
     };
     if is_of_one_seat(&script) {
+        progress.begin(script.lines().len());
         return serve_text(alloc, text, output, errors);
     }
     let mut device = MemDevice::new(alloc);
