@@ -139,10 +139,15 @@ def halves(rng, depth, pattern, records, ease):
 def payloads_of(rng, records, spare, layout=TODAY):
     """The payloads of a right file with these records. Its buckets and free pages lie anywhere."""
     buckets = halves(rng, 0, 0, records, rng.choice([0.0, 0.3, 0.7]))
-    pages = layout.root + len(buckets) + spare
-    rest = list(range(layout.root + 1, pages))
+    rest = list(range(layout.root + 1, layout.root + len(buckets) + spare))
     rng.shuffle(rest)
-    chain, free = [layout.root] + rest[:len(buckets) - 1], rest[len(buckets) - 1:]
+    return payloads_on([layout.root] + rest, buckets, layout)
+
+
+def payloads_on(places, buckets, layout=TODAY):
+    """The payloads of a file whose buckets have the first of these pages, in the order of the chain; the others are free."""
+    pages = layout.root + len(places)
+    chain, free = places[:len(buckets)], places[len(buckets):]
     depth = max(bucket[0] for bucket in buckets)
     counts = [sum(bucket[0] == local for bucket in buckets) for local in range(layout.deepest + 1)]
     numbers = [pages, next_to(free, 0)] + counts

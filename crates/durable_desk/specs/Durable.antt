@@ -19,6 +19,8 @@ pub record DurableState (P : Type 0) : Type 0 where
   pub device : DeviceState P
   -- the calls that were decided since the last commit
   pub log : LogState
+  -- a call lacked room since the last checkpoint
+  pub lacked_room : Bool
   -- a commit has failed, or the desk has
   pub has_failed : Bool
 

@@ -2,4 +2,5 @@ pub mod Saved
 pub mod Durable
 pub mod Opening
 pub mod Commit
+pub mod Room
 pub mod History

@@ -1,7 +1,9 @@
 //! What a desk has answered is brought to its file.
 
+ghost use Rattle.std.specs.Prelude.{◌≡◌, OnOk, [], true};
 ghost use Rattle.durable_desk.specs.Durable.{IsCommitted, IsCutShortOn};
 ghost use Rattle.durable_desk.specs.Commit.{Brings, LeavesTheLast, Writes};
+ghost use Rattle.durable_desk.specs.Room.{AddsNone, HasNoCalls};
 
 use call_entries::CallLog;
 use desk::Desk;
@@ -38,6 +40,8 @@ pub(crate) fn keep<P: PagePair>(
         desk.old desk.new log.old log.new device.old device.new }
     ensures any_moment { IsCutShortOn P.is_honest P.moment P.left_since
         desk.old log.old device.old device.new }
+    ensures due { is_due ≡ true → OnOk result (HasNoCalls P.is_honest device.new) }
+    ensures none { log.old.bytes ≡ [] → OnOk result (AddsNone P.is_honest device.old device.new) }
 {
     if is_due || !log.is_whole() {
         return bring(desk, device, log);
@@ -68,6 +72,7 @@ pub(crate) fn bring<P: PagePair>(
         desk.old desk.new log.old log.new device.old device.new }
     ensures any_moment { IsCutShortOn P.is_honest P.moment P.left_since
         desk.old log.old device.old device.new }
+    ensures ended { OnOk result (HasNoCalls P.is_honest device.new) }
 {
     the_pages_are_the_file();
     let is_changed = write_changed(desk, device)?;

@@ -1,12 +1,13 @@
 //! The durable desk.
 
-ghost use Rattle.std.specs.Prelude.{◌≡◌, IfErr, IfOk, IsTrue, false, length};
+ghost use Rattle.std.specs.Prelude.{◌≡◌, ◌||◌, IfErr, IfOk, IsTrue, OnOk, false, length, true};
 ghost use Rattle.session.specs.Session.{pages_of};
 ghost use Rattle.call_entries.specs.Log.{Notes};
 ghost use Rattle.desk.specs.Desk.{Asks, Cancels, Leaves, Stops, TellsAndNotes, noted_of};
 ghost use Rattle.desk.specs.History.{is_failure, tells_failure};
 ghost use Rattle.durable_desk.specs.Durable.{Commits, IsCutShort, IsReady, KeepsFile};
 ghost use Rattle.durable_desk.specs.Opening.{MayNotOpenFile, OpensFile};
+ghost use Rattle.durable_desk.specs.Room.{AddsNoCalls, HasNoCalls, lacks_room, tells_no_room};
 
 use crate::commit::{Uncommitted, bring, keep};
 use crate::opening::{OpenRefusal, remade};
@@ -33,6 +34,9 @@ pub struct DurableDesk<P: PagePair> {
     log: CallLog,
     /// How many bytes of calls the journal has, at most.
     noted: u64,
+    /// A call lacked room since the last checkpoint. It is not noted, and what it inserted on trial
+    /// may have left the pages otherwise than calls that are made again find them.
+    lacked_room: bool,
     /// A commit has failed, or the desk has.
     has_failed: bool,
 }
@@ -46,6 +50,7 @@ impl<P: PagePair> Model for DurableDesk<P> {
       desk = d.desk;
       device = d.device;
       log = d.log;
+      lacked_room = d.lacked_room;
       has_failed = d.has_failed;
     } };
 
@@ -91,6 +96,7 @@ impl<P: PagePair> DurableDesk<P> {
             device,
             log,
             noted,
+            lacked_room: false,
             has_failed: false,
         })
     }
@@ -107,9 +113,11 @@ impl<P: PagePair> DurableDesk<P> {
             (noted_of (record { client = client; caller = caller; call = call }) result)
             self.old.log self.new.log }
         ensures file { KeepsFile (is_failure result) self.old self.new }
+        ensures room { self.new.lacked_room ≡ (self.old.lacked_room || lacks_room result) }
     {
         let reply = self.desk.ask(client, caller, call, &mut self.log);
         self.has_failed = self.has_failed || is_failure(&reply);
+        self.lacked_room |= lacks_room(&reply);
         reply
     }
 
@@ -119,9 +127,11 @@ impl<P: PagePair> DurableDesk<P> {
         ensures tells { TellsAndNotes result self.old.desk self.new.desk
             self.old.log self.new.log }
         ensures file { KeepsFile (tells_failure result) self.old self.new }
+        ensures room { self.new.lacked_room ≡ (self.old.lacked_room || tells_no_room result) }
     {
         let told = self.desk.next(&mut self.log);
         self.has_failed = self.has_failed || tells_failure(&told);
+        self.lacked_room |= tells_no_room(&told);
         told
     }
 
@@ -130,6 +140,7 @@ impl<P: PagePair> DurableDesk<P> {
         ensures cancels { Cancels client result self.old.desk self.new.desk }
         ensures file { KeepsFile false self.old self.new }
         ensures log { self.new.log ≡ self.old.log }
+        ensures room { self.new.lacked_room ≡ self.old.lacked_room }
     {
         self.desk.cancel(client)
     }
@@ -139,6 +150,7 @@ impl<P: PagePair> DurableDesk<P> {
         ensures leaves { Leaves connection result self.old.desk self.new.desk }
         ensures file { KeepsFile false self.old self.new }
         ensures log { self.new.log ≡ self.old.log }
+        ensures room { self.new.lacked_room ≡ self.old.lacked_room }
     {
         self.desk.leave(connection)
     }
@@ -149,14 +161,16 @@ impl<P: PagePair> DurableDesk<P> {
         ensures stops { Stops self.old.desk self.new.desk }
         ensures file { KeepsFile false self.old self.new }
         ensures log { self.new.log ≡ self.old.log }
+        ensures room { self.new.lacked_room ≡ self.old.lacked_room }
     {
         self.desk.stop();
     }
 
     /// Brings all that was answered to where it outlasts a crash: the calls that may have changed the
     /// system are noted in the journal, with one addition and one wait; where there is none nothing
-    /// is done. A checkpoint is made where some were left out, and where the journal has grown long.
-    /// A crash meanwhile leaves what was committed last, or this.
+    /// is done. A checkpoint is made in place of a note where some were left out, where the journal
+    /// has grown long, and where a call lacked room since the last one. A crash meanwhile leaves what
+    /// was committed last, or this.
     ///
     /// # Errors
     ///
@@ -164,14 +178,17 @@ impl<P: PagePair> DurableDesk<P> {
     pub fn commit(&mut self) -> Result<(), Uncommitted>
         ensures becomes { Commits P.is_honest P.may_leave result self.old self.new }
         ensures any_moment { IsCutShort P.is_honest P.moment P.left_since self.old self.new }
+        ensures room { OnOk result (AddsNoCalls P.is_honest self.old self.new) }
     {
         if self.has_failed {
             return Err(Uncommitted::Earlier);
         }
-        let noted = self.noted.saturating_add(self.log.as_slice().len() as u64);
-        let is_due = noted > MOST_NOTED;
+        let some = self.log.as_slice().len() as u64;
+        let noted = self.noted.saturating_add(some);
+        let is_due = is_due(some, noted, self.lacked_room);
         let kept = keep(&mut self.desk, &mut self.device, &mut self.log, is_due);
         self.noted = if is_due { 0 } else { noted };
+        self.lacked_room &= !is_due;
         self.has_failed = kept.is_err();
         kept
     }
@@ -185,12 +202,14 @@ impl<P: PagePair> DurableDesk<P> {
     pub fn checkpoint(&mut self) -> Result<(), Uncommitted>
         ensures becomes { Commits P.is_honest P.may_leave result self.old self.new }
         ensures any_moment { IsCutShort P.is_honest P.moment P.left_since self.old self.new }
+        ensures ended { OnOk result (HasNoCalls P.is_honest self.new.device) }
     {
         if self.has_failed {
             return Err(Uncommitted::Earlier);
         }
         let brought = bring(&mut self.desk, &mut self.device, &mut self.log);
         self.noted = 0;
+        self.lacked_room = false;
         self.has_failed = brought.is_err();
         brought
     }
@@ -230,6 +249,14 @@ impl<P: PagePair> DurableDesk<P> {
     }
 }
 
+/// Whether a commit that has so many bytes of calls, with which the journal has so many, is to be a
+/// checkpoint.
+fn is_due(some: u64, noted: u64, lacked_room: bool) -> bool
+    ensures { lacked_room ≡ true → result ≡ false → some ≡ 0 }
+{
+    some > 0 && (lacked_room || noted > MOST_NOTED)
+}
+
 /// Whether a client is told that the file has failed.
 fn is_failure(reply: &Result<Answer, Unanswered>) -> bool
     ensures { result ≡ is_failure reply.now }
@@ -244,5 +271,22 @@ fn tells_failure(told: &Option<Told>) -> bool
     match told {
         None => false,
         Some(told) => is_failure(&told.reply),
+    }
+}
+
+/// Whether a client is told that there is no room.
+fn lacks_room(reply: &Result<Answer, Unanswered>) -> bool
+    ensures { result ≡ lacks_room reply.now }
+{
+    matches!(reply, Err(Unanswered::NoRoom))
+}
+
+/// The same of one that waited.
+fn tells_no_room(told: &Option<Told>) -> bool
+    ensures { result ≡ tells_no_room told.now }
+{
+    match told {
+        None => false,
+        Some(told) => lacks_room(&told.reply),
     }
 }

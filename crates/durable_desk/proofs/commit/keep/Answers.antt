@@ -25,7 +25,7 @@ returns-in-Ok-clause-becomes g c =
     let whole : IsTrue c.args.log.now.is_whole = sym c.is_whole.ensures ∙ c.if-not-is_whole.false in
     let old = c.args.device.now in
     let noted = subst (λ (xs : List ℕ). HasNoted honest xs old c.note.new.self) c.as_slice-2.ensures
-        c.in-Ok.ensures.ok in
+    c.in-Ok.ensures.ok in
     let durable = subst (λ (xs : List ℕ). IsTrue honest →
     Keeps (StandsFor (with_calls xs (committed g.P.PagePair.file g.P.PagePair.journal old.pair)))
     (g.P.PagePair.may_leave c.note.new.self.pair)) c.as_slice-2.ensures c.in-Ok.ensures.durable in
