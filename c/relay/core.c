@@ -233,7 +233,7 @@ enum heard core_hear(struct core *it, void (*act)(void *with, const struct core_
     if (more == 0)
         return CORE_ENDED;
     if (more < 0)
-        return errno == EAGAIN || errno == EINTR ? HEARD : CORE_ENDED;
+        return errno == EAGAIN || errno == EINTR ? NOTHING_HEARD : CORE_ENDED;
     heard->end += (size_t)more;
     return take_answers(heard, act, with) ? HEARD : CORE_IS_WRONG;
 }

@@ -30,7 +30,7 @@ struct core {
 };
 
 /* How a look at its answers has ended. */
-enum heard { HEARD, CORE_ENDED, CORE_IS_WRONG };
+enum heard { NOTHING_HEARD, HEARD, CORE_ENDED, CORE_IS_WRONG };
 
 /* What it is told: of a request, the bytes from its number on; of all else none. */
 struct record {

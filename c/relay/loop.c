@@ -192,9 +192,9 @@ static void accept_some(struct relay *it) {
 /* Asks for a save, whatever the core was started for, once it has time to be asked. */
 static void ask_to_save(struct relay *it) {
     static const uint8_t save[12] = {0, 0, 0, 0, OPERATION_SAVE};
-    struct caller own = {(uint32_t)getpid(), geteuid(), getegid()};
     if (!it->wants_save || it->phase != SERVING || core_is_busy(&it->core))
         return;
+    struct caller own = {(uint32_t)getpid(), geteuid(), getegid()};
     core_tell(&it->core, &(struct record){OWN_CONNECTION, REQUEST, own, save, sizeof save});
     it->wants_save = false;
 }
@@ -234,11 +234,14 @@ static void answer(void *with, const struct core_answer *answer) {
     clients_answer(&((struct relay *)with)->clients, answer);
 }
 
-static void hear_core(struct relay *it) {
-    enum heard heard = it->phase == DRAINING ? HEARD : core_hear(&it->core, answer, it);
-    counts_group(&it->clients.counts, nanoseconds());
-    if (heard != HEARD)
+/* Hears what the core has answered: whether it has. */
+static bool hear_core(struct relay *it) {
+    enum heard heard = it->phase == DRAINING ? NOTHING_HEARD : core_hear(&it->core, answer, it);
+    if (heard == HEARD)
+        counts_group(&it->clients.counts, it->clients.now);
+    else if (heard != NOTHING_HEARD)
         lose_core(it, heard == CORE_ENDED ? "the core has ended" : "the core answers what is none");
+    return heard != NOTHING_HEARD;
 }
 
 /* Whether something waits to be told to the core. */
@@ -276,7 +279,7 @@ static void act(struct relay *it, struct watch *watch, uint32_t events) {
             (void)epoll_ctl(it->epoll, EPOLL_CTL_DEL, it->core.in, NULL);
         break;
     case CORE_OUT:
-        hear_core(it);
+        (void)hear_core(it);
         break;
     case CLIENT:
         clients_hear(&it->clients, (struct client *)((char *)watch - offsetof(struct client, socket)), events);
@@ -311,16 +314,38 @@ static void go_on(struct relay *it) {
         it->phase = OVER;
 }
 
+/* Looks for what comes, a little while: whether something came, events or answers of the core, which are heard. */
+static bool look(struct relay *it, struct epoll_event *events, int *count) {
+    bool is_found = false;
+    do {
+        it->clients.now = nanoseconds();
+        is_found = hear_core(it);
+        *count = epoll_wait(it->epoll, events, MOST_EVENTS, 0);
+        is_found |= *count != 0;
+    } while (!is_found && lookout_goes_on(&it->lookout, it->clients.now));
+    lookout_closes(&it->lookout, is_found, it->clients.now);
+    return is_found;
+}
+
+/* Waits for what comes, and tells how many events. */
+static int wait_for_some(struct relay *it, struct epoll_event *events) {
+    int count = 0, most = patience(it);
+    if (most != 0 && lookout_opens(&it->lookout) && look(it, events, &count))
+        return count;
+    count = epoll_wait(it->epoll, events, MOST_EVENTS, most);
+    it->clients.now = nanoseconds();
+    return count;
+}
+
 void relay_run(struct relay *it) {
     struct epoll_event events[MOST_EVENTS];
     while (it->phase != OVER) {
-        int count = lookout_wait(&it->lookout, it->epoll, events, MOST_EVENTS, patience(it));
+        int count = wait_for_some(it, events);
         if (count < 0 && errno != EINTR) {
             complain("%s: it can't be served on: %s", it->options->file, strerror(errno));
             it->status = FAULT;
             return;
         }
-        it->clients.now = nanoseconds();
         for (int at = 0; at < count; at++)
             act(it, events[at].data.ptr, events[at].events);
         go_on(it);
