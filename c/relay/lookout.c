@@ -9,12 +9,14 @@ enum {
     YIELD = 8,    /* looks, behind which another process may have the processor */
     TRUST = 16,
     SKIPPED = 64, /* waits without a look, until one is tried again */
+    ROOM = 4,     /* processors: while the relay and the core look, as many are left to clients */
 };
 
 void lookout_begin(struct lookout *it) {
     cpu_set_t processors;
     bool is_told = sched_getaffinity(0, sizeof processors, &processors) == 0;
-    *it = (struct lookout){.is_alone = !is_told || CPU_COUNT(&processors) < 2, .trust = TRUST};
+    int count = is_told ? CPU_COUNT(&processors) : 1;
+    *it = (struct lookout){.is_alone = count < 2, .has_room = count >= ROOM, .trust = TRUST};
 }
 
 bool lookout_opens(struct lookout *it) {

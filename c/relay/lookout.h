@@ -7,6 +7,7 @@
 
 struct lookout {
     bool is_alone;        /* there is one processor, which who is looked for needs */
+    bool has_room;        /* there are enough that the core may look too */
     bool is_crowded;      /* another process had the processor for long, this time */
     unsigned trust;       /* how often it is looked for in vain before that is left */
     unsigned skipped;     /* waits without a look */

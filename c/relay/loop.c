@@ -18,6 +18,7 @@
 #include <unistd.h>
 
 enum { MOST_EVENTS = 256, MOST_ACCEPTS = 64, MUTED = 100, DRAINED = 2000 }; /* the last two in milliseconds */
+enum { PROMPT = 2 }; /* events */
 enum { MOST_BODY = 1024, VERSION = 1, OPERATION_SAVE = 9 };
 
 static uint64_t nanoseconds(void) {
@@ -274,9 +275,7 @@ static void act(struct relay *it, struct watch *watch, uint32_t events) {
         take_moment(it);
         break;
     case CORE_IN:
-        /* Where nobody reads it any more its answers end too. */
-        if ((events & EPOLLERR) != 0)
-            (void)epoll_ctl(it->epoll, EPOLL_CTL_DEL, it->core.in, NULL);
+        /* (what waits for it is written in any case) */
         break;
     case CORE_OUT:
         (void)hear_core(it);
@@ -317,6 +316,7 @@ static void go_on(struct relay *it) {
 /* Looks for what comes, a little while: whether something came, events or answers of the core, which are heard. */
 static bool look(struct relay *it, struct epoll_event *events, int *count) {
     bool is_found = false;
+    core_look(&it->core, it->lookout.has_room);
     do {
         it->clients.now = nanoseconds();
         is_found = hear_core(it);
@@ -327,14 +327,21 @@ static bool look(struct relay *it, struct epoll_event *events, int *count) {
     return is_found;
 }
 
-/* Waits for what comes, and tells how many events. */
+/* Waits for what comes, and tells how many events. Where this sleeps the core does too. */
 static int wait_for_some(struct relay *it, struct epoll_event *events) {
     int count = 0, most = patience(it);
     if (most != 0 && lookout_opens(&it->lookout) && look(it, events, &count))
         return count;
+    core_look(&it->core, false);
     count = epoll_wait(it->epoll, events, MOST_EVENTS, most);
     it->clients.now = nanoseconds();
     return count;
+}
+
+/* Whether what some clients ask is told while others are read. Where each group is saved they are one group; and a core
+ * that sleeps is woken once. */
+static bool is_prompt(const struct relay *it, int place) {
+    return place % PROMPT == 0 && it->core.is_looking && it->options->durability != DURABLE;
 }
 
 void relay_run(struct relay *it) {
@@ -346,8 +353,11 @@ void relay_run(struct relay *it) {
             it->status = FAULT;
             return;
         }
-        for (int at = 0; at < count; at++)
+        for (int at = 0; at < count; at++) {
             act(it, events[at].data.ptr, events[at].events);
+            if (is_prompt(it, at + 1))
+                tell_core(it);
+        }
         go_on(it);
     }
 }
