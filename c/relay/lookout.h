@@ -8,7 +8,7 @@
 struct lookout {
     bool is_alone;        /* there is one processor, which who is looked for needs */
     bool has_room;        /* there are enough that the core may look too */
-    bool is_crowded;      /* another process had the processor for long, this time */
+    unsigned calm;        /* looks since another process had the processor for long, up to CALM */
     unsigned trust;       /* how often it is looked for in vain before that is left */
     unsigned skipped;     /* waits without a look */
     unsigned looks;       /* in vain, this time */
@@ -18,8 +18,11 @@ struct lookout {
 void lookout_begin(struct lookout *it);
 
 /* Whether it is to be looked for: not where that was in vain again and again, as beside a slow disk, or with nobody who
- * asks; nor where others need the processor. */
+ * asks. */
 bool lookout_opens(struct lookout *it);
+
+/* Whether the core is to look too, which takes a processor of its own. */
+bool lookout_is_for_two(const struct lookout *it);
 
 /* Whether it is to be looked for once more, behind a look in vain at this moment. */
 bool lookout_goes_on(struct lookout *it, uint64_t now);

@@ -316,7 +316,7 @@ static void go_on(struct relay *it) {
 /* Looks for what comes, a little while: whether something came, events or answers of the core, which are heard. */
 static bool look(struct relay *it, struct epoll_event *events, int *count) {
     bool is_found = false;
-    core_look(&it->core, it->lookout.has_room);
+    core_look(&it->core, lookout_is_for_two(&it->lookout));
     do {
         it->clients.now = nanoseconds();
         is_found = hear_core(it);
