@@ -6,7 +6,6 @@
 enum {
     LOOK = 50000, /* nanoseconds: some ways from one process to another and back */
     MOST_LOOKS = 10000,
-    YIELD = 8,    /* looks, behind which another process may have the processor */
     TRUST = 16,
     SKIPPED = 64, /* waits without a look, until one is tried again */
     ROOM = 4,     /* processors: while the relay and the core look, as many are left to clients */
@@ -43,8 +42,9 @@ static void note(struct lookout *it, uint64_t now) {
 
 bool lookout_goes_on(struct lookout *it, uint64_t now) {
     note(it, now);
-    if (++it->looks % YIELD == 0)
-        (void)sched_yield();
+    it->looks++;
+    /* (another process may wait for this very processor) */
+    (void)sched_yield();
     return now - it->since < LOOK && it->looks < MOST_LOOKS;
 }
 
