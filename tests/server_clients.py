@@ -181,7 +181,29 @@ def rows_of_garbage(room, server):
 
 
 # Those that are made of one server.
-ROWS = rows_of_frames, rows_of_waits, rows_of_readers, rows_of_garbage
+def times_of(*processes):
+    """What they have had of a processor, in hundredths of a second."""
+    found = 0
+    for it in processes:
+        with open(f"/proc/{it}/stat") as file:
+            found += sum(map(int, file.read().rsplit(")", 1)[1].split()[11:13]))
+    return found
+
+
+def rows_of_rest(room, server):
+    """Behind many calls both processes sleep, where one looks for what comes while they are made."""
+    both = server.process.pid, server.core()
+    with server.client() as client:
+        id = make_queue(client)
+        for _ in range(500):
+            client.call(f.stat, id)
+        time.sleep(0.1)
+        before = times_of(*both)
+        time.sleep(1)
+        room.judge("a server that nobody asks sleeps", True, times_of(*both) - before <= 1)
+
+
+ROWS = rows_of_frames, rows_of_waits, rows_of_readers, rows_of_garbage, rows_of_rest
 
 
 def rows_of_limits(room):

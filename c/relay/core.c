@@ -63,8 +63,8 @@ static int begin(struct core *it, const char *program, const char *const *words)
         close_all(files);
         return wrong;
     }
-    (void)close(files[0]);
     (void)close(files[3]);
+    it->far = files[0];
     it->in = files[1];
     it->out = files[2];
     return 0;
@@ -98,6 +98,7 @@ static void close_end(int *file) {
 /* Closes all, and waits for the process: its status, as of waitpid(2). */
 static int reap(struct core *it) {
     int status = 0;
+    close_end(&it->far);
     close_end(&it->in);
     close_end(&it->out);
     free(it->told.bytes);
@@ -134,7 +135,7 @@ static bool wait_for_file(struct core *it, const char *file) {
 }
 
 bool core_start(struct core *it, const char *program, const char *const *words, uint32_t clients) {
-    *it = (struct core){.in = -1, .out = -1};
+    *it = (struct core){.far = -1, .in = -1, .out = -1};
     /* Behind the most that is waited for: a request, and a record for each client that goes. */
     size_t most = MOST_TOLD + 2 * (HEAD + MOST_FRAME) + (size_t)clients * HEAD;
     int wrong = make_room(&it->told, most) && make_room(&it->heard, HEARD_BYTES) ? begin(it, program, words) : ENOMEM;
@@ -195,6 +196,11 @@ void core_tell(struct core *it, const struct record *record) {
     told->end += HEAD + record->count;
 }
 
+void core_look(struct core *it, bool looks) {
+    if (it->is_looking != looks && fcntl(it->far, F_SETFL, looks ? O_NONBLOCK : 0) == 0)
+        it->is_looking = looks;
+}
+
 bool core_flush(struct core *it) {
     struct pipe_room *told = &it->told;
     while (count_of(told) > 0) {
@@ -233,7 +239,7 @@ enum heard core_hear(struct core *it, void (*act)(void *with, const struct core_
     if (more == 0)
         return CORE_ENDED;
     if (more < 0)
-        return errno == EAGAIN || errno == EINTR ? HEARD : CORE_ENDED;
+        return errno == EAGAIN || errno == EINTR ? NOTHING_HEARD : CORE_ENDED;
     heard->end += (size_t)more;
     return take_answers(heard, act, with) ? HEARD : CORE_IS_WRONG;
 }

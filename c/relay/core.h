@@ -25,12 +25,14 @@ struct pipe_room {
 struct core {
     pid_t process; /* 0 for none */
     int in, out;   /* where it reads, and where it writes; -1 once that has ended */
+    int far;       /* the end of the pipe that it reads, whose flags are its own too */
     struct pipe_room told, heard;
     bool has_late_save; /* of what waits to be told */
+    bool is_looking;
 };
 
 /* How a look at its answers has ended. */
-enum heard { HEARD, CORE_ENDED, CORE_IS_WRONG };
+enum heard { NOTHING_HEARD, HEARD, CORE_ENDED, CORE_IS_WRONG };
 
 /* What it is told: of a request, the bytes from its number on; of all else none. */
 struct record {
@@ -62,6 +64,10 @@ bool core_is_free(const struct core *it);
 /* Adds a record to what it is told: a request where core_is_busy says no; of a connection that is gone one at most,
  * where it has had a request; and few of the others. */
 void core_tell(struct core *it, const struct record *record);
+
+/* Has it look for what it is told again and again, or sleep until that comes: a sleep and its end cost more than a call
+ * does. */
+void core_look(struct core *it, bool looks);
 
 /* Writes as much of that as its pipe takes. False where it reads no more. */
 bool core_flush(struct core *it);

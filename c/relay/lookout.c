@@ -1,49 +1,57 @@
-/* Looks before it sleeps, for so long as that is of use. */
+/* How long it is looked for what comes, and when that is left. */
 #include "lookout.h"
 
 #include <sched.h>
-#include <stdint.h>
-#include <time.h>
 
 enum {
     LOOK = 50000, /* nanoseconds: some ways from one process to another and back */
+    MOST_LOOKS = 10000,
     TRUST = 16,
     SKIPPED = 64, /* waits without a look, until one is tried again */
+    ROOM = 4,     /* processors: while the relay and the core look, as many are left to clients */
+    CALM = 4096,  /* looks without another process between them, until the core may look again */
 };
 
 void lookout_begin(struct lookout *it) {
     cpu_set_t processors;
     bool is_told = sched_getaffinity(0, sizeof processors, &processors) == 0;
-    *it = (struct lookout){.is_alone = !is_told || CPU_COUNT(&processors) < 2, .trust = TRUST};
+    int count = is_told ? CPU_COUNT(&processors) : 1;
+    *it = (struct lookout){.is_alone = count < 2, .has_room = count >= ROOM, .trust = TRUST, .calm = CALM};
 }
 
-static int64_t nanoseconds(void) {
-    struct timespec now;
-    return clock_gettime(CLOCK_MONOTONIC, &now) != 0 ? INT64_MAX / 2 : (int64_t)now.tv_sec * 1000000000 + now.tv_nsec;
-}
-
-/* Whether it is to be looked for: not where that was in vain again and again, as beside a slow disk, or with nobody who asks. */
-static bool is_worth(struct lookout *it) {
-    if (it->is_alone)
+bool lookout_opens(struct lookout *it) {
+    if (it->is_alone || (it->trust == 0 && ++it->skipped < SKIPPED))
         return false;
-    if (it->trust > 0 || ++it->skipped >= SKIPPED) {
-        it->skipped = 0;
-        return true;
-    }
-    return false;
+    it->skipped = it->looks = 0;
+    it->calm += it->calm < CALM;
+    return true;
 }
 
-int lookout_wait(struct lookout *it, int epoll, struct epoll_event *events, int most, int patience) {
-    int count = 0;
-    if (patience != 0 && is_worth(it)) {
-        int64_t end = nanoseconds() + LOOK;
-        while ((count = epoll_wait(epoll, events, most, 0)) == 0 && nanoseconds() < end)
-            /* (another process may wait for this very processor) */
-            (void)sched_yield();
-        if (count > 0)
-            it->trust += it->trust < TRUST;
-        else
-            it->trust -= it->trust > 0;
-    }
-    return count != 0 ? count : epoll_wait(epoll, events, most, patience);
+bool lookout_is_for_two(const struct lookout *it) {
+    return it->has_room && it->calm == CALM;
+}
+
+/* Notes the moment of a look. */
+static void note(struct lookout *it, uint64_t now) {
+    if (it->looks == 0)
+        it->since = now;
+    else if (now - it->last > LOOK)
+        it->calm = 0;
+    it->last = now;
+}
+
+bool lookout_goes_on(struct lookout *it, uint64_t now) {
+    note(it, now);
+    it->looks++;
+    /* (another process may wait for this very processor) */
+    (void)sched_yield();
+    return now - it->since < LOOK && it->looks < MOST_LOOKS;
+}
+
+void lookout_closes(struct lookout *it, bool is_found, uint64_t now) {
+    note(it, now);
+    if (is_found)
+        it->trust += it->trust < TRUST;
+    else
+        it->trust -= it->trust > 0;
 }

@@ -18,6 +18,7 @@
 #include <unistd.h>
 
 enum { MOST_EVENTS = 256, MOST_ACCEPTS = 64, MUTED = 100, DRAINED = 2000 }; /* the last two in milliseconds */
+enum { PROMPT = 2 }; /* events */
 enum { MOST_BODY = 1024, VERSION = 1, OPERATION_SAVE = 9 };
 
 static uint64_t nanoseconds(void) {
@@ -192,9 +193,9 @@ static void accept_some(struct relay *it) {
 /* Asks for a save, whatever the core was started for, once it has time to be asked. */
 static void ask_to_save(struct relay *it) {
     static const uint8_t save[12] = {0, 0, 0, 0, OPERATION_SAVE};
-    struct caller own = {(uint32_t)getpid(), geteuid(), getegid()};
     if (!it->wants_save || it->phase != SERVING || core_is_busy(&it->core))
         return;
+    struct caller own = {(uint32_t)getpid(), geteuid(), getegid()};
     core_tell(&it->core, &(struct record){OWN_CONNECTION, REQUEST, own, save, sizeof save});
     it->wants_save = false;
 }
@@ -234,11 +235,14 @@ static void answer(void *with, const struct core_answer *answer) {
     clients_answer(&((struct relay *)with)->clients, answer);
 }
 
-static void hear_core(struct relay *it) {
-    enum heard heard = it->phase == DRAINING ? HEARD : core_hear(&it->core, answer, it);
-    counts_group(&it->clients.counts, nanoseconds());
-    if (heard != HEARD)
+/* Hears what the core has answered: whether it has. */
+static bool hear_core(struct relay *it) {
+    enum heard heard = it->phase == DRAINING ? NOTHING_HEARD : core_hear(&it->core, answer, it);
+    if (heard == HEARD)
+        counts_group(&it->clients.counts, it->clients.now);
+    else if (heard != NOTHING_HEARD)
         lose_core(it, heard == CORE_ENDED ? "the core has ended" : "the core answers what is none");
+    return heard != NOTHING_HEARD;
 }
 
 /* Whether something waits to be told to the core. */
@@ -271,12 +275,10 @@ static void act(struct relay *it, struct watch *watch, uint32_t events) {
         take_moment(it);
         break;
     case CORE_IN:
-        /* Where nobody reads it any more its answers end too. */
-        if ((events & EPOLLERR) != 0)
-            (void)epoll_ctl(it->epoll, EPOLL_CTL_DEL, it->core.in, NULL);
+        /* (what waits for it is written in any case) */
         break;
     case CORE_OUT:
-        hear_core(it);
+        (void)hear_core(it);
         break;
     case CLIENT:
         clients_hear(&it->clients, (struct client *)((char *)watch - offsetof(struct client, socket)), events);
@@ -311,18 +313,51 @@ static void go_on(struct relay *it) {
         it->phase = OVER;
 }
 
+/* Looks for what comes, a little while: whether something came, events or answers of the core, which are heard. */
+static bool look(struct relay *it, struct epoll_event *events, int *count) {
+    bool is_found = false;
+    core_look(&it->core, lookout_is_for_two(&it->lookout));
+    do {
+        it->clients.now = nanoseconds();
+        is_found = hear_core(it);
+        *count = epoll_wait(it->epoll, events, MOST_EVENTS, 0);
+        is_found |= *count != 0;
+    } while (!is_found && lookout_goes_on(&it->lookout, it->clients.now));
+    lookout_closes(&it->lookout, is_found, it->clients.now);
+    return is_found;
+}
+
+/* Waits for what comes, and tells how many events. Where this sleeps the core does too. */
+static int wait_for_some(struct relay *it, struct epoll_event *events) {
+    int count = 0, most = patience(it);
+    if (most != 0 && lookout_opens(&it->lookout) && look(it, events, &count))
+        return count;
+    core_look(&it->core, false);
+    count = epoll_wait(it->epoll, events, MOST_EVENTS, most);
+    it->clients.now = nanoseconds();
+    return count;
+}
+
+/* Whether what some clients ask is told while others are read. Where each group is saved they are one group; and a core
+ * that sleeps is woken once. */
+static bool is_prompt(const struct relay *it, int place) {
+    return place % PROMPT == 0 && it->core.is_looking && it->options->durability != DURABLE;
+}
+
 void relay_run(struct relay *it) {
     struct epoll_event events[MOST_EVENTS];
     while (it->phase != OVER) {
-        int count = lookout_wait(&it->lookout, it->epoll, events, MOST_EVENTS, patience(it));
+        int count = wait_for_some(it, events);
         if (count < 0 && errno != EINTR) {
             complain("%s: it can't be served on: %s", it->options->file, strerror(errno));
             it->status = FAULT;
             return;
         }
-        it->clients.now = nanoseconds();
-        for (int at = 0; at < count; at++)
+        for (int at = 0; at < count; at++) {
             act(it, events[at].data.ptr, events[at].events);
+            if (is_prompt(it, at + 1))
+                tell_core(it);
+        }
         go_on(it);
     }
 }

@@ -8,6 +8,7 @@
 #include <errno.h>
 #include <fcntl.h>
 #include <grp.h>
+#include <poll.h>
 #include <sched.h>
 #include <signal.h>
 #include <stdarg.h>
@@ -100,7 +101,6 @@ WRAP(void *, calloc, CALLOC, NULL, (size_t count, size_t size), (count, size))
 WRAP(void *, realloc, REALLOC, NULL, (void *at, size_t size), (at, size))
 WRAP(int, pipe2, PIPE, -1, (int *files, int flags), (files, flags))
 WRAP(pid_t, fork, FORK, -1, (void), ())
-WRAP(ssize_t, read, READ, -1, (int file, void *to, size_t count), (file, to, count))
 WRAP(int, socket, SOCKET, -1, (int family, int kind, int protocol), (family, kind, protocol))
 WRAP(int, bind, BIND, -1, (int file, const struct sockaddr *name, socklen_t size), (file, name, size))
 WRAP(int, lchown, LCHOWN, -1, (const char *name, uid_t user, gid_t group), (name, user, group))
@@ -130,6 +130,15 @@ int __wrap_fcntl(int file, int how, ...) {
     return is_now(FCNTL) ? -1 : __real_fcntl(file, how, with);
 }
 
+/* (nor is a read one that finds nothing, and does not wait) */
+ssize_t __real_read(int file, void *to, size_t count);
+ssize_t __wrap_read(int file, void *to, size_t count);
+ssize_t __wrap_read(int file, void *to, size_t count) {
+    struct pollfd at = {.fd = file, .events = POLLIN};
+    bool is_vain = (__real_fcntl(file, F_GETFL) & O_NONBLOCK) != 0 && poll(&at, 1, 0) == 0;
+    return !is_vain && is_now(READ) ? -1 : __real_read(file, to, count);
+}
+
 int __real_open(const char *path, int flags, ...);
 int __wrap_open(const char *path, int flags, ...);
 int __wrap_open(const char *path, int flags, ...) {
@@ -147,6 +156,8 @@ enum { SEND_IT = 2, INFO_IT = 10, COUNT_IT = 32, FOLLOW_IT = 33 };
 static bool read_all(int file, uint8_t *to, size_t count) {
     while (count > 0) {
         ssize_t more = __real_read(file, to, count);
+        if (more < 0 && errno == EAGAIN)
+            continue;
         if (more <= 0)
             return false;
         to += more;

@@ -95,7 +95,7 @@ fn attend(rt: &HostRuntime, server: &mut FileServer, inbox: &mut Inbox) -> Resul
 /// What a read of the relay's records came to.
 #[derive(Clone, Copy, Debug, PartialEq, Eq)]
 enum Came {
-    /// A signal has ended it.
+    /// Nothing is there yet, or a signal has ended it.
     Nothing,
     /// Some bytes.
     Bytes,
@@ -103,14 +103,19 @@ enum Came {
     End,
 }
 
-/// Reads what the relay has said.
+/// Reads what the relay has said. While the relay looks for what comes a read does not wait for it.
 fn fill(rt: &HostRuntime, inbox: &mut Inbox) -> Result<Came, Trouble> {
     match inbox.fill(&mut rt.stdin()) {
         Ok(0) => Ok(Came::End),
         Ok(_) => Ok(Came::Bytes),
-        Err(error) if error.kind() == ErrorKind::Interrupted => Ok(Came::Nothing),
+        Err(error) if is_soon_over(error.kind()) => Ok(Came::Nothing),
         Err(error) => Err(Trouble::Input(error)),
     }
+}
+
+/// Whether a read is made again.
+fn is_soon_over(kind: ErrorKind) -> bool {
+    kind == ErrorKind::Interrupted || kind == ErrorKind::WouldBlock
 }
 
 /// Brings all that was decided to the file.
