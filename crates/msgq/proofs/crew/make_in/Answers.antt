@@ -26,7 +26,7 @@ loop-work-init g c =
       tt,
       tt,
       leading_starts (IsMadeOf (length g.N.Base.origin.callers)) _ _ _ _ _ (gives.0 ∙ same)
-      (gives.1 ∙ many ∙ ap length same)
+          (gives.1 ∙ many ∙ ap length same)
           c.in-Ok-with_capacity.ensures.items room,
     )
 

@@ -25,7 +25,7 @@ returns-clause-ran g c =
     let ended = c.conclude.result.ending in
     let lent = c.new-device.result.device in
     let first_effects = done_to lent.content lent.failed first untold old.device.content old.is_due old.device.failed
-        said
+    said
     in
     let same = ap (λ (d : DeferredState g.row.P.Denot). d.device) c.new-device.ensures in
     to_device P.moment N.start c.args.device new c.requires.start (λ (e : Effects). RunsBesideOn script honest e ended)
@@ -55,7 +55,7 @@ returns-clause-over g c =
     let ended = c.conclude.result.ending in
     let lent = c.new-device.result.device in
     let first_effects = done_to lent.content lent.failed first untold old.device.content old.is_due old.device.failed
-        said
+    said
     in
     let same = ap (λ (d : DeferredState g.row.P.Denot). d.device) c.new-device.ensures in
     to_device P.moment N.start c.args.device new c.requires.start (λ (e : Effects). RunsSeatsOver honest P.moment
