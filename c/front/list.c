@@ -183,7 +183,7 @@ static bool print_table(const struct listing *it, FILE *table) {
 }
 
 /* Says of a file that is refused, and is none of message queues, that it is none, as `msgq check` does: it lacks the magic
- * of the header (docs/FORMAT.md). */
+ * of the header (docs/FORMAT.md). Of one of whole pages the proved program says so. */
 static void tell_foreign(const char *path) {
     static const char magic[8] = {'M', 'S', 'G', 'Q', 'F', 'I', 'L', 'E'};
     char head[12] = {0};
@@ -191,8 +191,8 @@ static void tell_foreign(const char *path) {
     int file = open(path, O_RDONLY | O_CLOEXEC | O_NONBLOCK);
     if (file < 0)
         return;
-    bool is_read = fstat(file, &found) == 0 && S_ISREG(found.st_mode) && pread(file, head, sizeof head, 0) >= 0;
-    if (is_read && memcmp(head + 4, magic, sizeof magic) != 0)
+    bool is_told = fstat(file, &found) != 0 || !S_ISREG(found.st_mode) || found.st_size % 4096 == 0;
+    if (!is_told && pread(file, head, sizeof head, 0) >= 0 && memcmp(head + 4, magic, sizeof magic) != 0)
         complain("%s: it is no file of message queues", path);
     (void)close(file);
 }
