@@ -7,10 +7,13 @@
 #include "words.h"
 
 #include <errno.h>
+#include <fcntl.h>
 #include <inttypes.h>
 #include <stdio.h>
 #include <stdlib.h>
 #include <string.h>
+#include <sys/stat.h>
+#include <unistd.h>
 
 #define CALL "msgq list [OPTIONS] <FILE> [KEY]"
 
@@ -179,16 +182,31 @@ static bool print_table(const struct listing *it, FILE *table) {
     return fflush(stdout) == 0 && !ferror(stdout) && !ferror(table);
 }
 
+/* Says of a file that is refused, and is none of message queues, that it is none, as `msgq check` does: it lacks the magic
+ * of the header (docs/FORMAT.md). Of one of whole pages the proved program says so. */
+static void tell_foreign(const char *path) {
+    static const char magic[8] = {'M', 'S', 'G', 'Q', 'F', 'I', 'L', 'E'};
+    char head[12] = {0};
+    struct stat found;
+    int file = open(path, O_RDONLY | O_CLOEXEC | O_NONBLOCK);
+    if (file < 0)
+        return;
+    bool is_told = fstat(file, &found) != 0 || !S_ISREG(found.st_mode) || found.st_size % 4096 == 0;
+    if (!is_told && pread(file, head, sizeof head, 0) >= 0 && memcmp(head + 4, magic, sizeof magic) != 0)
+        complain("%s: it is no file of message queues", path);
+    (void)close(file);
+}
+
 static int list(struct listing *it) {
     struct proved proved;
     if (it->follows)
         return follow(it->places[0], it->places[1]);
-    if (it->is_json || (it->is_raw && !it->has_since && !it->has_until))
-        return proved_become(it->words);
     if (!proved_begin(&proved, it->words, false))
         return FAULT;
     bool is_printed = print_table(it, proved.output);
     int status = proved_end(&proved);
+    if (status == FAULT)
+        tell_foreign(it->places[0]);
     if (is_printed || status != DONE)
         return status;
     complain("standard output: it can't be written");

@@ -90,6 +90,7 @@ void screen_put(const struct screen *it, size_t row, const char *line, bool is_b
     if (row >= it->rows)
         return;
     size_t length = strnlen(line, it->columns);
-    (void)printf("\033[%zu;1H%s%.*s%s\033[K", row + 1, is_bright ? "\033[7m" : "", (int)length, line,
+    /* What was there is erased first: behind a line that fills the row that would erase its last letter. */
+    (void)printf("\033[%zu;1H\033[K%s%.*s%s", row + 1, is_bright ? "\033[7m" : "", (int)length, line,
                  is_bright ? "\033[m" : "");
 }

@@ -218,6 +218,19 @@ static size_t room_of(const struct screen *screen) {
     return screen->rows > 3 ? screen->rows - 3 : 1;
 }
 
+/* Cuts a line before the part for which there is no room, so that no number is cut. */
+static void cut_parts(char *line, size_t columns) {
+    if (strlen(line) <= columns)
+        return;
+    size_t at = columns;
+    while (at > 0 && line[at] != ',' && line[at] != ';' && strncmp(line + at, "  ", 2) != 0)
+        at--;
+    if (at == 0)
+        for (at = columns; at > 0 && line[at] != ' ';)
+            at--;
+    line[at] = '\0';
+}
+
 static void draw(struct top *it, const struct screen *screen) {
     char line[LINE_BYTES], total[LINE_BYTES], moment[16];
     size_t room = room_of(screen), shown = 0;
@@ -226,6 +239,7 @@ static void draw(struct top *it, const struct screen *screen) {
     tell_time(it, moment);
     table_total(&it->now, total);
     (void)snprintf(line, sizeof line, "%s  %.140s", moment, total);
+    cut_parts(line, screen->columns);
     screen_put(screen, 0, line, false);
     table_headings(&it->now, line, screen->columns);
     screen_put(screen, 1, line, true);
@@ -237,11 +251,13 @@ static void draw(struct top *it, const struct screen *screen) {
         screen_put(screen, 2 + shown, line, false);
     }
     size_t last = it->first + room < it->now.count ? it->first + room : it->now.count;
-    if (it->trouble[0] != '\0')
+    if (it->trouble[0] != '\0') {
         (void)snprintf(line, sizeof line, "%.150s", it->trouble);
-    else
+    } else {
         (void)snprintf(line, sizeof line, "%zu to %zu of %zu; q ends, m b i o w a k n sort, space and - turn the page",
                        it->now.count > 0 ? it->first + 1 : 0, last, it->now.count);
+        cut_parts(line, screen->columns);
+    }
     screen_put(screen, 2 + room, line, false);
     (void)fflush(stdout);
 }
