@@ -37,22 +37,22 @@ pub noted_is : (caller : Caller) (call : Call) (answer : Option Answer) (old mid
     Begins caller call old mid → Ends answer mid new → Notes (noted caller call answer) old new
 noted_is caller call answer old mid new begins ends = then_notes (noted caller call answer) old mid new begins.notes
     (record {
-  whole = ends.whole;
-  bytes = λ whole.
-      ends.bytes whole
-      ∙ ap (λ (xs : List ℕ). mid.bytes ++ xs)
-      (added answer mid.is_begun mid.begun (begins.begun (ends.whole whole)) (begins.front_is (ends.whole whole)));
-}) where
-  added : (answer : Option Answer) (begun : Bool) (bytes : List ℕ) → begun ≡ may_change call →
-      (IsTrue begun → bytes ≡ front caller call) → ended begun bytes answer ≡ noted caller call answer
-  added None false bytes is same = refl
-  added None true bytes is same = refl
-  added (Some a) false bytes is same =
-      ap (λ (may : Bool). spelled (if may && not (is_refusal a) then entry_of caller call a ∷ [] else [])) is
-  added (Some a) true bytes is same =
-      ap (λ (xs : List ℕ). if is_refusal a then [] else xs ++ eight (check_of a)) (same refl)
-      ∙ unless_refused (is_refusal a) (entry_of caller call a)
-      ∙ ap (λ (may : Bool). spelled (if may && not (is_refusal a) then entry_of caller call a ∷ [] else [])) is
+      whole = ends.whole;
+      bytes = λ whole.
+          ends.bytes whole
+          ∙ ap (λ (xs : List ℕ). mid.bytes ++ xs)
+          (added answer mid.is_begun mid.begun (begins.begun (ends.whole whole)) (begins.front_is (ends.whole whole)));
+    }) where
+      added : (answer : Option Answer) (begun : Bool) (bytes : List ℕ) → begun ≡ may_change call →
+          (IsTrue begun → bytes ≡ front caller call) → ended begun bytes answer ≡ noted caller call answer
+      added None false bytes is same = refl
+      added None true bytes is same = refl
+      added (Some a) false bytes is same =
+          ap (λ (may : Bool). spelled (if may && not (is_refusal a) then entry_of caller call a ∷ [] else [])) is
+      added (Some a) true bytes is same =
+          ap (λ (xs : List ℕ). if is_refusal a then [] else xs ++ eight (check_of a)) (same refl)
+          ∙ unless_refused (is_refusal a) (entry_of caller call a)
+          ∙ ap (λ (may : Bool). spelled (if may && not (is_refusal a) then entry_of caller call a ∷ [] else [])) is
 
 -- ---- the log's bytes
 

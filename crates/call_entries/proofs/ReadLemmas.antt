@@ -137,7 +137,7 @@ module _ (bytes : List ℕ) (p : Parts) (cut : IsCutInto bytes p) (told : Result
       ((i : Incoming) → ReadsAs i (Err fault) → ⊥) → BeginsWithNone bytes
   not_refused fault is none e rest fits same =
       none (at_moment p.moment (asked e)) (subst (λ (r : Result Incoming Unread). ReadsAs
-          (at_moment p.moment (asked e)) r) is (reads e rest fits same))
+      (at_moment p.moment (asked e)) r) is (reads e rest fits same))
 
   pub not_broken : (fault : Unread) → told ≡ Err fault → fault ≡ Broken → BeginsWithNone bytes
   not_broken fault is broken = not_refused fault is (λ i read_as.
@@ -177,7 +177,7 @@ module _ (bytes behind : List ℕ) (is_behind : behind ≡ drop 8 bytes) where
   pub no_check : (size : ℕ) → IsFirst behind size → length behind - size < 8 → BeginsWithNone bytes
   no_check size first short e rest fits is =
       let found = found_first behind (Ok (Some size)) first (asked e) _ fits.asked
-          (is_behind ∙ its_record e rest bytes fits is) in
+      (is_behind ∙ its_record e rest bytes fits is) in
       let same : size ≡ length (spelled (asked e)) = cc in
       let long = long_behind e rest bytes fits is in
       absurd (omega (arith, same, short, long, ap length is_behind))

@@ -9,4 +9,4 @@ returns-clause-goes g c =
     g.P.PagePair.may_leave _ _
     refl (Commit (Ok tt))
     (record { commits = c.in_ok-commit.ensures.becomes; any_moment = c.in_ok-commit.ensures.any_moment }) refl refl
-        refl)
+    refl)
