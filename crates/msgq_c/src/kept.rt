@@ -1,18 +1,30 @@
-//! A session, and who makes its calls.
+//! A session, who makes its calls, and what a save notes of them.
 
 ghost use Rattle.std.specs.Prelude.{OnOk, [], ◌≡◌};
-ghost use Rattle.msgq_c.specs.Keeping.{Makes, MakesAgain, MakesAll};
+ghost use Rattle.msgq_c.specs.Keeping.{Checkpoints, CopiesNotes, Makes, MakesAgain, MakesAll, answer_of, lacks_room, with_noted};
+ghost use Rattle.call_entries.specs.Log.{Ends};
 
-use call_entries::{CallEntry, CallReader, Unreadable, check_of};
+use call_entries::{CallEntry, CallLog, CallReader, Unreadable, check_of};
 use session::queue_model::{Answer, Call, Caller};
 use session::{Session, Unanswered};
 use std::alloc::Global;
+
+/// A save is a checkpoint in place of a note that would bring the bytes of the calls in the journal
+/// above this: about as much as is made again in half a second.
+const MOST_NOTED: u64 = 8_388_608;
 
 /// A session, and who makes its calls.
 #[derive(Drop)]
 pub struct Kept {
     pub(crate) session: Session,
     pub(crate) caller: Caller,
+    /// The calls that were decided since the last save.
+    pub(crate) log: CallLog,
+    /// How many bytes of calls the journal has.
+    pub(crate) noted: u64,
+    /// A call lacked room since the last checkpoint. It is not noted, and what it inserted on trial
+    /// may have left the pages otherwise than calls that are made again find them.
+    pub(crate) lacked_room: bool,
 }
 
 /// Why calls are not made again.
@@ -25,16 +37,29 @@ pub(crate) enum Unmade {
 }
 
 impl Kept {
-    /// Makes a call as the rules of queues say (docs/QUEUES.md, "Calls").
+    /// Makes a call as the rules of queues say (docs/QUEUES.md, "Calls"), and writes it down where it
+    /// may have changed the system.
     pub(crate) fn call(&mut self, call: Call) -> Result<Answer, Unanswered>
         ensures { Makes call result self.old self.new }
     {
         let mut call = call;
-        self.session.call_as(self.caller, &mut call)
+        self.log.begin(self.caller, &call);
+        let result = self.session.call_as(self.caller, &mut call);
+        end_with(&mut self.log, &result);
+        self.lacked_room = self.lacked_room || lacks_room(&result);
+        result
     }
 
     /// Makes the calls again of an addition to the journal. Each has to be answered as it was.
-    pub(crate) fn make_all(&mut self, alloc: Global, calls: &[u8]) -> Result<(), Unmade>
+    pub(crate) fn remake(&mut self, alloc: Global, calls: &[u8]) -> Result<(), Unmade>
+        ensures { OnOk result (MakesAll calls.now [] self.old self.new) }
+    {
+        self.make_all(alloc, calls)?;
+        self.noted = self.noted.saturating_add(calls.len() as u64);
+        Ok(())
+    }
+
+    fn make_all(&mut self, alloc: Global, calls: &[u8]) -> Result<(), Unmade>
         ensures { OnOk result (MakesAll calls.now [] self.old self.new) }
     {
         let mut reader = CallReader::new(calls);
@@ -76,4 +101,62 @@ impl Kept {
         }
         Ok(())
     }
+
+    /// Copies the entries of the calls that changed the system since the last save, and tells how many
+    /// bytes they have; nothing where the pages are to be written in place of a note: where an entry
+    /// was left out, a call lacked room, the journal would grow long, or there is no room for them.
+    pub(crate) fn copy_notes(&self, into: &mut [u8]) -> Option<usize>
+        ensures { CopiesNotes into.new result self.now }
+    {
+        let entries = self.log.as_slice();
+        let many = entries.len();
+        if !self.log.is_whole() || into.len() < many {
+            return None;
+        }
+        let noted = self.noted.saturating_add(many as u64);
+        if many > 0 && (self.lacked_room || noted > MOST_NOTED) {
+            return None;
+        }
+        into[..many].copy_from_slice(entries);
+        Some(many)
+    }
+
+    /// They were noted in the journal.
+    pub(crate) fn end_notes(&mut self)
+        ensures { self.new ≡ with_noted self.new.noted self.old }
+    {
+        let many = self.log.as_slice().len() as u64;
+        self.noted = self.noted.saturating_add(many);
+        self.log.clear();
+    }
+
+    /// The pages were written, and the journal ended. False where the file has failed.
+    pub(crate) fn end_checkpoint(&mut self) -> bool
+        ensures { Checkpoints result self.old self.new }
+    {
+        if !self.session.note_saved() {
+            return false;
+        }
+        self.log.clear();
+        self.noted = 0;
+        self.lacked_room = false;
+        true
+    }
+}
+
+/// Writes down what came of the call that was begun last.
+fn end_with(log: &mut CallLog, came: &Result<Answer, Unanswered>)
+    ensures { Ends (answer_of came.now) log.old log.new }
+{
+    match came {
+        Ok(answer) => log.end(answer),
+        Err(_) => log.take_back(),
+    }
+}
+
+/// Whether a call was not answered for want of room.
+fn lacks_room(came: &Result<Answer, Unanswered>) -> bool
+    ensures { result ≡ lacks_room came.now }
+{
+    matches!(came, Err(Unanswered::NoRoom))
 }
