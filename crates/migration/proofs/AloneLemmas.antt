@@ -1,5 +1,5 @@
 -- The row of the one seat.
-use Rattle.std.proofs.Common.{ℕ, ◌≡◌, List, [], ◌∷◌, refl, sym, ap, subst, ◌∙◌, arith}
+use Rattle.std.proofs.Common.{◌≡◌, List, [], ◌∷◌, refl, sym, ap, subst, ◌∙◌, arith}
 use Rattle.page_locks.specs.declared.lock.Lock.{Lock}
 use Rattle.page_locks.specs.Table.{IsSeat, Table, row_of, with_row}
 use Rattle.record_file.specs.AccessWords.{EndsRow, FollowsRow, HasNoFileLock}

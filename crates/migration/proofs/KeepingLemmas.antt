@@ -1,5 +1,5 @@
 -- What is kept of a device, call after call.
-use Rattle.std.proofs.Common.{◌≡◌, ◌∙◌, ◌≤◌, ◌<◌, ◌⊎◌, ℕ, Bool, inl, inr, ap, arith}
+use Rattle.std.proofs.Common.{◌≡◌, ◌∙◌, ◌≤◌, ℕ, Bool, inl, inr, ap, arith}
 use Rattle.buffer_pool.specs.Pool.{PoolState}
 use Rattle.buffer_pool.specs.declared.fault.PoolFault.TheVariants as pools
 use Rattle.file_pages.specs.declared.fault.FileFault.{FileFault}

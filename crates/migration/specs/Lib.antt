@@ -4,3 +4,6 @@ pub mod Writing
 pub mod Copying
 pub mod SalvageFault
 pub mod Printing
+pub mod Readable
+pub mod Rescues
+pub mod Gathering

@@ -1,6 +1,11 @@
 //! What stands on the pages of a file, whatever is wrong with others of them.
 
-ghost use Rattle.std.specs.Prelude.{◌≡◌};
+ghost use Rattle.std.specs.Prelude.{◌≡◌, ◌≤◌, false, Err, IfErr, IfOk, IsTrue, OnOk, ⊤};
+ghost use Rattle.directory.specs.Reading.{reading};
+ghost use Rattle.directory.specs.declared.read.HeaderFault.TheVariants as headers;
+ghost use Rattle.page_device.specs.Device.{HasRisen};
+ghost use Rattle.migration.specs.Gathering.{HasRescueCause, MayHaveFailed, MayNotAdd, MissesPages};
+ghost use Rattle.migration.specs.Readable.{IsPageAt, IsReadable, IsToldOfPages};
 
 use crate::losses::Losses;
 use crate::salvage_fault::SalvageFault;
@@ -37,6 +42,11 @@ pub(crate) struct Found {
 /// What stands on the pages of a device; refused where none of them can be read.
 pub(crate) fn gather<D: PageDevice>(alloc: Global, device: &mut D) -> Result<Found, SalvageFault>
     ensures same { D.content device.new ≡ D.content device.old }
+    ensures honest { D.is_honest device.new ≡ D.is_honest device.old }
+    ensures told { IsTrue (D.is_honest device.old) →
+        IfErr result (IsToldOfPages (D.content device.old)
+        (HasRisen (D.fault_count device.old) (D.fault_count device.new)) ⊤) }
+    ensures cause { HasRescueCause (D.fault_count device.old) (D.fault_count device.new) result }
 {
     let failed = device.faults();
     let pages = device.pages();
@@ -59,13 +69,17 @@ pub(crate) fn gather<D: PageDevice>(alloc: Global, device: &mut D) -> Result<Fou
 
 impl Found {
     /// Nothing was found.
-    fn new(alloc: Global) -> Found {
+    fn new(alloc: Global) -> Found
+        ensures { result.read ≡ 0 }
+    {
+        let mut losses = Losses::none(alloc);
+        losses.has_no_counter = true;
         Found {
             next_id: 0,
             keys: Vec::new(alloc),
             entries: Vec::new(alloc),
             messages: Vec::new(alloc),
-            losses: Losses::new(alloc),
+            losses,
             read: 0,
             pages: 0,
         }
@@ -87,6 +101,12 @@ impl Found {
         page: u32,
     ) -> Result<(), SalvageFault>
         ensures same { D.content device.new ≡ D.content device.old }
+        ensures honest { D.is_honest device.new ≡ D.is_honest device.old }
+        ensures later { D.fault_count device.old ≤ D.fault_count device.new }
+        ensures ok { IsTrue (D.is_honest device.old) → OnOk result (self.new.read ≡ 0 →
+            (self.old.read ≡ 0) × (IsReadable (D.content device.old) page →
+            MayHaveFailed (D.fault_count device.old) (D.fault_count device.new))) }
+        ensures err { IfErr result (MayNotAdd (D.is_honest device.old) (D.content device.old)) }
     {
         let mut bytes = [0; PAGE_BYTES];
         let Ok(()) = device.read(page, &mut bytes) else {
@@ -112,7 +132,12 @@ impl Found {
     }
 
     /// Adds what the header says, and tells whether it is one.
-    fn add_header(&mut self, payload: &Payload) -> Result<bool, SalvageFault> {
+    fn add_header(&mut self, payload: &Payload) -> Result<bool, SalvageFault>
+        ensures ok { IfOk result (λ is. is ≡ false → IsPageAt 0 payload.now → ⊥) }
+        ensures err { IfErr result (λ fault. (fault ≡ SalvageFault.BadVersion)
+            × (reading payload.now ≡ Err headers.BadVersion)) }
+        ensures same { self.new.read ≡ self.old.read }
+    {
         match read_header(payload) {
             Ok(header) => {
                 self.pages = header.pages;
@@ -124,7 +149,9 @@ impl Found {
     }
 
     /// Adds the records of a bucket. Those of types say nothing that messages do not say.
-    fn add_records(&mut self, alloc: Global, bucket: &TestedBucket) -> Result<(), NoMemory> {
+    fn add_records(&mut self, alloc: Global, bucket: &TestedBucket) -> Result<(), NoMemory>
+        ensures { self.new.read ≡ self.old.read }
+    {
         for record in bucket.records() {
             match Record::decode(&record.key, record.value) {
                 Ok(Record::Counter(counter)) => {
@@ -141,7 +168,9 @@ impl Found {
         Ok(())
     }
 
-    fn add_message(&mut self, alloc: Global, entry: &MessageEntry) -> Result<(), NoMemory> {
+    fn add_message(&mut self, alloc: Global, entry: &MessageEntry) -> Result<(), NoMemory>
+        ensures { self.new.read ≡ self.old.read }
+    {
         let bytes = Vec::from_slice(alloc, entry.body.as_slice())?;
         let message = Message {
             serial: entry.serial,

@@ -1,6 +1,6 @@
 //! What was found is put together as a system. What breaks a limit of systems is left out.
 
-ghost use Rattle.std.specs.Prelude.{◌≡◌, ◌<◌, false, length, IfOk, IfSome};
+ghost use Rattle.std.specs.Prelude.{◌≡◌, ◌<◌, false, length, IfOk, IfSome, Some};
 
 use crate::found::{Found, FoundMessage};
 use crate::losses::Losses;
@@ -68,6 +68,18 @@ pub(crate) fn put_together(
         Some(system) => Ok(Some((system, losses))),
         None => Ok(None),
     }
+}
+
+/// The same system, which is not stopped, where there is memory for it.
+pub(crate) fn running(alloc: Global, system: &System) -> Result<Option<System>, NoMemory>
+    ensures { IfOk result (λ made. made ≡ Some (record system.now { stopped = false })) }
+{
+    system.keeps_limits();
+    let mut queues = Vec::with_capacity(alloc, system.queues())?;
+    for place in 0..system.queues() {
+        queues.push(system.queue(place).try_copy()?)?;
+    }
+    Ok(System::of_queues(queues, system.next_id()))
 }
 
 /// A part for each queue that has a record, in ascending order of id.

@@ -1,5 +1,7 @@
 //! What was left out of a new file, or put in the place of what is lost.
 
+ghost use Rattle.migration.specs.Rescues.{HasNoLosses};
+
 use queue_model::NoMemory;
 use std::alloc::Global;
 
@@ -32,7 +34,9 @@ pub struct Losses {
 
 impl Losses {
     /// Nothing is lost.
-    pub(crate) fn new(alloc: Global) -> Losses {
+    pub(crate) fn none(alloc: Global) -> Losses
+        ensures { HasNoLosses result }
+    {
         Losses {
             unread: Vec::new(alloc),
             wrong: 0,
@@ -40,7 +44,7 @@ impl Losses {
             beyond: 0,
             made: Vec::new(alloc),
             keyless: 0,
-            has_no_counter: true,
+            has_no_counter: false,
         }
     }
 

@@ -3,13 +3,16 @@
 ghost use Rattle.std.specs.Prelude.{◌≡◌, ◌≤◌, ◌++◌, [], IsTrue, IfOk};
 ghost use Rattle.bucket_page.specs.Pseudokeys.{sha_key};
 ghost use Rattle.directory.specs.declared.layout.TheConstants.{LEAST_PAGES};
+ghost use Rattle.page_device.specs.Device.{HasRisen};
 ghost use Rattle.page_device.specs.declared.page.TheConstants.{MAX_PAGES};
+ghost use Rattle.migration.specs.Causes.{HasSalvageCause};
 ghost use Rattle.migration.specs.Copying.{IsMadeOf};
 ghost use Rattle.msgq_cli.specs.Outputs.{Prints};
 ghost use Rattle.msgq_cli.specs.Reports.{deed_text};
 ghost use Rattle.msgq_cli.specs.Tasks.{IsFileSize};
 ghost use Rattle.msgq_cli.specs.declared.reports.Deed.TheVariants as deeds;
 ghost use Rattle.migration.specs.Printing.{IsSalvagedOrFault, unread_texts};
+ghost use Rattle.migration.specs.Rescues.{IsRescuedFrom};
 
 use crate::losses::{Losses, Pages};
 use crate::made::Target;
@@ -153,10 +156,15 @@ where
     requires most { target.pages ≤ MAX_PAGES }
     ensures ok { IsTrue (N.is_honest target.device) → IfOk result.found (λ rescue.
         IsMadeOf sha_key target.pages (N.content result.new) rescue.system) }
+    ensures rescued { IsTrue (O.is_honest old) → IsRescuedFrom sha_key (O.content old)
+        (HasRisen (O.fault_count old) (O.fault_count result.old)) result.found }
     ensures same { O.content result.old ≡ O.content old }
-    ensures honest { N.is_honest result.new ≡ N.is_honest target.device }
+    ensures honest { (O.is_honest result.old ≡ O.is_honest old)
+        × (N.is_honest result.new ≡ N.is_honest target.device) }
     ensures synced { IsTrue (N.is_honest target.device) →
         IfOk result.found (λ _. IsTrue (N.is_synced result.new)) }
+    ensures cause { HasSalvageCause (O.fault_count old) (O.fault_count result.old)
+        (N.fault_count target.device) (N.fault_count result.new) result.found }
 {
     let progress = Progress::new(errors);
     let target = Target {
