@@ -1,4 +1,4 @@
-use Rattle.std.proofs.Common.{◌≡◌, ◌+◌, ℕ, ◌<◌, [], slice_index_or}
+use Rattle.std.proofs.Common.{◌+◌, ℕ, ◌<◌, [], slice_index_or}
 use Rattle.page_device.specs.Sealed.{IsSealed}
 use Rattle.digests.proofs.run.are_sealed.Given as goal
 
