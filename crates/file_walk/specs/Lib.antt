@@ -3,6 +3,7 @@ pub mod Files
 pub mod Outlines
 pub mod Order
 pub mod Readings
+pub mod Runs
 pub mod Walks
 pub mod Structure
 pub mod Laws

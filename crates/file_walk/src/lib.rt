@@ -12,6 +12,7 @@ mod laws;
 mod outline;
 mod pages;
 mod sealed_page;
+mod sealed_run;
 mod spares;
 mod structure;
 
