@@ -3,6 +3,7 @@ pub mod PageLemmas
 pub mod KeptLemmas
 pub mod PagesLemmas
 pub mod ReadLemmas
+pub mod RunLemmas
 pub mod ChainLemmas
 pub mod OutlineLemmas
 pub mod SparesLemmas

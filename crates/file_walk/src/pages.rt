@@ -1,21 +1,22 @@
 //! The pages of a file are read, once and in their order.
 
-ghost use Rattle.std.specs.Prelude.{◌≡◌, ◌≤◌, ◌<◌, ◌^◌, ◌⊎◌, ◌++◌, length, take, IsTrue, IfOk, IfErr, OnOk};
+ghost use Rattle.std.specs.Prelude.{◌≡◌, ℕ, ◌≤◌, ◌<◌, ◌^◌, ◌⊎◌, ◌++◌, length, take, IsTrue, IfOk, IfErr, OnOk};
 ghost use Rattle.directory.specs.declared.layout.TheConstants.{FIRST_DIRECTORY_PAGE, GREATEST_DEPTH, PAGE_ENTRIES};
 ghost use Rattle.directory.specs.Layouts.{IsLayout, least_pages};
 ghost use Rattle.file_walk.specs.Outlines.{shape_of_bucket};
 ghost use Rattle.file_walk.specs.Order.{HasReadCause, IsFaultIn, IsFirstWrongIn, IsOfMachine, IsReadingFaultIn};
+ghost use Rattle.file_walk.specs.Runs.{HasRunCause, HoldsRun, IsToldSince};
 ghost use Rattle.file_walk.specs.Readings.{AreEntriesOf, AreFormsOf, IsFormOf, IsOutlineOf, TakesEntries};
 
 use crate::fault::StructureFault;
 use crate::form::Form;
 use crate::header_page::header_of;
 use crate::outline::Outline;
-use crate::sealed_page::read_sealed;
+use crate::sealed_run::SealedRun;
 use bucket_page::{BucketView, Malformed, PageKind, read_page};
 use directory::{DirectoryView, FIRST_DIRECTORY_PAGE, Layout, PAGE_ENTRIES, Range};
 use hash_file::Shape;
-use page_device::{PAYLOAD_BYTES, PageDevice};
+use page_device::PageDevice;
 use std::alloc::{AllocFailed, Global};
 
 /// Reads the header and then each page: its digest first, and then what it spells. Each
@@ -65,8 +66,9 @@ fn entries_of<D: PageDevice>(
 {
     let most = entries_at(depth);
     let mut entries = Vec::with_capacity(alloc, most)?;
+    let mut run = SealedRun::new(alloc)?;
     for page in FIRST_DIRECTORY_PAGE..layout.root_page {
-        take_entries(layout, device, page, most, &mut entries)?;
+        take_entries(layout, device, &mut run, page, most, &mut entries)?;
     }
     Ok(entries)
 }
@@ -83,25 +85,28 @@ fn entries_at(depth: u8) -> usize
 fn take_entries<D: PageDevice>(
     layout: &Layout,
     device: &mut D,
+    run: &mut SealedRun,
     page: u32,
     most: usize,
     entries: &mut Vec<u32>,
 ) -> Result<(), StructureFault>
     requires layout { IsLayout layout.now }
-    requires within { page < length (D.content device.old) }
+    requires held { HoldsRun (D.is_honest device.old) (D.content device.old) run.old }
+    requires whole { layout.now.root_page ≤ length (D.content device.old) }
     requires below { page < layout.now.root_page }
     requires room { length entries.old.items ≤ most }
     ensures ok { OnOk result (TakesEntries layout.now (D.is_honest device.old)
         (D.content device.old) page most entries.old.items entries.new.items) }
     ensures err { IsTrue (D.is_honest device.old) → IfErr result (λ fault.
         IsOfMachine fault ⊎ IsFaultIn layout.now (D.content device.old) page fault) }
+    ensures held { HoldsRun (D.is_honest device.new) (D.content device.new) run.new }
     ensures same { D.content device.new ≡ D.content device.old }
     ensures honest { D.is_honest device.new ≡ D.is_honest device.old }
-    ensures cause { HasReadCause (D.fault_count device.old) (D.fault_count device.new) result }
+    ensures cause { (since : ℕ) → IsToldSince since (D.fault_count device.old) run.old →
+        HasRunCause since (D.fault_count device.new) run.new result }
 {
-    let mut payload = [0; PAYLOAD_BYTES];
-    read_sealed(device, page, &mut payload)?;
-    let directory = match read_page(&payload) {
+    run.reach(device, page, layout.root_page)?;
+    let directory = match read_page(run.payload(page)) {
         Ok(PageKind::Directory(directory)) => directory,
         Ok(PageKind::Bucket(_)) => return Err(misplaced(page)),
         Ok(PageKind::Tombstone { .. }) => return Err(misplaced(page)),
@@ -151,32 +156,38 @@ fn forms_of<D: PageDevice>(
 {
     let mut forms = vec![in alloc; Form::Other; layout.root_page as usize]?;
     forms.reserve((pages - layout.root_page) as usize)?;
+    let mut run = SealedRun::new(alloc)?;
     for page in layout.root_page..pages {
-        forms.push(form_of(layout, device, page)?)?;
+        forms.push(form_of(layout, device, &mut run, page, pages)?)?;
     }
     Ok(forms)
 }
 
-/// What is kept of a page from the root on.
+/// What is kept of a page from the root on, of so many.
 fn form_of<D: PageDevice>(
     layout: &Layout,
     device: &mut D,
+    run: &mut SealedRun,
     page: u32,
+    pages: u32,
 ) -> Result<Form, StructureFault>
     requires layout { IsLayout layout.now }
-    requires within { page < length (D.content device.old) }
+    requires held { HoldsRun (D.is_honest device.old) (D.content device.old) run.old }
+    requires whole { pages ≡ length (D.content device.old) }
     requires behind { layout.now.root_page ≤ page }
+    requires within { page < pages }
     ensures ok { IsTrue (D.is_honest device.old) →
         IfOk result (IsFormOf layout.now (D.content device.old) page) }
     ensures err { IsTrue (D.is_honest device.old) → IfErr result (λ fault.
         IsOfMachine fault ⊎ IsFaultIn layout.now (D.content device.old) page fault) }
+    ensures held { HoldsRun (D.is_honest device.new) (D.content device.new) run.new }
     ensures same { D.content device.new ≡ D.content device.old }
     ensures honest { D.is_honest device.new ≡ D.is_honest device.old }
-    ensures cause { HasReadCause (D.fault_count device.old) (D.fault_count device.new) result }
+    ensures cause { (since : ℕ) → IsToldSince since (D.fault_count device.old) run.old →
+        HasRunCause since (D.fault_count device.new) run.new result }
 {
-    let mut payload = [0; PAYLOAD_BYTES];
-    read_sealed(device, page, &mut payload)?;
-    match read_page(&payload) {
+    run.reach(device, page, pages)?;
+    match read_page(run.payload(page)) {
         Ok(PageKind::Bucket(bucket)) => {
             if bucket.depth() > layout.greatest_depth {
                 return Err(StructureFault::Malformed {

@@ -3,11 +3,14 @@ use Rattle.std.proofs.Common.{◌≡◌, IsTrue, length, map, take, replicate}
 use Rattle.file_walk.specs.declared.form.Form.TheVariants as forms
 use Rattle.file_walk.specs.Files.{pages_in}
 use Rattle.file_walk.specs.Outlines.{shown, bare}
+use Rattle.file_walk.specs.Runs.{HoldsRun, IsToldSince}
 use Rattle.file_walk.proofs.PagesLemmas.{IsReadTo}
 use Rattle.file_walk.proofs.pages.forms_of.Given as goal
 
 abbrev pub invariant-loop-page : goal.invariant-loop-page
 invariant-loop-page g l = record {
+  held : HoldsRun (g.D.PageDevice.is_honest l.device) (g.D.PageDevice.content l.device) l.run;
+  told : IsToldSince (g.D.PageDevice.fault_count l.fn.device) (g.D.PageDevice.fault_count l.device) l.run;
   read : IsReadTo l.layout g.D.PageDevice.content g.D.PageDevice.is_honest g.D.PageDevice.fault_count
       l.fn.device l.device l.layout.root_page l.page;
   number : length l.forms.items ≡ l.page;
