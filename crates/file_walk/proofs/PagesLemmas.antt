@@ -152,13 +152,13 @@ module _ (l : Layout) (laid : IsLayout l) where
     }
 
     pub read_more : (old now next : D) (from to : ℕ) → IsReadTo l content honest faults old now from to →
-        content next ≡ content now → honest next ≡ honest now → faults now ≤ faults next →
+        content next ≡ content now → honest next ≡ honest now → faults old ≤ faults next →
         (IsTrue (honest now) → IsRightPageIn l (content now) to)
         → IsReadTo l content honest faults old next from (to + 1)
     read_more old now next from to h same honesty later right = record {
       same = same ∙ h.same;
       honesty = honesty ∙ h.honesty;
-      later = let before = h.later in omega arith;
+      later = later;
       right = λ is. right_more (content old) from to (h.right is)
           (subst (λ pages. IsRightPageIn l pages to) h.same (right (subst IsTrue (sym h.honesty) is)));
     }

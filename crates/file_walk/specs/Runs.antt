@@ -40,9 +40,9 @@ pub record IsNoRun (run : SealedRun) : Type 0 where
   pub none : run.end ≡ 0
   pub calm : run.failed ≡ false
 
--- the run begins with page n
-pub record IsRun (n : ℕ) (run : SealedRun) : Type 0 where
-  pub first : run.first ≡ n
+-- page n is one of the run
+pub record HasInRun (run : SealedRun) (n : ℕ) : Type 0 where
+  pub behind : run.first ≤ n
   pub within : n < run.end
 
 -- page n lies in the room, and is sealed

@@ -3,7 +3,7 @@
 ghost use Rattle.std.specs.Prelude.{◌≡◌, ℕ, ◌+◌, ◌≤◌, ◌<◌, ◌⊎◌, ◌↔◌, length, IsTrue, IfOk, IfErr, OnOk};
 ghost use Rattle.page_device.specs.Sealed.{IsSealed, payload_of};
 ghost use Rattle.file_walk.specs.Order.{IsOfMachine, IsUnread};
-ghost use Rattle.file_walk.specs.Runs.{AreHeld, HasPage, HasReadTo, HasRunCause, HoldsRun, IsNoRun, IsReached, IsRun, IsToldSince, held_at};
+ghost use Rattle.file_walk.specs.Runs.{AreHeld, HasInRun, HasPage, HasReadTo, HasRunCause, HoldsRun, IsNoRun, IsReached, IsToldSince, held_at};
 
 use crate::fault::StructureFault;
 use digests::{LANES, are_sealed};
@@ -62,14 +62,14 @@ impl SealedRun {
         ensures cause { (since : ℕ) → IsToldSince since (D.fault_count device.old) self.old →
             HasRunCause since (D.fault_count device.new) self.new result }
     {
-        if page < self.first || self.end <= page {
-            self.read_on(device, page, end)?;
+        self.bring(device, page, end)?;
+        if self.sealed {
+            return Ok(());
         }
-        if self.sealed || is_sealed(page, &self.pages[(page - self.first) as usize]) {
-            Ok(())
-        } else {
-            Err(StructureFault::BadDigest { page })
+        if !is_sealed(page, &self.pages[(page - self.first) as usize]) {
+            return Err(StructureFault::BadDigest { page });
         }
+        Ok(())
     }
 
     /// The payload of a page of the run.
@@ -83,6 +83,30 @@ impl SealedRun {
         payload
     }
 
+    /// Reads pages from this on, as far as `end`, where the run doesn't have it.
+    fn bring<D: PageDevice>(
+        &mut self,
+        device: &mut D,
+        page: u32,
+        end: u32,
+    ) -> Result<(), StructureFault>
+        requires held { HoldsRun (D.is_honest device.old) (D.content device.old) self.old }
+        requires within { page < end }
+        requires whole { end ≤ length (D.content device.old) }
+        ensures ok { OnOk result (HasInRun self.new page) }
+        ensures err { IfErr result IsOfMachine }
+        ensures held { HoldsRun (D.is_honest device.new) (D.content device.new) self.new }
+        ensures same { D.content device.new ≡ D.content device.old }
+        ensures honest { D.is_honest device.new ≡ D.is_honest device.old }
+        ensures cause { (since : ℕ) → IsToldSince since (D.fault_count device.old) self.old →
+            HasRunCause since (D.fault_count device.new) self.new result }
+    {
+        if self.first <= page && page < self.end {
+            return Ok(());
+        }
+        self.read_on(device, page, end)
+    }
+
     /// Reads the run of pages from this on, as far as `end`, and tests them where they are sixteen.
     /// A page that can't be read is told when it is reached.
     fn read_on<D: PageDevice>(
@@ -94,7 +118,7 @@ impl SealedRun {
         requires held { HoldsRun (D.is_honest device.old) (D.content device.old) self.old }
         requires within { page < end }
         requires whole { end ≤ length (D.content device.old) }
-        ensures ok { OnOk result (IsRun page self.new) }
+        ensures ok { OnOk result (HasInRun self.new page) }
         ensures err { IfErr result IsOfMachine }
         ensures held { HoldsRun (D.is_honest device.new) (D.content device.new) self.new }
         ensures same { D.content device.new ≡ D.content device.old }

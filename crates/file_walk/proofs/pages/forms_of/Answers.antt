@@ -1,5 +1,5 @@
 -- Page by page what is kept of it is put behind.
-use Rattle.std.proofs.Common.{◌≡◌, ◌≤◌, ◌<◌, ◌+◌, map, take, lit≤, length, length-append, sym, subst, ap, ◌∙◌, IsTrue, arith}
+use Rattle.std.proofs.Common.{◌≡◌, ◌≤◌, ◌<◌, ◌+◌, map, take, lit≤, length, length-append, refl, sym, subst, ap, ◌∙◌, IsTrue, arith}
 use Rattle.std.proofs.lemmas.Result.{err_from_is_err_and}
 use Rattle.file_walk.specs.declared.form.Form.TheVariants as forms
 use Rattle.std.proofs.lemmas.List.{length-replicate, take_all, take-append-le}
@@ -7,12 +7,15 @@ use Rattle.file_walk.specs.Files.{said_on}
 use Rattle.file_walk.specs.Outlines.{shown, bare}
 use Rattle.file_walk.specs.Order.{AreRightIn}
 use Rattle.file_walk.proofs.PagesLemmas.{read_none, read_more, forms_start, forms_more, forms_end, first_wrong}
+use Rattle.file_walk.proofs.RunLemmas.{none_held, none_told, told_on, read_cause, passed_cause}
 use Rattle.file_walk.proofs.pages.forms_of.Goals as goal
 
 pub loop-page-init : goal.loop-page-init
 loop-page-init g c =
     let items = c.in_ok-reserve.ensures.items ∙ c.in_ok-forms.ensures.items_if_clones_equal (λ y same. same) in
     record {
+      held = none_held _ _ _ c.in_ok-run.ensures;
+      told = none_told _ _ c.in_ok-run.ensures;
       read = read_none c.args.layout.now c.requires.layout g.D.PageDevice.content g.D.PageDevice.is_honest
           g.D.PageDevice.fault_count _ _;
       number = ap length items ∙ length-replicate c.args.layout.now.root_page forms.Other;
@@ -29,9 +32,11 @@ loop-page-preserved g c =
     let within : c.loop-page.page < length (g.D.PageDevice.content c.args.device.now) =
     let whole = c.requires.whole in let here = c.loop-page-test.true in omega arith in
     record {
+      held = taken.held;
+      told = told_on _ _ _ _ (taken.cause _ before.told);
       read = read_more c.args.layout.now c.requires.layout g.D.PageDevice.content g.D.PageDevice.is_honest
           g.D.PageDevice.fault_count _ _ _ _ _ before.read
-          taken.same taken.honest taken.cause.later (λ is. (taken.ok is).right);
+          taken.same taken.honest (taken.cause _ before.told).later (λ is. (taken.ok is).right);
       number =
           ap length c.in_ok-push.ensures.items ∙ length-append c.loop-page.forms.items _
           ∙ ap (λ n. n + 1) before.number;
@@ -56,6 +61,12 @@ returns-in_err-form_of-clause-err g c = λ is.
     rw (p.1, p.2) (first_wrong c.args.layout.now c.requires.layout _ _ _ _ _ before.read.same
     (before.read.right is) c.loop-page.auto.page within
     (c.in_err-form_of.ensures.err (subst IsTrue (sym before.read.honesty) is)))
+
+pub returns-in_err-form_of-clause-cause : goal.returns-in_err-form_of-clause-cause
+returns-in_err-form_of-clause-cause g c =
+    let p = err_from_is_err_and c.from_residual-in_err-form_of.result c.from_residual-in_err-form_of.ensures.1 in
+    read_cause _ _ _ _ (passed_cause _ _ _ _ _ _ _
+    (c.in_err-form_of.ensures.cause _ c.loop-page.invariant.told) refl p.1 p.2)
 
 pub returns-clause-ok : goal.returns-clause-ok
 returns-clause-ok g c =
