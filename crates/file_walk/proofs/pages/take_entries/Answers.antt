@@ -1,7 +1,7 @@
 use Rattle.std.proofs.Common.{◌<◌, length, refl, inr, arith}
 use Rattle.std.proofs.lemmas.Result.{err_from_is_err_and}
 use Rattle.file_walk.proofs.PageLemmas.{entries_taken, is_malformed, directory_misplaced, seal_fault}
-use Rattle.file_walk.proofs.RunLemmas.{payload_read}
+use Rattle.file_walk.proofs.RunLemmas.{payload_read, other_cause, passed_cause}
 use Rattle.file_walk.proofs.pages.take_entries.Goals as goal
 
 pub returns-clause-ok : goal.returns-clause-ok
@@ -45,3 +45,34 @@ returns-in_err-reach-clause-err g c = λ honest.
     let whole = c.requires.whole in let here = c.requires.below in omega arith in
     rw (p.1, p.2) (seal_fault c.args.layout.now c.requires.layout _ _ _ within
     (c.in_err-reach.ensures.err honest))
+
+pub returns-in-Ok-Bucket-clause-cause : goal.returns-in-Ok-Bucket-clause-cause
+returns-in-Ok-Bucket-clause-cause g c = λ since told.
+    let kind = c.misplaced.ensures in
+    other_cause _ _ _ _ _ (c.in_ok-reach.ensures.cause since told) (λ is. absurd cc)
+
+pub returns-in-Ok-Tombstone-clause-cause : goal.returns-in-Ok-Tombstone-clause-cause
+returns-in-Ok-Tombstone-clause-cause g c = λ since told.
+    let kind = c.misplaced-in-Ok-Tombstone.ensures in
+    other_cause _ _ _ _ _ (c.in_ok-reach.ensures.cause since told) (λ is. absurd cc)
+
+pub returns-in-Ok-Free-clause-cause : goal.returns-in-Ok-Free-clause-cause
+returns-in-Ok-Free-clause-cause g c = λ since told.
+    let kind = c.misplaced-in-Ok-Free.ensures in
+    other_cause _ _ _ _ _ (c.in_ok-reach.ensures.cause since told) (λ is. absurd cc)
+
+pub returns-in-Err-clause-cause : goal.returns-in-Err-clause-cause
+returns-in-Err-clause-cause g c = λ since told.
+    other_cause _ _ _ _ _ (c.in_ok-reach.ensures.cause since told) (λ is. absurd cc)
+
+pub returns-in_err-reach-clause-cause : goal.returns-in_err-reach-clause-cause
+returns-in_err-reach-clause-cause g c = λ since told.
+    let p = err_from_is_err_and c.from_residual.result c.from_residual.ensures.1 in
+    passed_cause _ _ _ _ _ _ _ (c.in_err-reach.ensures.cause since told) refl p.1 p.2
+
+pub returns-in_err-keep_entries-clause-cause : goal.returns-in_err-keep_entries-clause-cause
+returns-in_err-keep_entries-clause-cause g c = λ since told.
+    let p = err_from_is_err_and c.from_residual-in_err-keep_entries.result
+    c.from_residual-in_err-keep_entries.ensures.1 in
+    let told_is = p.1 in let memory = p.2 in
+    other_cause _ _ _ _ _ (c.in_ok-reach.ensures.cause since told) (λ is. absurd cc)
