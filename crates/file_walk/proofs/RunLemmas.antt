@@ -84,11 +84,10 @@ module _ {T : Type 0} (since now : ℕ) (run : SealedRun) (result : Result T Str
   }
 
   -- or the same
-  pub passed_cause : {U : Type 0} (given : Result U StructureFault) (fault told : StructureFault) →
-      HasRunCause since now run given → given ≡ Err fault → result ≡ Err told → told ≡ fault →
-      HasRunCause since now run result
-  passed_cause given fault told h is_fault is_told same = record {
+  pub passed_cause : {U : Type 0} (fault told : StructureFault) → HasRunCause {T = U} since now run (Err fault) →
+      result ≡ Err told → told ≡ fault → HasRunCause since now run result
+  passed_cause fault told h is_told same = record {
     later = h.later;
-    told = λ is. let device : fault ≡ faults.Device = cc in h.told (is_fault ∙ ap (λ e. Err e) device);
+    told = λ is. let device : fault ≡ faults.Device = cc in h.told (ap (λ e. Err e) device);
     failed = h.failed;
   }

@@ -133,8 +133,8 @@ impl SealedRun {
         self.first = page;
         self.end = read_pages(device, page, end, &mut self.pages);
         self.failed = self.end < end;
-        self.sealed =
-            (self.end - self.first) as usize == LANES && are_sealed(self.first, &self.pages);
+        self.sealed = (self.end - self.first) as usize == LANES
+            && are_sealed(self.first, &self.pages);
         if self.end == page {
             return Err(StructureFault::Device);
         }
@@ -143,12 +143,7 @@ impl SealedRun {
 }
 
 /// Reads pages into a room, from its beginning on. The first that could not be read, or `end`.
-fn read_pages<D: PageDevice>(
-    device: &mut D,
-    first: u32,
-    end: u32,
-    room: &mut [Page],
-) -> u32
+fn read_pages<D: PageDevice>(device: &mut D, first: u32, end: u32, room: &mut [Page]) -> u32
     requires within { first ≤ end }
     requires room { end ≤ first + length room.old }
     requires whole { end ≤ length (D.content device.old) }

@@ -1,5 +1,5 @@
 -- Page by page the entries are kept, up to the end of the directory.
-use Rattle.std.proofs.Common.{◌≡◌, ◌<◌, ◌++◌, take, length, refl, sym, subst, ap, ◌∙◌, IsTrue, arith}
+use Rattle.std.proofs.Common.{◌≡◌, ◌<◌, ◌++◌, take, length, sym, subst, ap, ◌∙◌, IsTrue, arith}
 use Rattle.std.proofs.Math.Nat.{min-zero}
 use Rattle.std.proofs.Math.Seq.{take-nil}
 use Rattle.std.proofs.lemmas.Result.{err_from_is_err_and}
@@ -59,8 +59,8 @@ pub returns-in_err-take_entries-clause-cause : goal.returns-in_err-take_entries-
 returns-in_err-take_entries-clause-cause g c =
     let p = err_from_is_err_and c.from_residual-in_err-take_entries.result
     c.from_residual-in_err-take_entries.ensures.1 in
-    read_cause _ _ _ _ (passed_cause _ _ _ _ _ _ _
-    (c.in_err-take_entries.ensures.cause _ c.loop-page.invariant.told) refl p.1 p.2)
+    read_cause _ _ _ _ (passed_cause _ _ _ _ _ _
+    (c.in_err-take_entries.ensures.cause _ c.loop-page.invariant.told) p.1 p.2)
 
 pub returns-clause-ok : goal.returns-clause-ok
 returns-clause-ok g c =

@@ -85,4 +85,4 @@ returns-in-Err-clause-cause g c = λ since told.
 pub returns-in_err-reach-clause-cause : goal.returns-in_err-reach-clause-cause
 returns-in_err-reach-clause-cause g c = λ since told.
     let p = err_from_is_err_and c.from_residual.result c.from_residual.ensures.1 in
-    passed_cause _ _ _ _ _ _ _ (c.in_err-reach.ensures.cause since told) refl p.1 p.2
+    passed_cause _ _ _ _ _ _ (c.in_err-reach.ensures.cause since told) p.1 p.2

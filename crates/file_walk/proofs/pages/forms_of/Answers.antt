@@ -1,5 +1,5 @@
 -- Page by page what is kept of it is put behind.
-use Rattle.std.proofs.Common.{◌≡◌, ◌≤◌, ◌<◌, ◌+◌, map, take, lit≤, length, length-append, refl, sym, subst, ap, ◌∙◌, IsTrue, arith}
+use Rattle.std.proofs.Common.{◌≡◌, ◌≤◌, ◌<◌, ◌+◌, map, take, lit≤, length, length-append, sym, subst, ap, ◌∙◌, IsTrue, arith}
 use Rattle.std.proofs.lemmas.Result.{err_from_is_err_and}
 use Rattle.file_walk.specs.declared.form.Form.TheVariants as forms
 use Rattle.std.proofs.lemmas.List.{length-replicate, take_all, take-append-le}
@@ -7,7 +7,7 @@ use Rattle.file_walk.specs.Files.{said_on}
 use Rattle.file_walk.specs.Outlines.{shown, bare}
 use Rattle.file_walk.specs.Order.{AreRightIn}
 use Rattle.file_walk.proofs.PagesLemmas.{read_none, read_more, forms_start, forms_more, forms_end, first_wrong}
-use Rattle.file_walk.proofs.RunLemmas.{none_held, none_told, told_on, read_cause, passed_cause}
+use Rattle.file_walk.proofs.RunLemmas.{none_held, none_told, told_on, read_cause, other_cause, passed_cause}
 use Rattle.file_walk.proofs.pages.forms_of.Goals as goal
 
 pub loop-page-init : goal.loop-page-init
@@ -65,8 +65,15 @@ returns-in_err-form_of-clause-err g c = λ is.
 pub returns-in_err-form_of-clause-cause : goal.returns-in_err-form_of-clause-cause
 returns-in_err-form_of-clause-cause g c =
     let p = err_from_is_err_and c.from_residual-in_err-form_of.result c.from_residual-in_err-form_of.ensures.1 in
-    read_cause _ _ _ _ (passed_cause _ _ _ _ _ _ _
-    (c.in_err-form_of.ensures.cause _ c.loop-page.invariant.told) refl p.1 p.2)
+    read_cause _ _ _ _ (passed_cause _ _ _ _ _ _
+    (c.in_err-form_of.ensures.cause _ c.loop-page.invariant.told) p.1 p.2)
+
+pub returns-in_err-push-clause-cause : goal.returns-in_err-push-clause-cause
+returns-in_err-push-clause-cause g c =
+    let p = err_from_is_err_and c.from_residual-in_err-push.result c.from_residual-in_err-push.ensures.1 in
+    let told_is = p.1 in let memory = p.2 in
+    read_cause _ _ _ _ (other_cause _ _ _ _ _
+    (c.in_ok-form_of.ensures.cause _ c.loop-page.invariant.told) (λ is. absurd cc))
 
 pub returns-clause-ok : goal.returns-clause-ok
 returns-clause-ok g c =

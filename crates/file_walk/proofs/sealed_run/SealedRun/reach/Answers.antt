@@ -1,5 +1,5 @@
 -- The run has the page, which was tested with the others or is tested now.
-use Rattle.std.proofs.Common.{◌-◌, [], refl, subst, ◌∙◌}
+use Rattle.std.proofs.Common.{◌-◌, [], subst, ◌∙◌}
 use Rattle.std.proofs.lemmas.List.{get_or_default}
 use Rattle.std.proofs.lemmas.Result.{err_from_is_err_and}
 use Rattle.page_device.specs.Sealed.{IsSealed}
@@ -35,4 +35,4 @@ returns-clause-cause g c = λ since told.
 pub returns-in_err-bring-clause-cause : goal.returns-in_err-bring-clause-cause
 returns-in_err-bring-clause-cause g c = λ since told.
     let p = err_from_is_err_and c.from_residual.result c.from_residual.ensures.1 in
-    passed_cause _ _ _ _ _ _ _ (c.in_err-bring.ensures.cause since told) refl p.1 p.2
+    passed_cause _ _ _ _ _ _ (c.in_err-bring.ensures.cause since told) p.1 p.2
