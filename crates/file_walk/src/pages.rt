@@ -20,7 +20,7 @@ use page_device::PageDevice;
 use std::alloc::{AllocFailed, Global};
 
 /// Reads the header and then each page: its digest first, and then what it spells. Each
-/// page is read once.
+/// page is read once; their digests are tested in runs.
 pub fn read_outline<D: PageDevice>(
     alloc: Global,
     layout: &Layout,

@@ -26,8 +26,9 @@ pub struct Structure {
 /// the list of free pages, the directory. The first thing that is wrong, in this order, is
 /// answered. Nothing is written.
 ///
-/// Each page is read once, and its digest tested. Beside four bytes an entry it takes 21 bytes a
-/// page, and as much again while a list grows; the time grows with the pages and the entries alone.
+/// Each page is read once, and its digest tested. Beside 64 KB while pages are read and four bytes
+/// an entry it takes 21 bytes a page, and as much again while a list grows; the time grows with the
+/// pages and the entries alone.
 pub fn check_structure<D: PageDevice>(
     alloc: Global,
     device: &mut D,

@@ -14,7 +14,8 @@ returns-else-depth-layout-clause-ok g c = λ honest.
     let shallow : c.in-Ok-Bucket.bucket.depth ≤ c.args.layout.now.greatest_depth =
     omega (arith, c.depth.ensures, c.if-depth-layout.false) in
     form_taken c.args.layout.now c.requires.layout _ _ _ _ _
-    (payload_read _ _ _ _ _ c.in_ok-reach.ensures.ok c.payload.ensures honest) e s c.requires.behind refl shallow
+    (payload_read _ _ _ _ _ c.in_ok-reach.ensures.ok c.payload.ensures honest)
+    e s c.requires.behind refl shallow
     (ap (λ shape. shown (forms.Bucket shape)) c.shape_of.ensures)
 
 pub returns-then-depth-layout-clause-err : goal.returns-then-depth-layout-clause-err
@@ -22,7 +23,8 @@ returns-then-depth-layout-clause-err g c = λ honest.
     let e = rw c.in-Ok-Bucket.field-0-is at c.in-Ok-Bucket.ensures.value in
     let deep : c.args.layout.now.greatest_depth < c.in-Ok-Bucket.bucket.depth =
     omega (arith, c.depth.ensures, c.if-depth-layout.true) in
-    inr (form_too_deep c.args.layout.now c.requires.layout _ _ _ _ _ (payload_read _ _ _ _ _ c.in_ok-reach.ensures.ok c.payload.ensures honest) e
+    inr (form_too_deep c.args.layout.now c.requires.layout _ _ _ _ _
+    (payload_read _ _ _ _ _ c.in_ok-reach.ensures.ok c.payload.ensures honest) e
     c.requires.behind refl deep refl)
 
 pub returns-in-Ok-Tombstone-clause-ok : goal.returns-in-Ok-Tombstone-clause-ok
@@ -30,20 +32,23 @@ returns-in-Ok-Tombstone-clause-ok g c = λ honest.
     let e = rw c.in-Ok-Tombstone.field-0-is at c.in-Ok-Tombstone.ensures.value in
     let s = rw c.in-Ok-Tombstone.field-0-is at c.in-Ok-Tombstone.ensures.ok in
     form_taken c.args.layout.now c.requires.layout _ _ _ _ _
-    (payload_read _ _ _ _ _ c.in_ok-reach.ensures.ok c.payload.ensures honest) e s c.requires.behind refl (omega arith) refl
+    (payload_read _ _ _ _ _ c.in_ok-reach.ensures.ok c.payload.ensures honest)
+    e s c.requires.behind refl (omega arith) refl
 
 pub returns-in-Ok-Free-clause-ok : goal.returns-in-Ok-Free-clause-ok
 returns-in-Ok-Free-clause-ok g c = λ honest.
     let e = rw c.in-Ok-Free.field-0-is at c.in-Ok-Free.ensures.value in
     let s = rw c.in-Ok-Free.field-0-is at c.in-Ok-Free.ensures.ok in
     form_taken c.args.layout.now c.requires.layout _ _ _ _ _
-    (payload_read _ _ _ _ _ c.in_ok-reach.ensures.ok c.payload.ensures honest) e s c.requires.behind refl (omega arith) refl
+    (payload_read _ _ _ _ _ c.in_ok-reach.ensures.ok c.payload.ensures honest)
+    e s c.requires.behind refl (omega arith) refl
 
 pub returns-in-Ok-Directory-clause-err : goal.returns-in-Ok-Directory-clause-err
 returns-in-Ok-Directory-clause-err g c = λ honest.
     let e = rw c.in-Ok-Directory.field-0-is at c.in-Ok-Directory.ensures.value in
     inr (form_misplaced c.args.layout.now c.requires.layout _ _ _ _ _
-    (payload_read _ _ _ _ _ c.in_ok-reach.ensures.ok c.payload.ensures honest) e c.requires.behind refl c.misplaced.ensures)
+    (payload_read _ _ _ _ _ c.in_ok-reach.ensures.ok c.payload.ensures honest)
+    e c.requires.behind refl c.misplaced.ensures)
 
 pub returns-in-Err-clause-err : goal.returns-in-Err-clause-err
 returns-in-Err-clause-err g c = λ honest.

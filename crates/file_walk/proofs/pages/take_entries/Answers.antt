@@ -8,7 +8,8 @@ pub returns-clause-ok : goal.returns-clause-ok
 returns-clause-ok g c =
     let e = rw c.in-Ok-Directory.field-0-is at c.in-Ok-Directory.ensures.value in
     let s = rw c.in-Ok-Directory.field-0-is at c.in-Ok-Directory.ensures.ok in
-    entries_taken c.args.layout.now c.requires.layout _ _ _ _ _ _ _ _ (payload_read _ _ _ _ _ c.in_ok-reach.ensures.ok c.payload.ensures) e s
+    entries_taken c.args.layout.now c.requires.layout _ _ _ _ _ _ _ _
+    (payload_read _ _ _ _ _ c.in_ok-reach.ensures.ok c.payload.ensures) e s
     c.requires.below s.in_range.number
     c.in_ok-keep_entries.ensures
 
