@@ -1,5 +1,5 @@
 -- Pages are read one after the other into a room, and tested there.
-use Rattle.std.proofs.Common.{ℕ, ◌≡◌, Bool, List, Result, Err, IsTrue, sym, ap, subst, ◌∙◌, arith}
+use Rattle.std.proofs.Common.{ℕ, ◌≡◌, Bool, List, Result, Err, IsTrue, sym, ap, subst, arith}
 use Rattle.page_device.specs.Sealed.{IsSealed, payload_of}
 use Rattle.file_walk.specs.declared.fault.StructureFault.{StructureFault}
 use Rattle.file_walk.specs.declared.fault.StructureFault.TheVariants as faults
