@@ -1,0 +1,4 @@
+mod RowLemmas
+mod ColumnLemmas
+mod PageWords
+mod RunLemmas
