@@ -1,7 +1,8 @@
 -- A find that is made in one go, and a write that goes to its page so. docs/STEPS.md, "Search".
 use Rattle.std.specs.Prelude.{ℕ, ◌≡◌, true, List, [], ◌∷◌, ◌++◌, length, Option, Some, None, Ok}
 use Rattle.file_pages.specs.declared.fault.FileFault.{FileFault}
-use Rattle.record_file.specs.OperationRuns.{operation_at, operation_done}
+use Rattle.record_file.specs.OperationRuns.{LacksKey, deed_of, operation_at, operation_done}
+use Rattle.record_file.specs.WritesAhead.{WritesOn}
 use Rattle.record_file.specs.stale_search.SearchRuns.{At, HasNoLock, at, standing, way_up_to}
 use Rattle.record_file.specs.stale_search.declared.place.SearchPlace.{SearchPlace}
 use Rattle.record_file.specs.stale_search.declared.place.SearchPlace.TheVariants.{Found}
@@ -9,7 +10,7 @@ use Rattle.record_file.specs.step_rules.Runs.{MovesAlong, Stop, stop, stops_in}
 use Rattle.record_file.specs.step_rules.declared.kind.Kind.TheVariants as kinds
 use Rattle.record_file.specs.AccessWords.{RecordKey, PoolState, Table, HasEnded, IsSeat, IsReady, EndsRow, Progress, Fault, row_of, store_of}
 use Rattle.record_file.specs.OperationWords.{with_row}
-use Rattle.record_file.specs.Accesses.{AccessView, access_locks}
+use Rattle.record_file.specs.Accesses.{AccessView, access_key, access_locks}
 use Rattle.record_file.specs.AccessSteps.{MakesAccess}
 use Rattle.record_file.specs.Readings.{Takes}
 
@@ -80,6 +81,12 @@ pub record TakesAhead (page : ℕ) (found : Option ℕ) (pool : PoolState) (old 
   pub is : new ≡ record old { bytes = new.bytes }
   pub takes : Takes {X = Unit} (Ok tt) pool pool (access_at (Found page found) old)
       (record (access_at (Found page found) old) { bytes = new.bytes })
+
+-- it has written there what it is for, which it has taken from that page, and nothing more is due behind it
+pub record WritesThere (page : ℕ) (found : Option ℕ) (pool pool' : PoolState) (old new : AccessView) : Type 0 where
+  pub lacks : LacksKey found old.operation
+  pub ahead : TakesAhead page found pool old new
+  pub done : WritesOn (deed_of old.operation) page found (access_key old) new.bytes pool pool'
 
 -- a write has gone straight to the page that answers, by these of its steps; the pool is what it was
 pub record ReachesAtOnce (seat : ℕ) (old new : AccessView) (pool : PoolState) (locks locks' : Table) : Type 0 where

@@ -6,7 +6,8 @@ ghost use Rattle.record_file.specs.declared.bucket_access.Deed.{Deed};
 ghost use Rattle.record_file.specs.BucketAccesses.{begun_access};
 ghost use Rattle.record_file.specs.Inserts.{IsOver, IsTry, is_there, said_of, searches_in};
 ghost use Rattle.record_file.specs.InsertSteps.{Notes};
-ghost use Rattle.record_file.specs.OperationRuns.{stage_at};
+ghost use Rattle.record_file.specs.BucketRuns.{bucket_found};
+ghost use Rattle.record_file.specs.OperationRuns.{stage_at, stage_put};
 
 use crate::bucket_access::{BucketAccess, Deed};
 use crate::second_try::SecondTry;
@@ -139,6 +140,17 @@ impl Insert {
     {
         if let InsertStage::First(first, _) = &mut self.stage {
             first.stand_at(page, None);
+        }
+    }
+
+    /// A page has answered its first try, which has put the record there and given the page back.
+    pub fn end_at(&mut self, page: u32, found: Option<usize>)
+        ensures { self.new ≡
+            record self.old { stage = stage_put (bucket_found page found) self.old.stage } }
+    {
+        if let InsertStage::First(first, said) = &mut self.stage {
+            first.end_at(page, found);
+            *said = Some(Tried::IsPut);
         }
     }
 }

@@ -3,7 +3,7 @@
 ghost use Rattle.std.specs.Prelude.{◌≡◌, ◌↔◌, true, IfSome};
 ghost use Rattle.record_file.specs.stale_search.declared.place.SearchPlace.{SearchPlace};
 ghost use Rattle.record_file.specs.Operations.{FoundAtEnd, HasEnded, TriedAtEnd, begun_delete, begun_find, begun_insert, begun_replace, operation_found, operation_searches, operation_tried};
-ghost use Rattle.record_file.specs.OperationRuns.{IsBucketOf, LacksKey, operation_at};
+ghost use Rattle.record_file.specs.OperationRuns.{IsBeforeMerge, IsBucketOf, LacksKey, operation_at, operation_through};
 
 use crate::bucket_access::{BucketAccess, Deed};
 use crate::delete::Delete;
@@ -131,6 +131,19 @@ impl RecordOperation {
             RecordOperation::Insert(insert) => insert.stand_at(page),
             RecordOperation::Replace(replace) => replace.stand_at(page, found),
             RecordOperation::Delete(delete) => delete.stand_at(page, found),
+        }
+    }
+
+    /// A page has answered, was written with nothing more due behind it, and was given back.
+    pub fn end_at(&mut self, page: u32, found: Option<usize>)
+        requires removing { IsBeforeMerge self.old }
+        ensures { self.new ≡ operation_through page found self.old }
+    {
+        match self {
+            RecordOperation::Find(_) => {}
+            RecordOperation::Insert(insert) => insert.end_at(page, found),
+            RecordOperation::Replace(replace) => replace.end_at(page, found),
+            RecordOperation::Delete(delete) => delete.end_at(page, found),
         }
     }
 }

@@ -3,12 +3,14 @@
 ghost use Rattle.std.specs.Prelude.{◌≡◌, IfErr, IfOk, IfSome, None, true, false};
 ghost use Rattle.record_file.specs.AccessWords.{EndsRow, IsReady, IsSeat, row_of};
 ghost use Rattle.record_file.specs.Accesses.{access_locks};
-ghost use Rattle.record_file.specs.AccessRuns.{FailsAtOnce, ReachesAtOnce, TakesAhead, WritesAtOnce};
+ghost use Rattle.record_file.specs.AccessRuns.{FailsAtOnce, ReachesAtOnce, TakesAhead, WritesAtOnce, WritesThere};
 ghost use Rattle.record_file.specs.OperationRuns.{LacksKey, HoldsLength};
 ghost use Rattle.record_file.specs.Readings.{HasFrontSet, IsReplace};
+ghost use Rattle.record_file.specs.WritesAhead.{FailsOn};
 
 use crate::access::Access;
 use crate::operation::RecordOperation;
+use crate::page_ahead::{put_ahead, relink_ahead, remove_ahead, replace_ahead};
 use file_pages::buffer_pool::Pool;
 use file_pages::{FileFault, peek_value};
 use page_device::PageDevice;
@@ -72,8 +74,66 @@ impl Access {
         ensures failed { IfErr result (λ fault.
             FailsAtOnce seat fault self.old self.new pool.old pool.new locks.now) }
     {
-        let _ = (&self.key, pool, locks, seat);
-        Ok(false)
+        let Some(bucket) = self.operation.bucket() else {
+            return Ok(false);
+        };
+        let Some(page) = bucket.heads_for(pool, locks, seat) else {
+            return Ok(false);
+        };
+        let Some(found) = self.write_ahead(pool, page)? else {
+            return Ok(false);
+        };
+        self.operation.end_at(page, found);
+        self.written = true;
+        Ok(true)
+    }
+
+    /// Writes on a page that is in a frame, where nothing more is due behind that, and takes what
+    /// it writes as `take` does. Of the key, the length of the value that stood there is told.
+    fn write_ahead<D: PageDevice>(
+        &mut self,
+        pool: &mut Pool<D>,
+        page: u32,
+    ) -> Result<Option<Option<usize>>, FileFault>
+        requires ready { IsReady pool.old }
+        ensures made { IfOk result (λ made. IfSome made (λ found.
+            WritesThere page found pool.old pool.new self.old self.new)) }
+        ensures spares { IfOk result (λ made. made ≡ None →
+            (self.new ≡ self.old) × (pool.new ≡ pool.old)) }
+        ensures failed { IfErr result (λ fault.
+            (self.new ≡ self.old) × FailsOn fault pool.old pool.new) }
+    {
+        match &self.operation {
+            RecordOperation::Find(_) => Ok(None),
+            RecordOperation::Insert(_) => {
+                if !put_ahead(pool, page, &self.key, self.value.as_slice())? {
+                    return Ok(None);
+                }
+                Ok(Some(None))
+            }
+            RecordOperation::Replace(_) => match &self.links {
+                None => {
+                    let value = self.value.as_slice();
+                    if !replace_ahead(pool, page, &self.key, value)? {
+                        return Ok(None);
+                    }
+                    Ok(Some(Some(value.len())))
+                }
+                Some(links) => {
+                    let Some(len) = relink_ahead(pool, page, &self.key, links, &mut self.value)?
+                    else {
+                        return Ok(None);
+                    };
+                    Ok(Some(Some(len)))
+                }
+            },
+            RecordOperation::Delete(_) => {
+                let Some(len) = remove_ahead(pool, page, &self.key)? else {
+                    return Ok(None);
+                };
+                Ok(Some(Some(len)))
+            }
+        }
     }
 
     /// Takes of a page that is in a frame what a write is for, as `take` does, where that can be
