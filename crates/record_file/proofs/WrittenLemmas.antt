@@ -1,5 +1,5 @@
 -- A deed that is done at once: its WriteRecord and its Release, as steps of it.
-use Rattle.std.proofs.Common.{◌≡◌, refl, sym, ap, ◌∙◌, subst, ℕ, false, List, Some, None, arith}
+use Rattle.std.proofs.Common.{◌≡◌, refl, sym, ap, ◌∙◌, subst, ℕ, false, List, Option, Some, None, arith}
 use Rattle.page_locks.proofs.ChangeLemmas.{IsSeat-with_row}
 use Rattle.page_locks.proofs.TableLemmas.{row_of-same}
 use Rattle.hash_file.specs.Chain.{IsBucketOf}

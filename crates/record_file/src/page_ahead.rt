@@ -3,7 +3,7 @@
 //! Each looks first, and writes only where nothing more is due behind it: a second try of a put,
 //! a merge behind a removal. So a fault of the write is one of the device.
 
-ghost use Rattle.std.specs.Prelude.{◌≡◌, ◌≤◌, length, take, IfErr, IfOk, IfSome, None, Some, true, false};
+ghost use Rattle.std.specs.Prelude.{◌≡◌, ◌≤◌, ℕ, List, length, take, IfErr, IfOk, IfSome, None, Some, true, false};
 ghost use Rattle.file_pages.specs.Writes.{IsBucketThere};
 ghost use Rattle.hash_file.specs.Store.{bucket_at};
 ghost use Rattle.queue_records.specs.declared.layout.TheConstants.{MESSAGE_BYTES};
@@ -98,7 +98,8 @@ pub(crate) fn relink_ahead<D: PageDevice>(
         return Ok(None);
     };
     let len = value.len();
-    let Some((bytes, relinked)) = relinked_front(value, links) else {
+    let mut relinked = [0; MESSAGE_BYTES];
+    let Some(bytes) = set_front(value, links, &mut relinked) else {
         return Ok(None);
     };
     replace_front(pool, page, key, &relinked[..bytes])?;
@@ -143,19 +144,20 @@ fn bucket_ahead<D: PageDevice>(pool: &Pool<D>, page: u32) -> Option<BucketView<'
     pool.resident(page)?.bucket()
 }
 
-/// So many bytes at the front of a value in which links stand, with the links set in them; none
-/// where the value is shorter.
-fn relinked_front(value: &[u8], links: &Links) -> Option<(usize, [u8; MESSAGE_BYTES])>
-    ensures few { IfSome result (λ front. front.0 ≤ MESSAGE_BYTES) }
-    ensures set { IfSome result (λ front.
-        HasFrontSet value.now links.now (take front.0 front.1)) }
+/// Copies the bytes at the front of a value in which links stand, and sets the links in them. Their
+/// number is told, none where the value is shorter.
+fn set_front(value: &[u8], links: &Links, front: &mut [u8]) -> Option<usize>
+    requires room { length front.old ≡ MESSAGE_BYTES }
+    ensures len { length front.new ≡ length front.old }
+    ensures few { IfSome result (λ bytes. bytes ≤ length front.new) }
+    ensures set { IfSome result (λ bytes.
+        HasFrontSet value.now links.now (take bytes front.new)) }
 {
     let bytes = links.front_bytes();
     if value.len() < bytes {
         return None;
     }
-    let mut front = [0; MESSAGE_BYTES];
     front[..bytes].copy_from_slice(&value[..bytes]);
     relink(&mut front[..bytes], links);
-    Some((bytes, front))
+    Some(bytes)
 }
