@@ -1,5 +1,5 @@
 -- A write that is made at once: all its steps, or the one that tells a fault.
-use Rattle.std.proofs.Common.{◌≡◌, refl, sym, ap, ◌∙◌, ℕ, true, List, [], ◌∷◌, Option, Ok}
+use Rattle.std.proofs.Common.{refl, sym, ap, ◌∙◌, ℕ, true, List, [], ◌∷◌, Option}
 use Rattle.page_locks.proofs.ChangeLemmas.{with_row-own}
 use Rattle.record_file.specs.OperationRuns.{GoesToPage, operation_through, operation_written}
 use Rattle.record_file.specs.stale_search.SearchRuns.{at, standing}
@@ -8,7 +8,7 @@ use Rattle.record_file.specs.step_rules.Runs.{stop}
 use Rattle.record_file.specs.step_rules.declared.kind.Kind.TheVariants as kinds
 use Rattle.record_file.specs.AccessRuns.{AccessStep, FailsAtOnce, MayAccess, TakesAhead, WritesAtOnce, access_at, write_stops}
 use Rattle.record_file.specs.Accesses.{AccessView, access_locks}
-use Rattle.record_file.specs.AccessWords.{EndsRow, HasEnded, HasNoFileLock, IsReady, IsSeat, Moved, PoolState, RecordKey, Table, row_of}
+use Rattle.record_file.specs.AccessWords.{EndsRow, HasEnded, HasNoFileLock, IsReady, IsSeat, Moved, PoolState, Table, row_of}
 use Rattle.record_file.specs.OperationWords.{with_row}
 use Rattle.record_file.specs.WritesAhead.{FailsOn}
 use Rattle.record_file.proofs.AccessAheadLemmas.{goes_straight, may_at, quiet, row_bare, row_room}

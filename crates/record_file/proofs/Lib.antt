@@ -58,7 +58,6 @@ pub mod PageAheadLemmas
 pub mod TakenLemmas
 pub mod OperationWrittenLemmas
 pub mod AccessWrittenLemmas
-pub mod ReachLemmas
 pub use Rattle.step_rules.proofs as of_step_rules
 pub use Rattle.split_merge.proofs as of_split_merge
 pub use Rattle.split_merge.proofs.of_file_pages

@@ -4,7 +4,7 @@ use Rattle.std.proofs.lemmas.Bool.{true≢false}
 use Rattle.record_file.specs.split_merge.Places.{MergeView}
 use Rattle.record_file.specs.stale_search.SearchRuns.{HasNoLock, search_at}
 use Rattle.record_file.specs.stale_search.declared.place.SearchPlace.TheVariants.{Found}
-use Rattle.record_file.specs.Words.{HasNoFileLock, IsReady, Release, SearchView}
+use Rattle.record_file.specs.Words.{HasNoFileLock, Release, SearchView}
 use Rattle.record_file.specs.BucketAccesses.{SuitsKind, ended_in, has_ended}
 use Rattle.record_file.specs.BucketRuns.{bucket_found, bucket_written}
 use Rattle.record_file.specs.Deletes.{IsBegun}

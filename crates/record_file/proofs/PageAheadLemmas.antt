@@ -1,6 +1,6 @@
 -- A deed done at once: the bucket that was looked at, why what was written is that of the deed, and why it is not
 -- written.
-use Rattle.std.proofs.Common.{◌≡◌, refl, sym, ap, ◌∙◌, subst, ℕ, ◌+◌, ◌≤◌, ◌<◌, true, false, List, [], ◌++◌, length, drop, Option, Some, None, IfSome, IsSome, IsTrue, Ok, is_some, slice_get, arith}
+use Rattle.std.proofs.Common.{◌≡◌, refl, sym, ap, ◌∙◌, subst, ℕ, ◌+◌, ◌≤◌, ◌<◌, true, false, List, [], ◌++◌, length, drop, Option, Some, None, IfSome, IsSome, IsTrue, Ok, is_some, slice_get}
 use Rattle.std.proofs.lemmas.Option.{get_or_from_slice_get, slice_get_within}
 use Rattle.std.specs.Option.{option_map}
 use Rattle.std.specs.Prelude.{unwrap_or}
@@ -19,7 +19,7 @@ use Rattle.file_pages.specs.declared.fault.FileFault.{FileFault}
 use Rattle.hash_file.specs.Changes.{write_record}
 use Rattle.hash_file.specs.Store.{bucket_at, is_bucket}
 use Rattle.record_file.specs.Words.{RecordKey, pair, lookup, record_bytes, value_of_key, PoolState, FileHasCause, IsDevicesFault, IsFilePool, OnlyWrites, Put, Replace, Remove, store_of, records_at}
-use Rattle.record_file.specs.AccessWords.{Links, Record, HasSuch, linked_bytes, value_of}
+use Rattle.record_file.specs.AccessWords.{Links, value_of}
 use Rattle.record_file.specs.BucketAccesses.{has_room, is_due}
 use Rattle.record_file.specs.Readings.{HasFrontOn, HasFrontSet}
 use Rattle.record_file.specs.WritesAhead.{FailsOn, WritesOn}

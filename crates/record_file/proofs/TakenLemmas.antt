@@ -1,18 +1,42 @@
 -- What a write takes of the page on which it is written at once.
-use Rattle.std.proofs.Common.{◌≡◌, refl, sym, ap, ◌∙◌, subst, ℕ, Bool, List, length, Option, Some, None}
+use Rattle.std.proofs.Common.{◌≡◌, refl, sym, ap, ◌∙◌, subst, ℕ, ◌≤◌, Bool, List, length, Option, Some, None}
 use Rattle.record_file.specs.BucketRuns.{bucket_at}
 use Rattle.record_file.specs.OperationWords.{BucketView, DeleteView, InsertView}
 use Rattle.record_file.specs.declared.bucket_access.Deed.TheVariants as deeds
 use Rattle.record_file.specs.declared.operation.RecordOperation.TheVariants as operations
 use Rattle.record_file.specs.stale_search.declared.place.SearchPlace.TheVariants.{Found}
 use Rattle.record_file.specs.AccessRuns.{TakesAhead, WritesThere}
-use Rattle.record_file.specs.AccessWords.{Delete, IsReady, Links, PoolState, Record, RecordKey, RecordOperation, Relink, Replace, operation_key}
-use Rattle.record_file.specs.Accesses.{AccessView, IsOfKind, links_of}
+use Rattle.record_file.specs.AccessWords.{Delete, HasSuch, IsReady, Links, PoolState, Record, RecordKey, RecordOperation, Relink, Replace, linked_bytes, operation_key, value_of}
+use Rattle.record_file.specs.Accesses.{AccessView, IsFrontOf, IsOfKind, links_of}
 use Rattle.record_file.specs.Purposes.{Purpose, ToFind, ToInsert, ToWrite}
-use Rattle.record_file.specs.Readings.{HasFrontOn, IsTold, SuitsRecord, WasAllowed, value_on}
+use Rattle.record_file.specs.Readings.{HasFrontOn, IsReplace, IsTold, SuitsRecord, WasAllowed, value_on}
 use Rattle.record_file.specs.WritesAhead.{WritesOn}
 use Rattle.record_file.proofs.AccessAheadLemmas.{untouched}
-use Rattle.record_file.proofs.ReachLemmas.{front_taken}
+use Rattle.record_file.proofs.TakingLemmas.{front_takes}
+
+-- the front that links are set in is what a relink takes
+front_taken : (pool : PoolState) → IsReady pool → (o : RecordOperation) → IsReplace o → (links : Links)
+    (old_bytes bytes : List ℕ) (written : Bool) (page len : ℕ) → length bytes ≡ linked_bytes links →
+    linked_bytes links ≤ len →
+    ((r : Record) → HasSuch links (Some r) → value_on pool page (operation_key o) ≡ Some (value_of r) →
+    IsFrontOf links bytes r) →
+    TakesAhead page (Some len) pool
+    (record { operation = o; links = Some links; bytes = old_bytes; written = written })
+    (record { operation = o; links = Some links; bytes = bytes; written = written })
+front_taken pool ready (operations.Replace r) replace links old_bytes bytes written page len size within front =
+    let o : RecordOperation = operations.Replace (bucket_at (Found page (Some len)) r) in
+    record {
+      is = refl;
+      takes = front_takes o links old_bytes written page len refl tt pool pool tt bytes (untouched pool ready) size
+          within
+          (λ q honest such value. front q such value);
+    }
+front_taken pool ready (operations.Find f) replace links old_bytes bytes written page len size within front =
+    absurd replace
+front_taken pool ready (operations.Insert i) replace links old_bytes bytes written page len size within front =
+    absurd replace
+front_taken pool ready (operations.Delete d) replace links old_bytes bytes written page len size within front =
+    absurd replace
 
 module _ (pool : PoolState) (ready : IsReady pool) (written : Bool) (page : ℕ) (bytes : List ℕ) where
   abbrev of : RecordOperation → Option Links → AccessView

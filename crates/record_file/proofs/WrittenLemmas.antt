@@ -7,7 +7,7 @@ use Rattle.split_merge.proofs.MoveLemmas.{nothing_read}
 use Rattle.split_merge.specs.buffer_pool.Pool.{PoolState}
 use Rattle.split_merge.specs.stale_search.SearchRuns.{search_at}
 use Rattle.split_merge.specs.stale_search.declared.place.SearchPlace.TheVariants.{Found}
-use Rattle.record_file.specs.Words.{Table, IsSeat, Lock, LockKind, Selective, IsReady, Moved, Release, WriteRecord, SearchView, Store, HasNoFileLock, on_page, row_of, store_of, with_row, world}
+use Rattle.record_file.specs.Words.{Table, IsSeat, LockKind, Selective, IsReady, Moved, Release, WriteRecord, SearchView, Store, HasNoFileLock, on_page, row_of, store_of, with_row, world}
 use Rattle.record_file.specs.BucketRuns.{bucket_found, bucket_written}
 use Rattle.record_file.specs.BucketSteps.{MakesBucket}
 use Rattle.record_file.specs.WritesAhead.{WritesOn}

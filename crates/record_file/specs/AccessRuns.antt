@@ -1,4 +1,4 @@
--- A find that is made in one go, and a write that goes to its page so. docs/STEPS.md, "Search".
+-- A find, and a write, that are made in one go. docs/STEPS.md, "Search".
 use Rattle.std.specs.Prelude.{ℕ, ◌≡◌, true, List, [], ◌∷◌, ◌++◌, length, Option, Some, None, Ok}
 use Rattle.file_pages.specs.declared.fault.FileFault.{FileFault}
 use Rattle.record_file.specs.OperationRuns.{LacksKey, deed_of, operation_at, operation_done}
@@ -9,7 +9,6 @@ use Rattle.record_file.specs.stale_search.declared.place.SearchPlace.TheVariants
 use Rattle.record_file.specs.step_rules.Runs.{MovesAlong, Stop, stop, stops_in}
 use Rattle.record_file.specs.step_rules.declared.kind.Kind.TheVariants as kinds
 use Rattle.record_file.specs.AccessWords.{RecordKey, PoolState, Table, HasEnded, IsSeat, IsReady, EndsRow, Progress, Fault, row_of, store_of}
-use Rattle.record_file.specs.OperationWords.{with_row}
 use Rattle.record_file.specs.Accesses.{AccessView, access_key, access_locks}
 use Rattle.record_file.specs.AccessSteps.{MakesAccess}
 use Rattle.record_file.specs.Readings.{Takes}
@@ -76,7 +75,7 @@ write_stops seat page found bytes old =
     (record (access_at (Found page found) old.machine) { bytes = bytes }))
     ∷ []
 
--- it has taken from that page what it is for, by looking alone
+-- it has taken from its page what it is for, by looking alone
 pub record TakesAhead (page : ℕ) (found : Option ℕ) (pool : PoolState) (old new : AccessView) : Type 0 where
   pub is : new ≡ record old { bytes = new.bytes }
   pub takes : Takes {X = Unit} (Ok tt) pool pool (access_at (Found page found) old)
@@ -87,22 +86,6 @@ pub record WritesThere (page : ℕ) (found : Option ℕ) (pool pool' : PoolState
   pub lacks : LacksKey found old.operation
   pub ahead : TakesAhead page found pool old new
   pub done : WritesOn (deed_of old.operation) page found (access_key old) new.bytes pool pool'
-
--- a write has gone straight to the page that answers, by these of its steps; the pool is what it was
-pub record ReachesAtOnce (seat : ℕ) (old new : AccessView) (pool : PoolState) (locks locks' : Table) : Type 0 where
-  pub page : ℕ
-  -- of its key, the length of the value there
-  pub found : Option ℕ
-  pub is : new ≡ record (access_at (Found page found) old) { bytes = new.bytes }
-  -- it had no lock, and has that of the page
-  pub bare : HasNoLock (access_locks old)
-  pub row : locks' ≡ with_row locks seat (access_locks new (row_of locks seat))
-  -- the write is still to be made
-  pub goes_on : HasEnded new.operation → ⊥
-  pub moves : (hash : RecordKey → ℕ) →
-      MovesAlong (AccessStep hash seat) (at old pool locks) (write_stops seat page found new.bytes (at old pool locks))
-
--- ---- a write that is made in one go
 
 -- a write has gone straight to the page that answers, has written it and given it back, by these of its steps; the
 -- locks are what they were

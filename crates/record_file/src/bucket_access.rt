@@ -7,10 +7,9 @@ ghost use Rattle.std.specs.Prelude.{◌≡◌, IfSome, IsSome, true};
 ghost use Rattle.page_locks.specs.declared.lock.LockName.{LockName};
 ghost use Rattle.split_merge.specs.stale_search.SearchRuns.{HasNoLock};
 ghost use Rattle.split_merge.specs.stale_search.Searches.{IsShared};
-ghost use Rattle.split_merge.specs.stale_search.declared.place.SearchPlace.{SearchPlace};
 ghost use Rattle.record_file.specs.Words.{IsSeat, row_of, IsReady, EndsRow, Moved, Release, without_lock};
 ghost use Rattle.record_file.specs.BucketAccesses.{SuitsKind, begun_access, bucket_locks, ended_in, found_of, has_ended, has_room, is_due, is_on_way, kind_for};
-ghost use Rattle.record_file.specs.BucketRuns.{BucketHeads, FindsStraight, bucket_at, bucket_found};
+ghost use Rattle.record_file.specs.BucketRuns.{BucketHeads, FindsStraight, bucket_found};
 ghost use Rattle.record_file.specs.BucketSteps.{MakesBucket};
 
 use bucket_page::{RECORD_HEAD_BYTES, ROOM_BYTES, RecordKey};
@@ -213,13 +212,6 @@ impl BucketAccess {
             BucketStage::Searching => self.search.heads_for(pool, locks, seat),
             _ => None,
         }
-    }
-
-    /// A page has answered.
-    pub fn stand_at(&mut self, page: u32, found: Option<usize>)
-        ensures { self.new ≡ bucket_at (SearchPlace.Found page found) self.old }
-    {
-        self.search.arrive(page, found);
     }
 
     /// A page has answered, was written with nothing more due behind it, and was given back.

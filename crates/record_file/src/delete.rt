@@ -7,7 +7,7 @@ ghost use Rattle.split_merge.specs.declared.merge_place.MergePlace.{MergePlace};
 ghost use Rattle.record_file.specs.declared.bucket_access.BucketStage.{BucketStage};
 ghost use Rattle.record_file.specs.Words.{Selective};
 ghost use Rattle.record_file.specs.BucketAccesses.{ended_in, found_of, is_on_way};
-ghost use Rattle.record_file.specs.BucketRuns.{bucket_at, bucket_found};
+ghost use Rattle.record_file.specs.BucketRuns.{bucket_found};
 ghost use Rattle.record_file.specs.Deletes.{IsOver, IsRemoval};
 
 use crate::bucket_access::{BucketAccess, Deed};
@@ -98,15 +98,6 @@ impl Delete {
             None => Some(&self.removal),
             Some(_) => None,
         }
-    }
-
-    /// A page has answered the removal.
-    pub fn stand_at(&mut self, page: u32, found: Option<usize>)
-        ensures { self.new ≡ record self.old {
-          removal = bucket_at (SearchPlace.Found page found) self.old.removal;
-        } }
-    {
-        self.removal.stand_at(page, found);
     }
 
     /// A page has answered the removal, which has taken the record out and given the page back. No

@@ -1,13 +1,12 @@
 //! A record that is inserted.
 
 ghost use Rattle.std.specs.Prelude.{◌≡◌, ◌↔◌, IfSome, IsSome, None, true};
-ghost use Rattle.split_merge.specs.stale_search.declared.place.SearchPlace.{SearchPlace};
 ghost use Rattle.record_file.specs.declared.bucket_access.Deed.{Deed};
 ghost use Rattle.record_file.specs.BucketAccesses.{begun_access};
 ghost use Rattle.record_file.specs.Inserts.{IsOver, IsTry, is_there, said_of, searches_in};
 ghost use Rattle.record_file.specs.InsertSteps.{Notes};
 ghost use Rattle.record_file.specs.BucketRuns.{bucket_found};
-ghost use Rattle.record_file.specs.OperationRuns.{stage_at, stage_put};
+ghost use Rattle.record_file.specs.OperationRuns.{stage_put};
 
 use crate::bucket_access::{BucketAccess, Deed};
 use crate::second_try::SecondTry;
@@ -130,16 +129,6 @@ impl Insert {
         match &self.stage {
             InsertStage::First(first, None) => Some(first),
             _ => None,
-        }
-    }
-
-    /// A page that has no record of the key has answered its first try.
-    pub fn stand_at(&mut self, page: u32)
-        ensures { self.new ≡
-            record self.old { stage = stage_at (SearchPlace.Found page None) self.old.stage } }
-    {
-        if let InsertStage::First(first, _) = &mut self.stage {
-            first.stand_at(page, None);
         }
     }
 

@@ -1,5 +1,5 @@
 -- What its bucket access is told of its way, and what is written at the page, are its own steps.
-use Rattle.std.proofs.Common.{◌≡◌, refl, sym, ap, ◌∙◌, subst, ℕ, true, Option, IfSome, length}
+use Rattle.std.proofs.Common.{refl, sym, ap, ◌∙◌, subst, ℕ, true, Option, IfSome, length}
 use Rattle.file_pages.proofs.ReadLemmas.{handed_on}
 use Rattle.file_pages.specs.declared.fault.FileFault.{FileFault}
 use Rattle.record_file.specs.OperationRuns.{GoesToPage, IsBucketOf, OperationHeads, operation_through}
