@@ -1,5 +1,5 @@
 -- What seats hold once they have begun, stepped or given the lock of their record back.
-use Rattle.std.proofs.Common.{arith, ◌≡◌, ◌∙◌, refl, sym, ap, subst, ℕ, suc, ◌<◌, List, [], Option, Some, None, length, replicate, slice_get, slice_index_or, slice_set, ◌≤◌, Bool, true, false, inl, inr, get_or-set_other}
+use Rattle.std.proofs.Common.{arith, ◌≡◌, ◌∙◌, refl, sym, ap, subst, ℕ, suc, ◌<◌, List, [], Option, Some, None, length, replicate, slice_get, slice_index_or, slice_set, ◌≤◌, Bool, true, false, inl, inr, get_or-set_other, Result, Ok, Err, IfOk, IfErr}
 use Rattle.std.specs.Option.{is_some}
 use Rattle.std.proofs.lemmas.Bool.{cases_eq, true≢false}
 use Rattle.std.proofs.lemmas.Grind.{get_or-set_at}
@@ -7,6 +7,7 @@ use Rattle.std.proofs.lemmas.List.{get_or-replicate, length-replicate, length-se
 use Rattle.std.proofs.lemmas.Option.{get_or_from_slice_get, slice_get-get_or, slice_get_read, slice_get_within}
 use Rattle.buffer_pool.specs.Pool.{PoolState}
 use Rattle.file_pages.specs.Files.{IsReady}
+use Rattle.file_pages.specs.declared.fault.FileFault.{FileFault}
 use Rattle.page_locks.specs.declared.lock.Lock.{Lock}
 use Rattle.page_locks.specs.declared.lock.LockKind.TheVariants.{Exclusive}
 use Rattle.page_locks.specs.declared.lock.LockName.{LockName}
@@ -14,7 +15,7 @@ use Rattle.page_locks.specs.Locks.{without}
 use Rattle.page_locks.specs.Table.{Table, row_of, with_row, with_lock, without_lock}
 use Rattle.page_locks.proofs.ChangeLemmas.{length-with_row, with_row-own, with_row-twice}
 use Rattle.page_locks.proofs.TableLemmas.{row_of-empty, row_of-other, row_of-same}
-use Rattle.record_file.specs.AccessRuns.{ReachesAtOnce}
+use Rattle.record_file.specs.AccessRuns.{FailsAtOnce, WritesAtOnce}
 use Rattle.record_file.specs.Accesses.{AccessView, access_locks}
 use Rattle.machine_trials.specs.declared.task.Task.{Task}
 use Rattle.machine_trials.specs.declared.task.Value.{Value}
@@ -67,17 +68,32 @@ Follows-released t stepped new seat row w v name made given = record {
   holds = tt;
 }
 
--- a write that has gone to its page in one go has the lock of that page; one that has made no step is what it was
-pub row_reached : (made : Bool) (seat : ℕ) (old new : AccessView) (pool : PoolState) (t t' : Table) →
-    (made ≡ true → ReachesAtOnce seat old new pool t t') → (made ≡ false → (new ≡ old) × (t' ≡ t)) →
-    (before : List Lock) → row_of t seat ≡ access_locks old before → t' ≡ with_row t seat (access_locks new before)
-row_reached true seat old new pool t t' reaches spares before row =
-    let did = reaches refl in
-    did.row ∙ ap (λ (r : List Lock). with_row t seat (access_locks new r)) (row ∙ did.bare before)
-row_reached false seat old new pool t t' reaches spares before row =
-    let same = spares refl in
-    same.1 ∙ sym (with_row-own t seat)
-    ∙ ap (with_row t seat) (row ∙ ap (λ (a : AccessView). access_locks a before) (sym same.0))
+-- a write that has made all its steps in one go holds nothing, and one that has made none is what it was
+module _ (done : Result Bool FileFault) (seat : ℕ) (old new : AccessView) (pool pool' : PoolState) (t : Table)
+    (made : IfOk done (λ (d : Bool). d ≡ true → WritesAtOnce seat old new pool pool' t))
+    (spares : IfOk done (λ (d : Bool). d ≡ false → (new ≡ old) × (pool' ≡ pool)))
+    (failed : IfErr done (λ (fault : FileFault). FailsAtOnce seat fault old new pool pool' t)) where
+  abbrev ThroughAs : Result Bool FileFault → Type 0
+  ThroughAs d = IfOk d (λ (d : Bool). d ≡ true → WritesAtOnce seat old new pool pool' t)
+      × IfOk d (λ (d : Bool). d ≡ false → (new ≡ old) × (pool' ≡ pool))
+      × IfErr d (λ (fault : FileFault). FailsAtOnce seat fault old new pool pool' t)
+
+  pub through_ready : IsReady pool → IsReady pool'
+  through_ready ready = by done (made, spares, failed)
+    where
+      by : (d : Result Bool FileFault) → ThroughAs d → IsReady pool'
+      by (Ok true) all = ((all.0 refl).moves (λ key. 0)).1.1.1.1.1.1.1.0.may.ready
+      by (Ok false) all = subst IsReady (sym (all.1 refl).1) ready
+      by (Err fault) all = (all.2.step (λ key. 0)).makes.writes.ready
+
+  pub row_through : (before : List Lock) → row_of t seat ≡ access_locks old before →
+      t ≡ with_row t seat (access_locks new before)
+  row_through before row = sym (with_row-own t seat) ∙ ap (with_row t seat) (row ∙ by done (made, spares, failed))
+    where
+      by : (d : Result Bool FileFault) → ThroughAs d → access_locks old before ≡ access_locks new before
+      by (Ok true) all = let done = all.0 refl in done.bare before ∙ sym (done.given before)
+      by (Ok false) all = ap (λ (a : AccessView). access_locks a before) (sym (all.1 refl).0)
+      by (Err fault) all = ap (λ (a : AccessView). access_locks a before) (sym all.2.same)
 
 -- a seat that was read is idle
 pub idle_read : (seats : List (Option Task)) (place : ℕ) (s : Option Task) → place < length seats →

@@ -1,8 +1,9 @@
-//! Finds that go straight to a page, and what is read ahead there; writes that go to their page in one
-//! go, or make no step.
+//! Finds that go straight to a page, and what is read ahead there; writes that are made in one go, or
+//! make no step.
 
 use crate::files::{COUNTER, LONG, MOST_STEPS, count, key, makes, new_file};
 use crate::merges::two_halves;
+use crate::task::Value;
 use crate::trial::Trial;
 use bucket_page::{NumberKey, RecordKey};
 use file_pages::FileFault;
@@ -209,12 +210,14 @@ fn framed(alloc: Global) -> Result<Trial<MemDevice, NumberKey>, Fail> {
     Ok(trial)
 }
 
-/// Whether a seat writes its record now, gives the page back, and has ended.
-fn writes(trial: &mut Trial<MemDevice, NumberKey>, seat: u8) -> bool {
-    makes(trial, seat, &[WriteRecord, Release]) && trial.step(seat) == Some(Progress::Ended)
+/// Whether a seat makes all its steps now, and has ended.
+fn steps(trial: &mut Trial<MemDevice, NumberKey>, seat: u8) -> bool {
+    makes(trial, seat, &WAY)
+        && makes(trial, seat, &[WriteRecord, Release])
+        && trial.step(seat) == Some(Progress::Ended)
 }
 
-/// One of two files has the writes that go to their page in one go, the other those that step there.
+/// One of two files has the writes that are made in one go, the other those that are stepped.
 #[test]
 fn a_write_in_one_go_leaves_what_its_steps_leave(rt: HostRuntime) -> Result<(), Fail> {
     let mut trial = framed(rt.alloc())?;
@@ -224,11 +227,13 @@ fn a_write_in_one_go_leaves_what_its_steps_leave(rt: HostRuntime) -> Result<(), 
         let (Some(seat), Some(other)) = (begin(&mut trial, deed), begin(&mut stepped, deed)) else {
             panic!(rt; "row {row}: no seat");
         };
-        assert!(rt; trial.reach(seat) == Some(true), "row {row}");
-        assert!(rt; trial.reach(seat) == Some(false), "row {row}: it has begun");
-        assert!(rt; makes(&mut stepped, other, &WAY), "row {row}");
+        assert!(rt; trial.write_through(seat) == Some(Ok(true)), "row {row}");
         assert!(rt;
-            writes(&mut trial, seat) && writes(&mut stepped, other),
+            trial.write_through(seat) == Some(Ok(false)),
+            "row {row}: it has ended"
+        );
+        assert!(rt;
+            trial.step(seat) == Some(Progress::Ended) && steps(&mut stepped, other),
             "row {row}"
         );
         for page in READ {
@@ -250,7 +255,7 @@ fn a_write_that_can_not_be_made_is_left_to_steps(rt: HostRuntime) -> Result<(), 
         let Some(seat) = begin(&mut trial, deed) else {
             panic!(rt; "row {row}: no seat");
         };
-        assert!(rt; trial.reach(seat) == Some(false), "row {row}");
+        assert!(rt; trial.write_through(seat) == Some(Ok(false)), "row {row}");
         assert!(rt;
             makes(
                 &mut trial,
@@ -265,9 +270,9 @@ fn a_write_that_can_not_be_made_is_left_to_steps(rt: HostRuntime) -> Result<(), 
         let Some(seat) = begin(&mut trial, Deed::Insert) else {
             panic!(rt; "no seat");
         };
-        assert_eq!(rt; trial.reach(seat), Some(at_once));
+        assert_eq!(rt; trial.write_through(seat), Some(Ok(at_once)));
         if at_once {
-            assert!(rt; writes(&mut trial, seat));
+            assert_eq!(rt; trial.step(seat), Some(Progress::Ended));
         } else {
             assert!(rt; makes(&mut trial, seat, &WAY) && makes(&mut trial, seat, &[Release]));
         }
@@ -275,9 +280,35 @@ fn a_write_that_can_not_be_made_is_left_to_steps(rt: HostRuntime) -> Result<(), 
     Ok(())
 }
 
-/// The page of the first one is held as if it had stepped there.
+/// With its record a bucket that has no room is split, and without one a bucket with a buddy is
+/// merged.
 #[test]
-fn a_write_in_one_go_holds_its_page(rt: HostRuntime) -> Result<(), Fail> {
+fn a_write_with_more_due_behind_it_is_left_to_steps(rt: HostRuntime) -> Result<(), Fail> {
+    let mut full = framed(rt.alloc())?;
+    for (queue, bytes) in [(1, LONG.bytes), (2, LONG.bytes), (3, LONG.bytes), (4, 760)] {
+        let Some(filling) = full.insert(key(queue), Value { mark: 7, bytes }) else {
+            panic!(rt; "no seat");
+        };
+        assert_eq!(rt; count(&mut full, filling, WriteRecord), Some(1));
+    }
+    let Some(seat) = begin(&mut full, Deed::Insert) else {
+        panic!(rt; "no seat");
+    };
+    assert_eq!(rt; full.write_through(seat), Some(Ok(false)));
+    assert_eq!(rt; count(&mut full, seat, Kind::WriteOld), Some(1));
+
+    let mut halved = two_halves(&rt)?;
+    let Some(seat) = halved.write(key(7), &Write::Delete(key(7))) else {
+        panic!(rt; "no seat");
+    };
+    assert_eq!(rt; halved.write_through(seat), Some(Ok(false)));
+    assert_eq!(rt; count(&mut halved, seat, Kind::Tombstone), Some(1));
+    Ok(())
+}
+
+/// A page that another seat holds is not written.
+#[test]
+fn a_write_in_one_go_is_not_made_on_a_page_that_is_held(rt: HostRuntime) -> Result<(), Fail> {
     let mut trial = framed(rt.alloc())?;
     let (Some(first), Some(second)) = (
         begin(&mut trial, Deed::Replace),
@@ -285,12 +316,10 @@ fn a_write_in_one_go_holds_its_page(rt: HostRuntime) -> Result<(), Fail> {
     ) else {
         panic!(rt; "no seat");
     };
-    assert_eq!(rt; trial.reach(first), Some(true));
-    assert_eq!(rt; trial.reach(second), Some(false));
-    assert!(rt; makes(&mut trial, second, &[Grant, ReadDepth, ReadEntry]));
-    assert_eq!(rt; trial.step(second), Some(Progress::Blocked(first)));
-    assert!(rt; writes(&mut trial, first));
-    assert!(rt; makes(&mut trial, second, &[Grant, Release, Look]) && writes(&mut trial, second));
+    assert!(rt; makes(&mut trial, first, &WAY));
+    assert_eq!(rt; trial.write_through(second), Some(Ok(false)));
+    assert!(rt; makes(&mut trial, first, &[WriteRecord, Release]));
+    assert_eq!(rt; trial.write_through(second), Some(Ok(true)));
     Ok(())
 }
 
@@ -300,11 +329,14 @@ fn a_write_waits_for_each_of_its_pages_to_be_in_a_frame(rt: HostRuntime) -> Resu
     let Some(seat) = begin(&mut trial, Deed::Replace) else {
         panic!(rt; "no seat");
     };
-    assert_eq!(rt; trial.reach(seat), Some(false));
+    assert_eq!(rt; trial.write_through(seat), Some(Ok(false)));
     for (page, at_once) in [(0, false), (1, false), (257, true)] {
         trial.payload(page)?;
-        assert!(rt; trial.reach(seat) == Some(at_once), "page {page}");
+        assert!(rt;
+            trial.write_through(seat) == Some(Ok(at_once)),
+            "page {page}"
+        );
     }
-    assert!(rt; writes(&mut trial, seat));
+    assert_eq!(rt; trial.step(seat), Some(Progress::Ended));
     Ok(())
 }

@@ -98,23 +98,23 @@ impl Task {
         did
     }
 
-    /// All steps of its work up to where it writes, in one go, where that can make them so.
-    pub fn reach<D: PageDevice>(
+    /// All steps of its work, in one go, where that can make them so, and whether it has made them.
+    pub fn write_through<D: PageDevice>(
         &mut self,
         pool: &mut Pool<D>,
-        locks: &mut LockTable,
+        locks: &LockTable,
         seat: u8,
-    ) -> bool
-        requires seat { IsSeat locks.old seat }
+    ) -> Result<bool, FileFault>
+        requires seat { IsSeat locks.now seat }
         requires ready { IsReady pool.old }
-        requires holds { Holds (Some self.old) (row_of locks.old seat) }
-        ensures pool { pool.new ≡ pool.old }
-        ensures follows { Follows seat locks.old (Some self.new) locks.new }
+        requires holds { Holds (Some self.old) (row_of locks.now seat) }
+        ensures ready { IsReady pool.new }
+        ensures follows { Follows seat locks.now (Some self.new) locks.now }
     {
         let Some(_) = self.guard else {
-            return false;
+            return Ok(false);
         };
-        self.work.reach(pool, locks, seat)
+        self.work.write_through(pool, locks, seat)
     }
 
     /// The work.

@@ -192,14 +192,13 @@ impl<D: PageDevice + Drop, K: PseudoKey + Drop> Trial<D, K> {
         record_ahead(&self.pool, page, key)
     }
 
-    /// Whether the access of a seat has made all its steps up to where it writes in one go; else it
-    /// has made none.
-    pub fn reach(&mut self, seat: u8) -> Option<bool> {
+    /// Whether the access of a seat has made all its steps in one go; else it has made none.
+    pub fn write_through(&mut self, seat: u8) -> Option<Result<bool, FileFault>> {
         if seat == 0 || seat > self.locks.seats() {
             return None;
         }
         let task = self.seats[seat as usize - 1].as_mut()?;
-        Some(task.reach(&mut self.pool, &mut self.locks, seat))
+        Some(task.write_through(&mut self.pool, &self.locks, seat))
     }
 
     /// The lock that a seat was granted last, of those that it holds.

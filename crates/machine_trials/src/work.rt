@@ -87,26 +87,26 @@ impl Work {
         }
     }
 
-    /// All steps of an access that writes, up to the Look of its page, in one go, where it can make
-    /// them so. Others make none so.
-    pub fn reach<D: PageDevice>(
+    /// All steps of an access that writes, in one go, where it can make them so, and whether it has
+    /// made them. Others make none so.
+    pub fn write_through<D: PageDevice>(
         &mut self,
         pool: &mut Pool<D>,
-        locks: &mut LockTable,
+        locks: &LockTable,
         seat: u8,
-    ) -> bool
-        requires seat { IsSeat locks.old seat }
+    ) -> Result<bool, FileFault>
+        requires seat { IsSeat locks.now seat }
         requires ready { IsReady pool.old }
-        requires row { EndsRow (work_locks self.old) MOST_LOCKS (row_of locks.old seat) }
-        ensures pool { pool.new ≡ pool.old }
+        requires row { EndsRow (work_locks self.old) MOST_LOCKS (row_of locks.now seat) }
+        ensures ready { IsReady pool.new }
         ensures lent { (bytes : ℕ) → MayLend bytes self.old → MayLend bytes self.new }
         ensures row { (before : List Lock) → HasNoFileLock before →
-            row_of locks.old seat ≡ work_locks self.old before →
-            locks.new ≡ with_row locks.old seat (work_locks self.new before) }
+            row_of locks.now seat ≡ work_locks self.old before →
+            locks.now ≡ with_row locks.now seat (work_locks self.new before) }
     {
         match self {
-            Work::Access(access) => access.reach(pool, locks, seat),
-            _ => false,
+            Work::Access(access) => access.write_through(pool, locks, seat),
+            _ => Ok(false),
         }
     }
 

@@ -109,7 +109,7 @@ module _ (seat : ℕ) (pool : PoolState) (ready : IsReady pool) (locks : Table) 
     (bare : HasNoFileLock (row_of locks seat)) (room : length (row_of locks seat) + 3 ≤ MAX_LOCKS)
     (hash : RecordKey → ℕ)
   where
-    may_at : (b : AccessView) → MayAccess seat (standing access_locks seat pool locks b)
+    pub may_at : (b : AccessView) → MayAccess seat (standing access_locks seat pool locks b)
     may_at b = record {
       seated = IsSeat-with_row locks seat seat (access_locks b (row_of locks seat)) seated;
       ready = ready;
@@ -129,7 +129,7 @@ module _ (seat : ℕ) (pool : PoolState) (ready : IsReady pool) (locks : Table) 
     }
 
     -- no page answers by it
-    quiet : (kind : Kind) (b : AccessView) (o' : RecordOperation) (t t' : Table) →
+    pub quiet : (kind : Kind) (b : AccessView) (o' : RecordOperation) (t t' : Table) →
         is_write {F = FileFault} (Moved kind) ≡ false → (◌≡◌ {A = Progress FileFault} (Moved kind) (Moved Look) → ⊥) →
         MakesOperation hash seat b.bytes (Moved kind) b.operation o' pool pool t t' →
         MakesAccess hash seat (Moved kind) b (record b { operation = o' }) pool pool t t'

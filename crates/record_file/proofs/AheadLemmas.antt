@@ -1,6 +1,6 @@
 -- An access that goes straight to the page that answers: each move of its search is its own, and a find gives the page
 -- back.
-use Rattle.std.proofs.Common.{◌≡◌, refl, sym, ap, ◌∙◌, subst, ℕ, false, List, [], ◌∷◌, Option, Some, None, IfSome, IsSome}
+use Rattle.std.proofs.Common.{◌≡◌, refl, sym, ◌∙◌, subst, ℕ, false, List, [], ◌∷◌, Option, Some, None, IfSome, IsSome}
 use Rattle.split_merge.proofs.MoveLemmas.{nothing_read}
 use Rattle.split_merge.specs.buffer_pool.Pool.{PoolState}
 use Rattle.split_merge.specs.stale_search.SearchRuns.{At, GoesStraight, HasNoLock, SearchStep, at, search_at, search_stops, way_to}
@@ -12,11 +12,9 @@ use Rattle.step_rules.proofs.RunLemmas.{joined}
 use Rattle.step_rules.specs.Runs.{MovesAlong, Stop, stop, stops_in}
 use Rattle.step_rules.specs.declared.kind.Kind.{Kind}
 use Rattle.step_rules.specs.declared.kind.Kind.TheVariants as kinds
-use Rattle.record_file.specs.Words.{Table, IsSeat, Lock, LockKind, Page, Selective, IsReady, Moved, Progress, Release, SearchView, EndsRow, HasNoFileLock, found_at, on_page, row_of, search_locks, with_row, without_lock}
-use Rattle.record_file.specs.BucketAccesses.{BucketView, SuitsKind, bucket_locks, locks_in}
-use Rattle.record_file.specs.BucketRuns.{BucketHeads, BucketStep, FindsStraight, bucket_at, bucket_found, bucket_stops, bucket_way}
-use Rattle.record_file.specs.declared.bucket_access.BucketStage.{BucketStage}
-use Rattle.record_file.specs.declared.bucket_access.BucketStage.TheVariants.{Searching}
+use Rattle.record_file.specs.Words.{Table, IsSeat, Lock, LockKind, Page, IsReady, Moved, Progress, Release, SearchView, EndsRow, HasNoFileLock, found_at, on_page, row_of, search_locks, with_row, without_lock}
+use Rattle.record_file.specs.BucketAccesses.{BucketView, SuitsKind, bucket_locks}
+use Rattle.record_file.specs.BucketRuns.{BucketHeads, BucketStep, FindsStraight, bucket_found, bucket_stops, bucket_way}
 use Rattle.record_file.specs.declared.bucket_access.Deed.{Deed}
 use Rattle.record_file.specs.declared.bucket_access.Deed.TheVariants as deeds
 use Rattle.record_file.proofs.DeedLemmas.{released}
@@ -64,14 +62,6 @@ along_way A B whole old state depth page found first each
         ),
       ),
     )
-
--- where its page answers a deed that writes holds it Selective
-pub holds_selective : (b : BucketView) (page : ℕ) (found : Option ℕ) → b.stage ≡ Searching →
-    b.search.kind ≡ Selective → (before : List Lock) →
-    bucket_locks (bucket_at (Found page found) b) before ≡ on_page page Selective before
-holds_selective b page found searches kind before =
-    ap (λ (stage : BucketStage). locks_in stage (search_at (Found page found) b.search) before) searches
-    ∙ ap (λ (k : LockKind). on_page page k before) kind
 
 module _ (seat : ℕ) where
   -- an access whose search is at this state

@@ -18,10 +18,10 @@ use Rattle.record_file.proofs.OperationAheadLemmas.{delete_heads, replace_heads}
 use Rattle.record_file.proofs.PartLemmas.{in_removal}
 
 -- an operation, by its access within a bucket
-delete_is : (b : BucketView) (d : DeleteView) → IsRemoval b d → d ≡ record { removal = b; merge = d.merge }
+pub delete_is : (b : BucketView) (d : DeleteView) → IsRemoval b d → d ≡ record { removal = b; merge = d.merge }
 delete_is b d of = ap (λ (r : BucketView). record { removal = r; merge = d.merge }) of.is
 
-insert_is : (b : BucketView) (i : InsertView) → IsTry b i →
+pub insert_is : (b : BucketView) (i : InsertView) → IsTry b i →
     i ≡ record { key = i.key; pseudokey = i.pseudokey; stage = First b None }
 insert_is b i of = ap (λ (s : InsertStage). record { key = i.key; pseudokey = i.pseudokey; stage = s }) of.stage
 

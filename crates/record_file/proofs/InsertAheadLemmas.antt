@@ -1,9 +1,8 @@
 -- A first try that goes straight to a page without a record of its key: each of its moves is one of the insert.
-use Rattle.std.proofs.Common.{◌≡◌, refl, sym, ap, ◌∙◌, subst, ℕ, length, Option, None}
+use Rattle.std.proofs.Common.{◌≡◌, sym, ap, ◌∙◌, subst, ℕ, length, Option, None}
 use Rattle.std.specs.Option.{option_map}
 use Rattle.bucket_page.specs.Records.{lookup}
 use Rattle.hash_file.specs.Store.{records_at}
-use Rattle.std.proofs.lemmas.Bool.{true≢false}
 use Rattle.record_file.specs.stale_search.SearchRuns.{At, HasNoLock, at, standing}
 use Rattle.record_file.specs.stale_search.declared.place.SearchPlace.{SearchPlace}
 use Rattle.record_file.specs.step_rules.Runs.{MovesAlong}
@@ -17,7 +16,7 @@ use Rattle.record_file.specs.declared.insert.InsertStage.TheVariants.{First}
 use Rattle.record_file.specs.Inserts.{InsertView, IsFirstAt, is_there}
 use Rattle.record_file.specs.OperationRuns.{GoesToPage, OperationHeads, OperationStep}
 use Rattle.record_file.specs.OperationWords.{BucketView, Insert, Moved, PoolState, RecordKey, RecordOperation, Table, store_of}
-use Rattle.record_file.proofs.AheadLemmas.{along_way, holds_selective}
+use Rattle.record_file.proofs.AheadLemmas.{along_way}
 use Rattle.record_file.proofs.InsertLemmas.{says_on}
 use Rattle.record_file.proofs.KindLemmas.{insert_makes}
 
@@ -53,9 +52,6 @@ module _ (seat : ℕ) (key : RecordKey) (k : ℕ) where
         GoesToPage seat page None (Insert (trying t)) pool locks
     insert_goes pool locks page searches none moves = record {
       bare = none;
-      holds = holds_selective t page None searches inv.kind_is;
-      lacks = refl;
-      goes_on = λ over. true≢false (sym over ∙ inv.going refl);
       moves = along_way (BucketStep deeds.Put seat) (OperationStep seat) insert_of (at t pool locks)
           (λ (place : SearchPlace). standing bucket_locks seat pool locks (bucket_at place t))
           (store_of pool.images).header.depth page None

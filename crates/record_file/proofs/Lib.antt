@@ -13,6 +13,7 @@ pub mod StepLemmas
 pub mod PartLemmas
 pub mod AimLemmas
 pub mod AheadLemmas
+pub mod WrittenLemmas
 pub mod InsertNames
 pub mod MoveLemmas
 pub mod HomeLemmas
@@ -53,7 +54,10 @@ pub mod OperationLemmas
 pub mod AccessAheadLemmas
 pub mod FindAheadLemmas
 pub mod HeadLemmas
-pub mod ReachLemmas
+pub mod PageAheadLemmas
+pub mod TakenLemmas
+pub mod OperationWrittenLemmas
+pub mod AccessWrittenLemmas
 pub use Rattle.step_rules.proofs as of_step_rules
 pub use Rattle.split_merge.proofs as of_split_merge
 pub use Rattle.split_merge.proofs.of_file_pages

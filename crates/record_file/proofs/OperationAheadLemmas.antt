@@ -1,20 +1,18 @@
 -- Each move of the machine of a kind is one of the operation: of a find that is made in one go, and of a write on the
 -- way to its page.
-use Rattle.std.proofs.Common.{◌≡◌, refl, sym, ap, ◌∙◌, subst, ℕ, Option, None}
-use Rattle.std.proofs.lemmas.Bool.{true≢false}
+use Rattle.std.proofs.Common.{◌≡◌, refl, sym, subst, ℕ, Option, None}
 use Rattle.record_file.specs.split_merge.Places.{MergeView}
 use Rattle.record_file.specs.stale_search.SearchRuns.{At, HasNoLock, at, standing}
 use Rattle.record_file.specs.stale_search.declared.place.SearchPlace.{SearchPlace}
 use Rattle.record_file.specs.step_rules.Runs.{MovesAlong}
 use Rattle.record_file.specs.step_rules.declared.kind.Kind.{Kind}
-use Rattle.record_file.specs.Words.{LockKind, SearchView, Selective, on_page, search_locks}
-use Rattle.record_file.specs.BucketAccesses.{SuitsKind, bucket_locks, ended_in, has_ended}
+use Rattle.record_file.specs.Words.{SearchView, Selective, search_locks}
+use Rattle.record_file.specs.BucketAccesses.{SuitsKind, bucket_locks, ended_in}
 use Rattle.record_file.specs.BucketRuns.{BucketHeads, BucketStep, bucket_at, bucket_stops, bucket_way}
-use Rattle.record_file.specs.declared.bucket_access.BucketStage.{BucketStage}
 use Rattle.record_file.specs.declared.bucket_access.BucketStage.TheVariants.{Searching}
 use Rattle.record_file.specs.declared.bucket_access.Deed.TheVariants as deeds
 use Rattle.record_file.specs.Deletes.{IsBegun}
-use Rattle.record_file.proofs.AheadLemmas.{along_way, holds_selective}
+use Rattle.record_file.proofs.AheadLemmas.{along_way}
 use Rattle.record_file.proofs.KindLemmas.{find_makes, replace_makes}
 use Rattle.record_file.proofs.RemovalLemmas.{removal_makes}
 use Rattle.record_file.proofs.StepLemmas.{as_searching, searching}
@@ -58,9 +56,6 @@ module _ (seat : ℕ) where
       BucketHeads seat page r pool locks → OperationHeads seat page (Replace r) pool locks
   replace_heads pool locks r page suits searches none heads = λ found stands lacks. record {
     bare = none;
-    holds = holds_selective r page found searches suits;
-    lacks = tt;
-    goes_on = λ over. true≢false (sym over ∙ ap (λ (stage : BucketStage). has_ended stage) searches);
     moves = lifted (BucketStep deeds.Replace seat) (OperationStep seat) replace_of move_of_replace (at r pool locks)
         (bucket_way seat page found (at r pool locks)) (heads deeds.Replace found suits stands);
   }
@@ -88,9 +83,6 @@ module _ (seat : ℕ) where
         GoesToPage seat page found (Delete (removing (searching v))) pool locks
     removes_straight pool locks v page found kind none moves = record {
       bare = none;
-      holds = λ before. ap (λ (k : LockKind). on_page page k before) kind;
-      lacks = tt;
-      goes_on = λ over. over;
       moves = along_way (BucketStep deeds.Remove seat) (OperationStep seat) delete_of (at (searching v) pool locks)
           (λ (place : SearchPlace). standing bucket_locks seat pool locks (bucket_at place (searching v)))
           (store_of pool.images).header.depth page found

@@ -1,15 +1,15 @@
--- A find that is made in one go, and a write that goes to its page so. docs/STEPS.md, "Search".
-use Rattle.std.specs.Prelude.{ℕ, ◌≡◌, List, [], ◌∷◌, ◌++◌, length, Option, Some, None, Ok}
+-- A find, and a write, that are made in one go. docs/STEPS.md, "Search".
+use Rattle.std.specs.Prelude.{ℕ, ◌≡◌, true, List, [], ◌∷◌, ◌++◌, length, Option, Some, None, Ok}
 use Rattle.file_pages.specs.declared.fault.FileFault.{FileFault}
-use Rattle.record_file.specs.OperationRuns.{operation_at, operation_done}
+use Rattle.record_file.specs.OperationRuns.{LacksKey, deed_of, operation_at, operation_done}
+use Rattle.record_file.specs.WritesAhead.{WritesOn}
 use Rattle.record_file.specs.stale_search.SearchRuns.{At, HasNoLock, at, standing, way_up_to}
 use Rattle.record_file.specs.stale_search.declared.place.SearchPlace.{SearchPlace}
 use Rattle.record_file.specs.stale_search.declared.place.SearchPlace.TheVariants.{Found}
 use Rattle.record_file.specs.step_rules.Runs.{MovesAlong, Stop, stop, stops_in}
 use Rattle.record_file.specs.step_rules.declared.kind.Kind.TheVariants as kinds
-use Rattle.record_file.specs.AccessWords.{RecordKey, PoolState, Table, HasEnded, IsSeat, IsReady, EndsRow, Progress, row_of, store_of}
-use Rattle.record_file.specs.OperationWords.{with_row}
-use Rattle.record_file.specs.Accesses.{AccessView, access_locks}
+use Rattle.record_file.specs.AccessWords.{RecordKey, PoolState, Table, HasEnded, IsSeat, IsReady, EndsRow, Progress, Fault, row_of, store_of}
+use Rattle.record_file.specs.Accesses.{AccessView, access_key, access_locks}
 use Rattle.record_file.specs.AccessSteps.{MakesAccess}
 use Rattle.record_file.specs.Readings.{Takes}
 
@@ -75,22 +75,40 @@ write_stops seat page found bytes old =
     (record (access_at (Found page found) old.machine) { bytes = bytes }))
     ∷ []
 
--- it has taken from that page what it is for, by looking alone
+-- it has taken from its page what it is for, by looking alone
 pub record TakesAhead (page : ℕ) (found : Option ℕ) (pool : PoolState) (old new : AccessView) : Type 0 where
   pub is : new ≡ record old { bytes = new.bytes }
   pub takes : Takes {X = Unit} (Ok tt) pool pool (access_at (Found page found) old)
       (record (access_at (Found page found) old) { bytes = new.bytes })
 
--- a write has gone straight to the page that answers, by these of its steps; the pool is what it was
-pub record ReachesAtOnce (seat : ℕ) (old new : AccessView) (pool : PoolState) (locks locks' : Table) : Type 0 where
+-- it has written there what it is for, which it has taken from that page, and nothing more is due behind it
+pub record WritesThere (page : ℕ) (found : Option ℕ) (pool pool' : PoolState) (old new : AccessView) : Type 0 where
+  pub lacks : LacksKey found old.operation
+  pub ahead : TakesAhead page found pool old new
+  pub done : WritesOn (deed_of old.operation) page found (access_key old) new.bytes pool pool'
+
+-- a write has gone straight to the page that answers, has written it and given it back, by these of its steps; the
+-- locks are what they were
+pub record WritesAtOnce (seat : ℕ) (old new : AccessView) (pool pool' : PoolState) (locks : Table) : Type 0 where
   pub page : ℕ
   -- of its key, the length of the value there
   pub found : Option ℕ
-  pub is : new ≡ record (access_at (Found page found) old) { bytes = new.bytes }
-  -- it had no lock, and has that of the page
+  -- it, behind its WriteRecord
+  pub written : AccessView
+  -- it had no lock, and has none
   pub bare : HasNoLock (access_locks old)
-  pub row : locks' ≡ with_row locks seat (access_locks new (row_of locks seat))
-  -- the write is still to be made
-  pub goes_on : HasEnded new.operation → ⊥
+  pub given : HasNoLock (access_locks new)
+  pub ended : HasEnded new.operation
+  pub paid : (written.written ≡ true) × (new.written ≡ true)
   pub moves : (hash : RecordKey → ℕ) →
-      MovesAlong (AccessStep hash seat) (at old pool locks) (write_stops seat page found new.bytes (at old pool locks))
+      MovesAlong (AccessStep hash seat) (at old pool locks)
+      (write_stops seat page found new.bytes (at old pool locks)
+      ++ stop kinds.WriteRecord (standing access_locks seat pool' locks written)
+      ∷ stop kinds.Release (at new pool' locks)
+      ∷ [])
+
+-- its page could not be written: as a step of it that tells the fault, by which it is what it was
+pub record FailsAtOnce (seat : ℕ) (fault : FileFault) (old new : AccessView) (pool pool' : PoolState) (locks : Table)
+    : Type 0 where
+  pub same : new ≡ old
+  pub step : (hash : RecordKey → ℕ) → AccessStep hash seat (Fault fault) (at old pool locks) (at old pool' locks)

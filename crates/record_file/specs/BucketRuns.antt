@@ -9,7 +9,7 @@ use Rattle.step_rules.specs.Runs.{MovesAlong, Stop, stop, stops_in}
 use Rattle.record_file.specs.Words.{PoolState, Progress, Release, Table, store_of}
 use Rattle.record_file.specs.BucketAccesses.{BucketView, SuitsKind, bucket_locks}
 use Rattle.record_file.specs.BucketSteps.{MakesBucket}
-use Rattle.record_file.specs.declared.bucket_access.BucketStage.TheVariants.{Ended as HasEnded}
+use Rattle.record_file.specs.declared.bucket_access.BucketStage.TheVariants.{Written, Ended as HasEnded}
 use Rattle.record_file.specs.declared.bucket_access.Deed.{Deed}
 use Rattle.record_file.specs.declared.bucket_access.Deed.TheVariants as deeds
 
@@ -24,6 +24,10 @@ bucket_at place b = record b { search = search_at place b.search }
 -- it has found, and given the page back
 abbrev pub bucket_found : ℕ → Option ℕ → BucketView → BucketView
 bucket_found page found b = record { search = search_at (Found page found) b.search; stage = HasEnded false }
+
+-- it has written the page that answered, and nothing more is due behind it
+abbrev pub bucket_written : ℕ → (found : Option ℕ) → BucketView → BucketView
+bucket_written page found b = record { search = search_at (Found page found) b.search; stage = Written page false }
 
 -- its states from where it has not begun, up to where its page answers
 abbrev pub bucket_way : ℕ → (page : ℕ) → Option ℕ → At BucketView → List (Stop (At BucketView))

@@ -5,6 +5,7 @@ pub mod Writers
 pub mod BucketAccesses
 pub mod BucketSteps
 pub mod BucketRuns
+pub mod WritesAhead
 pub mod Callers
 pub mod Deletes
 pub mod InsertWords

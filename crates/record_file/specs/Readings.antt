@@ -49,6 +49,14 @@ pub record HasFrontSet (value : List ℕ) (links : Links) (bytes : List ℕ) : T
   pub whole : length bytes ≡ linked_bytes links
   pub set : (r : Record) → HasSuch links (Some r) → value ≡ value_of r → IsFrontOf links bytes r
 
+-- the front of the value that the page has, of this length, with the links set in it
+pub record HasFrontOn (page len : ℕ) (key : RecordKey) (pool : PoolState) (links : Links) (bytes : List ℕ) : Type 0
+  where
+    pub within : linked_bytes links ≤ len
+    pub whole : length bytes ≡ linked_bytes links
+    pub set : (r : Record) → HasSuch links (Some r) → value_on pool page key ≡ Some (value_of r) →
+        IsFrontOf links bytes r
+
 abbrev pub IsReplace : RecordOperation → Type 0
 IsReplace (operations.Replace r) = ⊤
 IsReplace o = ⊥

@@ -7,10 +7,9 @@ ghost use Rattle.std.specs.Prelude.{◌≡◌, IfSome, IsSome, true};
 ghost use Rattle.page_locks.specs.declared.lock.LockName.{LockName};
 ghost use Rattle.split_merge.specs.stale_search.SearchRuns.{HasNoLock};
 ghost use Rattle.split_merge.specs.stale_search.Searches.{IsShared};
-ghost use Rattle.split_merge.specs.stale_search.declared.place.SearchPlace.{SearchPlace};
 ghost use Rattle.record_file.specs.Words.{IsSeat, row_of, IsReady, EndsRow, Moved, Release, without_lock};
 ghost use Rattle.record_file.specs.BucketAccesses.{SuitsKind, begun_access, bucket_locks, ended_in, found_of, has_ended, has_room, is_due, is_on_way, kind_for};
-ghost use Rattle.record_file.specs.BucketRuns.{BucketHeads, FindsStraight, bucket_at};
+ghost use Rattle.record_file.specs.BucketRuns.{BucketHeads, FindsStraight, bucket_found};
 ghost use Rattle.record_file.specs.BucketSteps.{MakesBucket};
 
 use bucket_page::{RECORD_HEAD_BYTES, ROOM_BYTES, RecordKey};
@@ -215,11 +214,12 @@ impl BucketAccess {
         }
     }
 
-    /// A page has answered.
-    pub fn stand_at(&mut self, page: u32, found: Option<usize>)
-        ensures { self.new ≡ bucket_at (SearchPlace.Found page found) self.old }
+    /// A page has answered, was written with nothing more due behind it, and was given back.
+    pub fn end_at(&mut self, page: u32, found: Option<usize>)
+        ensures { self.new ≡ bucket_found page found self.old }
     {
         self.search.arrive(page, found);
+        self.stage = BucketStage::Ended(false);
     }
 
     /// The page is given back, with more due behind it or nothing.
@@ -264,7 +264,7 @@ pub fn has_room(used: usize, bytes: usize) -> bool
 
 /// Whether a merge is due after the removal of a record with a value of so many bytes, from a
 /// bucket that had this depth and so many bytes.
-fn is_due(depth: u8, used: usize, bytes: usize) -> bool
+pub(crate) fn is_due(depth: u8, used: usize, bytes: usize) -> bool
     ensures { result ≡ is_due depth used bytes }
 {
     1 <= depth && used.saturating_sub(RECORD_HEAD_BYTES).saturating_sub(bytes) <= MERGED_BYTES

@@ -1,13 +1,13 @@
 //! A record that is deleted.
 
-ghost use Rattle.std.specs.Prelude.{◌≡◌, ◌↔◌, IfSome, true};
+ghost use Rattle.std.specs.Prelude.{◌≡◌, ◌↔◌, IfSome, None, true};
 ghost use Rattle.split_merge.specs.stale_search.declared.place.ApproachPlace.{ApproachPlace};
 ghost use Rattle.split_merge.specs.stale_search.declared.place.SearchPlace.{SearchPlace};
 ghost use Rattle.split_merge.specs.declared.merge_place.MergePlace.{MergePlace};
 ghost use Rattle.record_file.specs.declared.bucket_access.BucketStage.{BucketStage};
 ghost use Rattle.record_file.specs.Words.{Selective};
-ghost use Rattle.record_file.specs.BucketAccesses.{found_of, is_on_way};
-ghost use Rattle.record_file.specs.BucketRuns.{bucket_at};
+ghost use Rattle.record_file.specs.BucketAccesses.{ended_in, found_of, is_on_way};
+ghost use Rattle.record_file.specs.BucketRuns.{bucket_found};
 ghost use Rattle.record_file.specs.Deletes.{IsOver, IsRemoval};
 
 use crate::bucket_access::{BucketAccess, Deed};
@@ -100,12 +100,14 @@ impl Delete {
         }
     }
 
-    /// A page has answered the removal.
-    pub fn stand_at(&mut self, page: u32, found: Option<usize>)
+    /// A page has answered the removal, which has taken the record out and given the page back. No
+    /// merge is due.
+    pub fn end_at(&mut self, page: u32, found: Option<usize>)
+        requires removing { ended_in self.old.removal.stage ≡ None }
         ensures { self.new ≡ record self.old {
-          removal = bucket_at (SearchPlace.Found page found) self.old.removal;
+          removal = bucket_found page found self.old.removal;
         } }
     {
-        self.removal.stand_at(page, found);
+        self.removal.end_at(page, found);
     }
 }

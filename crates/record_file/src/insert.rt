@@ -1,12 +1,12 @@
 //! A record that is inserted.
 
 ghost use Rattle.std.specs.Prelude.{◌≡◌, ◌↔◌, IfSome, IsSome, None, true};
-ghost use Rattle.split_merge.specs.stale_search.declared.place.SearchPlace.{SearchPlace};
 ghost use Rattle.record_file.specs.declared.bucket_access.Deed.{Deed};
 ghost use Rattle.record_file.specs.BucketAccesses.{begun_access};
 ghost use Rattle.record_file.specs.Inserts.{IsOver, IsTry, is_there, said_of, searches_in};
 ghost use Rattle.record_file.specs.InsertSteps.{Notes};
-ghost use Rattle.record_file.specs.OperationRuns.{stage_at};
+ghost use Rattle.record_file.specs.BucketRuns.{bucket_found};
+ghost use Rattle.record_file.specs.OperationRuns.{stage_put};
 
 use crate::bucket_access::{BucketAccess, Deed};
 use crate::second_try::SecondTry;
@@ -132,13 +132,14 @@ impl Insert {
         }
     }
 
-    /// A page that has no record of the key has answered its first try.
-    pub fn stand_at(&mut self, page: u32)
+    /// A page has answered its first try, which has put the record there and given the page back.
+    pub fn end_at(&mut self, page: u32, found: Option<usize>)
         ensures { self.new ≡
-            record self.old { stage = stage_at (SearchPlace.Found page None) self.old.stage } }
+            record self.old { stage = stage_put (bucket_found page found) self.old.stage } }
     {
-        if let InsertStage::First(first, _) = &mut self.stage {
-            first.stand_at(page, None);
+        if let InsertStage::First(first, said) = &mut self.stage {
+            first.end_at(page, found);
+            *said = Some(Tried::IsPut);
         }
     }
 }

@@ -12,6 +12,7 @@ mod insert;
 mod laws;
 mod new_file;
 mod operation;
+mod page_ahead;
 mod place;
 mod reading;
 mod second_place;

@@ -1,9 +1,8 @@
 //! The operation.
 
 ghost use Rattle.std.specs.Prelude.{◌≡◌, ◌↔◌, true, IfSome};
-ghost use Rattle.record_file.specs.stale_search.declared.place.SearchPlace.{SearchPlace};
 ghost use Rattle.record_file.specs.Operations.{FoundAtEnd, HasEnded, TriedAtEnd, begun_delete, begun_find, begun_insert, begun_replace, operation_found, operation_searches, operation_tried};
-ghost use Rattle.record_file.specs.OperationRuns.{IsBucketOf, LacksKey, operation_at};
+ghost use Rattle.record_file.specs.OperationRuns.{IsBeforeMerge, IsBucketOf, operation_through};
 
 use crate::bucket_access::{BucketAccess, Deed};
 use crate::delete::Delete;
@@ -121,16 +120,16 @@ impl RecordOperation {
         }
     }
 
-    /// A page has answered, an insert one that has no record of its key.
-    pub fn stand_at(&mut self, page: u32, found: Option<usize>)
-        requires lacks { LacksKey found self.old }
-        ensures { self.new ≡ operation_at (SearchPlace.Found page found) self.old }
+    /// A page has answered, was written with nothing more due behind it, and was given back.
+    pub fn end_at(&mut self, page: u32, found: Option<usize>)
+        requires removing { IsBeforeMerge self.old }
+        ensures { self.new ≡ operation_through page found self.old }
     {
         match self {
-            RecordOperation::Find(find) => find.stand_at(page, found),
-            RecordOperation::Insert(insert) => insert.stand_at(page),
-            RecordOperation::Replace(replace) => replace.stand_at(page, found),
-            RecordOperation::Delete(delete) => delete.stand_at(page, found),
+            RecordOperation::Find(_) => {}
+            RecordOperation::Insert(insert) => insert.end_at(page, found),
+            RecordOperation::Replace(replace) => replace.end_at(page, found),
+            RecordOperation::Delete(delete) => delete.end_at(page, found),
         }
     }
 }

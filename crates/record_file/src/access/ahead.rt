@@ -1,101 +1,100 @@
-//! All steps of a write up to where its page answers, in one go.
+//! All steps of a write, in one go.
 
-ghost use Rattle.std.specs.Prelude.{◌≡◌, IfSome, None, true, false};
+ghost use Rattle.std.specs.Prelude.{◌≡◌, IfErr, IfOk, IfSome, None, true, false};
 ghost use Rattle.record_file.specs.AccessWords.{EndsRow, IsReady, IsSeat, row_of};
 ghost use Rattle.record_file.specs.Accesses.{access_locks};
-ghost use Rattle.record_file.specs.AccessRuns.{ReachesAtOnce, TakesAhead};
-ghost use Rattle.record_file.specs.OperationRuns.{LacksKey, HoldsLength};
-ghost use Rattle.record_file.specs.Readings.{HasFrontSet, IsReplace};
+ghost use Rattle.record_file.specs.AccessRuns.{FailsAtOnce, WritesAtOnce, WritesThere};
+ghost use Rattle.record_file.specs.WritesAhead.{FailsOn};
 
 use crate::access::Access;
 use crate::operation::RecordOperation;
+use crate::page_ahead::{put_ahead, relink_ahead, remove_ahead, replace_ahead};
+use file_pages::FileFault;
 use file_pages::buffer_pool::Pool;
-use file_pages::peek_value;
 use page_device::PageDevice;
-use page_locks::{Grant, LockKind, LockName, LockTable};
-use queue_records::{Links, MESSAGE_BYTES, relink};
+use page_locks::LockTable;
 
 impl Access {
-    /// All steps of a write up to the Look by which its page answers, in one go: where it has not
-    /// begun, its pages are in frames, the page that the directory names has the pseudokey and what
-    /// it writes can stand there, and nobody stands in its way. The page is locked then. Else
-    /// nothing is done, and it is left to `step`.
-    pub fn reach<D: PageDevice>(
+    /// All steps of a write, in one go, up to the Release of its page: where it has not begun, its
+    /// pages are in frames, the page that the directory names has the pseudokey and what it writes
+    /// can stand there, nobody stands in its way, and nothing more is due behind it. Else nothing is
+    /// done, it tells false, and it is left to `step`. The lock of the page is never taken, since
+    /// nobody else steps in between. A fault is that of the write; the access is what it was then.
+    pub fn write_through<D: PageDevice>(
         &mut self,
         pool: &mut Pool<D>,
-        locks: &mut LockTable,
+        locks: &LockTable,
         seat: u8,
-    ) -> bool
-        requires seat { IsSeat locks.old seat }
+    ) -> Result<bool, FileFault>
+        requires seat { IsSeat locks.now seat }
         requires ready { IsReady pool.old }
-        requires row { EndsRow (access_locks self.old) 3 (row_of locks.old seat) }
-        ensures pool { pool.new ≡ pool.old }
-        ensures made { result ≡ true →
-            ReachesAtOnce seat self.old self.new pool.old locks.old locks.new }
-        ensures spares { result ≡ false → (self.new ≡ self.old) × (locks.new ≡ locks.old) }
+        requires row { EndsRow (access_locks self.old) 3 (row_of locks.now seat) }
+        ensures made { IfOk result (λ made. made ≡ true →
+            WritesAtOnce seat self.old self.new pool.old pool.new locks.now) }
+        ensures spares { IfOk result (λ made. made ≡ false →
+            (self.new ≡ self.old) × (pool.new ≡ pool.old)) }
+        ensures failed { IfErr result (λ fault.
+            FailsAtOnce seat fault self.old self.new pool.old pool.new locks.now) }
     {
         let Some(bucket) = self.operation.bucket() else {
-            return false;
+            return Ok(false);
         };
         let Some(page) = bucket.heads_for(pool, locks, seat) else {
-            return false;
+            return Ok(false);
         };
-        let Grant::Granted = locks.try_grant(seat, LockName::Page(page), LockKind::Selective) else {
-            return false;
+        let Some(found) = self.write_ahead(pool, page)? else {
+            return Ok(false);
         };
-        let Some(found) = self.take_ahead(pool, page) else {
-            locks.release(seat, LockName::Page(page));
-            return false;
-        };
-        self.operation.stand_at(page, found);
-        true
+        self.operation.end_at(page, found);
+        self.written = true;
+        Ok(true)
     }
 
-    /// Takes of a page that is in a frame what a write is for, as `take` does, where that can be
-    /// written there. Of the key, the length of the value there is told.
-    fn take_ahead<D: PageDevice>(&mut self, pool: &Pool<D>, page: u32) -> Option<Option<usize>>
-        requires ready { IsReady pool.now }
-        ensures stands { IfSome result (λ found.
-            HoldsLength page found self.old.operation pool.now) }
-        ensures lacks { IfSome result (λ found. LacksKey found self.old.operation) }
-        ensures made { IfSome result (λ found.
-            TakesAhead page found pool.now self.old self.new) }
-        ensures spares { result ≡ None → self.new ≡ self.old }
+    /// Writes on a page that is in a frame, where nothing more is due behind that, and takes what
+    /// it writes as `take` does. Of the key, the length of the value that stood there is told.
+    fn write_ahead<D: PageDevice>(
+        &mut self,
+        pool: &mut Pool<D>,
+        page: u32,
+    ) -> Result<Option<Option<usize>>, FileFault>
+        requires ready { IsReady pool.old }
+        ensures made { IfOk result (λ made. IfSome made (λ found.
+            WritesThere page found pool.old pool.new self.old self.new)) }
+        ensures spares { IfOk result (λ made. made ≡ None →
+            (self.new ≡ self.old) × (pool.new ≡ pool.old)) }
+        ensures failed { IfErr result (λ fault.
+            (self.new ≡ self.old) × FailsOn fault pool.old pool.new) }
     {
-        let value = peek_value(pool, page, &self.key)?;
         match &self.operation {
-            RecordOperation::Find(_) => None,
-            RecordOperation::Insert(_) => match value {
-                None => Some(None),
-                Some(_) => None,
-            },
-            RecordOperation::Replace(_) => {
-                let value = value?;
-                let suits = match self.links {
-                    Some(links) => self.front_ahead(value, &links),
-                    None => value.len() == self.value.as_slice().len(),
-                };
-                suits.then_some(Some(value.len()))
+            RecordOperation::Find(_) => Ok(None),
+            RecordOperation::Insert(_) => {
+                if !put_ahead(pool, page, &self.key, self.value.as_slice())? {
+                    return Ok(None);
+                }
+                Ok(Some(None))
             }
-            RecordOperation::Delete(_) => Some(Some(value?.len())),
+            RecordOperation::Replace(_) => match &self.links {
+                None => {
+                    let value = self.value.as_slice();
+                    if !replace_ahead(pool, page, &self.key, value)? {
+                        return Ok(None);
+                    }
+                    Ok(Some(Some(value.len())))
+                }
+                Some(links) => {
+                    let Some(len) = relink_ahead(pool, page, &self.key, links, &mut self.value)?
+                    else {
+                        return Ok(None);
+                    };
+                    Ok(Some(Some(len)))
+                }
+            },
+            RecordOperation::Delete(_) => {
+                let Some(len) = remove_ahead(pool, page, &self.key)? else {
+                    return Ok(None);
+                };
+                Ok(Some(Some(len)))
+            }
         }
-    }
-
-    /// Takes the front of this value, where it has one that links are set in.
-    fn front_ahead(&mut self, value: &[u8], links: &Links) -> bool
-        requires { IsReplace self.old.operation }
-        ensures front { result ≡ true → HasFrontSet value.now links.now self.new.bytes }
-        ensures others { self.new ≡ record self.old { bytes = self.new.bytes } }
-        ensures spares { result ≡ false → self.new ≡ self.old }
-    {
-        let bytes = links.front_bytes();
-        if value.len() < bytes {
-            return false;
-        }
-        let mut front = [0; MESSAGE_BYTES];
-        front[..bytes].copy_from_slice(&value[..bytes]);
-        relink(&mut front[..bytes], links);
-        self.value.set(&front[..bytes]);
-        true
     }
 }

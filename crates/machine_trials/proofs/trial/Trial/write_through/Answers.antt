@@ -1,11 +1,10 @@
 -- The seat has begun, and holds behind its steps what its task says.
-use Rattle.std.proofs.Common.{rules, ◌≡◌, suc, sym, subst, ◌-◌, ◌<◌, length, Some, slice_get}
-use Rattle.file_pages.specs.Files.{IsReady}
+use Rattle.std.proofs.Common.{rules, ◌≡◌, suc, ◌-◌, ◌<◌, length, Some, slice_get}
 use Rattle.machine_trials.proofs.SeatLemmas.{Holds-at, IsTrial-set, task_read}
-use Rattle.machine_trials.proofs.trial.Trial.reach.Goals as goal
+use Rattle.machine_trials.proofs.trial.Trial.write_through.Goals as goal
 
-pub reach-requires-clause-holds : goal.reach-requires-clause-holds
-reach-requires-clause-holds g c =
+pub write_through-requires-clause-holds : goal.write_through-requires-clause-holds
+write_through-requires-clause-holds g c =
     let its : c.args.seat ≡ suc (c.args.seat - 1) = search rules in
     let within : c.args.seat - 1 < length c.self.inside.seats.items = search rules in
     let task : c.index_mut.result.now ≡ Some c.in_ok-task.task.now = search rules in
@@ -21,5 +20,5 @@ invariant_of-self-2 g c =
     let its : c.args.seat ≡ suc (c.args.seat - 1) = search rules in
     let within : c.args.seat - 1 < length c.self.inside.seats.items = search rules in
     IsTrial-set c.self.inside.pool c.self.inside.locks c.self.inside.seats.items c.self.invariant (c.args.seat - 1)
-    c.args.seat (Some c.reach.new.self) its c.reach.new.pool c.reach.new.locks
-    (subst IsReady (sym c.reach.ensures.pool) c.self.invariant.ready) within c.reach.ensures.follows
+    c.args.seat (Some c.write_through.new.self) its c.write_through.new.pool c.self.inside.locks
+    c.write_through.ensures.ready within c.write_through.ensures.follows
