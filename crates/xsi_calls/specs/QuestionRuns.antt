@@ -72,3 +72,25 @@ pub record ReachesAtOnce {V : Type 0} (Makes : Promise V) (seat : ℕ) (old new 
   pub arrives : way.looked ≡ at new pool locks'
   pub moves : MovesAlong (AskStep Makes) (at old pool locks) (stops_to way)
   pub counted : SearchesOnce seat way
+
+-- its moves and those by which the record is written and the page is given back
+abbrev pub stops_through : {S : Type 0} → Way S → (written new : S) → List (Stop S)
+stops_through way written new =
+    stop kinds.Grant way.locked
+    ∷ stop kinds.ReadDepth way.deep
+    ∷ stop kinds.ReadEntry way.named
+    ∷ stop kinds.Grant way.arrived
+    ∷ stop kinds.Release way.alone
+    ∷ stop kinds.Look way.looked
+    ∷ stop kinds.WriteRecord written
+    ∷ stop kinds.Release new
+    ∷ []
+
+-- a record is written by such moves; the locks are then what they were. Its search is over behind the Look
+pub record WritesAtOnce {V : Type 0} (Makes : Promise V) (searches : V → Bool) (seat : ℕ) (old new : V)
+    (pool pool' : PoolState) (locks : Table) : Type 0 where
+  pub way : Way (At V)
+  pub written : At V
+  pub moves : MovesAlong (AskStep Makes) (at old pool locks) (stops_through way written (at new pool' locks))
+  pub counted : SearchesOnce seat way
+  pub answered : searches way.looked.machine ≡ false

@@ -3,7 +3,7 @@
 ghost use Rattle.std.specs.Prelude.{◌≡◌, Bool, false, true};
 ghost use Rattle.xsi_calls.specs.CallSteps.{MakesCall};
 ghost use Rattle.xsi_calls.specs.Machine.{call_locks, is_searching, is_undecided};
-ghost use Rattle.xsi_calls.specs.Words.{AsksAtOnce, IsReady, IsSeat, ReachesAtOnce, row_of};
+ghost use Rattle.xsi_calls.specs.Words.{AsksAtOnce, IsReady, IsSeat, ReachesAtOnce, WritesAtOnce, row_of};
 
 use crate::call_machine::CallMachine;
 use crate::part::Part;
@@ -104,6 +104,28 @@ impl CallMachine {
         if let Part::Writes(place) = &mut self.part {
             return place.writes.reach(&plan, pool, locks, keys, seat);
         }
+        false
+    }
+
+    /// All steps of the next record that it inserts on trial, writes or takes out of its trials, in
+    /// one go, where nobody stands in the way and nothing more is due behind it
+    /// (`Access::write_through`). Else nothing is done, and it is left to `step`.
+    pub fn write_through<D: PageDevice, K: PseudoKey>(
+        &mut self,
+        pool: &mut Pool<D>,
+        locks: &LockTable,
+        keys: &K,
+        seat: u8,
+    ) -> bool
+        requires seat { IsSeat locks.now seat }
+        requires ready { IsReady pool.old }
+        requires row { row_of locks.now seat ≡ call_locks self.old }
+        ensures made { result ≡ true → (stopped : Bool) → WritesAtOnce
+            (MakesCall (K.of_key keys.now) seat stopped) is_searching seat self.old self.new
+            pool.old pool.new locks.now }
+        ensures spares { result ≡ false → (self.new ≡ self.old) × (pool.new ≡ pool.old) }
+    {
+        let _ = (&mut *self, pool, locks, keys, seat);
         false
     }
 }
