@@ -1,9 +1,9 @@
-//! A question of a call that is asked in one go, and a write of it that goes to its page so.
+//! A question of a call that is asked in one go, and a write of it that is made so.
 
 ghost use Rattle.std.specs.Prelude.{◌≡◌, Bool, false, true};
 ghost use Rattle.xsi_calls.specs.CallSteps.{MakesCall};
 ghost use Rattle.xsi_calls.specs.Machine.{call_locks, is_searching, is_undecided};
-ghost use Rattle.xsi_calls.specs.Words.{AsksAtOnce, IsReady, IsSeat, ReachesAtOnce, WritesAtOnce, row_of};
+ghost use Rattle.xsi_calls.specs.Words.{AsksAtOnce, IsReady, IsSeat, WritesAtOnce, row_of};
 
 use crate::call_machine::CallMachine;
 use crate::part::Part;
@@ -47,24 +47,23 @@ impl CallMachine {
         self.questions.skip(pool, locks, keys, seat, &self.call)
     }
 
-    /// All steps up to the Look of the next record that it inserts on trial, writes or takes out of
-    /// its trials, in one go, where it can go to its page so (`Access::reach`). Else nothing is
-    /// done, and it is left to `step`.
-    pub fn reach<D: PageDevice, K: PseudoKey>(
+    /// All steps of the next record that it inserts on trial, writes or takes out of its trials, in
+    /// one go, where nobody stands in the way and nothing more is due behind it
+    /// (`Access::write_through`). Else nothing is done, and it is left to `step`.
+    pub fn write_through<D: PageDevice, K: PseudoKey>(
         &mut self,
         pool: &mut Pool<D>,
-        locks: &mut LockTable,
+        locks: &LockTable,
         keys: &K,
         seat: u8,
     ) -> bool
-        requires seat { IsSeat locks.old seat }
+        requires seat { IsSeat locks.now seat }
         requires ready { IsReady pool.old }
-        requires row { row_of locks.old seat ≡ call_locks self.old }
-        ensures pool { pool.new ≡ pool.old }
-        ensures made { result ≡ true → (stopped : Bool) → ReachesAtOnce
-            (MakesCall (K.of_key keys.now) seat stopped) seat self.old self.new
-            pool.old locks.old locks.new }
-        ensures spares { result ≡ false → (self.new ≡ self.old) × (locks.new ≡ locks.old) }
+        requires row { row_of locks.now seat ≡ call_locks self.old }
+        ensures made { result ≡ true → (stopped : Bool) → WritesAtOnce
+            (MakesCall (K.of_key keys.now) seat stopped) is_searching seat self.old self.new
+            pool.old pool.new locks.now }
+        ensures spares { result ≡ false → (self.new ≡ self.old) × (pool.new ≡ pool.old) }
     {
         if self.is_undecided() {
             let tries = self.part.is_trying();
@@ -84,7 +83,7 @@ impl CallMachine {
             let plan = PlanOf::new(&self.call, self.questions.inquiry());
             match &mut self.part {
                 Part::Writes(place) => {
-                    if place.writes.reach(&plan, pool, locks, keys, seat) {
+                    if place.writes.write_through(&plan, pool, locks, keys, seat) {
                         self.questions.count_one();
                         return true;
                     }
@@ -102,30 +101,8 @@ impl CallMachine {
         self.questions.keep_order();
         let plan = PlanOf::new(&self.call, self.questions.inquiry());
         if let Part::Writes(place) = &mut self.part {
-            return place.writes.reach(&plan, pool, locks, keys, seat);
+            return place.writes.write_through(&plan, pool, locks, keys, seat);
         }
-        false
-    }
-
-    /// All steps of the next record that it inserts on trial, writes or takes out of its trials, in
-    /// one go, where nobody stands in the way and nothing more is due behind it
-    /// (`Access::write_through`). Else nothing is done, and it is left to `step`.
-    pub fn write_through<D: PageDevice, K: PseudoKey>(
-        &mut self,
-        pool: &mut Pool<D>,
-        locks: &LockTable,
-        keys: &K,
-        seat: u8,
-    ) -> bool
-        requires seat { IsSeat locks.now seat }
-        requires ready { IsReady pool.old }
-        requires row { row_of locks.now seat ≡ call_locks self.old }
-        ensures made { result ≡ true → (stopped : Bool) → WritesAtOnce
-            (MakesCall (K.of_key keys.now) seat stopped) is_searching seat self.old self.new
-            pool.old pool.new locks.now }
-        ensures spares { result ≡ false → (self.new ≡ self.old) × (pool.new ≡ pool.old) }
-    {
-        let _ = (&mut *self, pool, locks, keys, seat);
         false
     }
 }

@@ -1,10 +1,10 @@
-//! A write that goes to its page in one go.
+//! A deed that is made in one go.
 
 ghost use Rattle.std.specs.Prelude.{◌≡◌, None, false, true};
 ghost use Rattle.xsi_calls.specs.WriteWords.{EndsRow, IsReady, IsSeat, row_of};
 ghost use Rattle.xsi_calls.specs.MakeSteps.{MakesWrites};
-ghost use Rattle.xsi_calls.specs.QuestionRuns.{ReachesAtOnce};
-ghost use Rattle.xsi_calls.specs.Views.{writes_locks};
+ghost use Rattle.xsi_calls.specs.QuestionRuns.{WritesAtOnce};
+ghost use Rattle.xsi_calls.specs.Views.{writes_locks, writes_search};
 
 use crate::plan::PlanOf;
 use crate::writes::CallWrites;
@@ -14,30 +14,29 @@ use page_device::PageDevice;
 use page_locks::LockTable;
 
 impl CallWrites {
-    /// All steps of the next deed up to the Look, in one go: where no access is under way, what it
-    /// writes keeps the limits of one record, and it can go to its page so (`Access::reach`). Else
-    /// nothing is done, and it is left to `step`.
-    pub fn reach<D: PageDevice, K: PseudoKey>(
+    /// All steps of the next deed in one go: where no access is under way, what it writes keeps the
+    /// limits of one record, and it can be made so (`Access::write_through`). Else nothing is done,
+    /// and it is left to `step`.
+    pub fn write_through<D: PageDevice, K: PseudoKey>(
         &mut self,
         plan: &PlanOf<'_>,
         pool: &mut Pool<D>,
-        locks: &mut LockTable,
+        locks: &LockTable,
         keys: &K,
         seat: u8,
     ) -> bool
-        requires seat { IsSeat locks.old seat }
+        requires seat { IsSeat locks.now seat }
         requires ready { IsReady pool.old }
-        requires row { EndsRow (writes_locks self.old) 3 (row_of locks.old seat) }
-        ensures pool { pool.new ≡ pool.old }
-        ensures made { result ≡ true →
-            ReachesAtOnce (MakesWrites (K.of_key keys.now) seat plan.now) seat self.old self.new
-            pool.old locks.old locks.new }
-        ensures spares { result ≡ false → (self.new ≡ self.old) × (locks.new ≡ locks.old) }
+        requires row { EndsRow (writes_locks self.old) 3 (row_of locks.now seat) }
+        ensures made { result ≡ true → WritesAtOnce
+            (MakesWrites (K.of_key keys.now) seat plan.now) writes_search seat self.old self.new
+            pool.old pool.new locks.now }
+        ensures spares { result ≡ false → (self.new ≡ self.old) × (pool.new ≡ pool.old) }
     {
         if self.access.is_under_way() || plan.is_done(self.due) {
             return false;
         }
-        let Some(deed) = plan.deed(self.due) else {
+        let Some((deed, behind)) = plan.next(self.due) else {
             return false;
         };
         if !deed.is_in_range() {
@@ -45,7 +44,9 @@ impl CallWrites {
         }
         let access = self.access.open();
         deed.begin(access, keys);
-        if access.reach(pool, locks, seat) {
+        if access.write_through(pool, locks, seat) {
+            self.access.close();
+            self.due = behind;
             return true;
         }
         self.access.close();

@@ -4,21 +4,21 @@ use Rattle.xsi_calls.specs.declared.call_machine.CallMachine.TheInside.{Inside}
 use Rattle.xsi_calls.specs.declared.part.Part.{Part}
 use Rattle.xsi_calls.specs.declared.part.Part.TheVariants as parts
 use Rattle.xsi_calls.specs.Beginning.{GoesOnTrying, Tries}
-use Rattle.xsi_calls.specs.Machine.{CallView, is_undecided}
+use Rattle.xsi_calls.specs.Machine.{CallView, is_undecided, undecided_searches}
 use Rattle.xsi_calls.specs.Parts.{asked_with, conclusion_under, decision_by, payment_under, undecided_with}
 use Rattle.xsi_calls.specs.Counting.{MOST_FINDS}
 use Rattle.xsi_calls.specs.Stages.{stage_at}
 use Rattle.xsi_calls.specs.UndecidedSteps.{MakesUndecided}
-use Rattle.xsi_calls.specs.Words.{AreNames, ReachesAtOnce}
+use Rattle.xsi_calls.specs.Words.{AreNames, WritesAtOnce}
 use Rattle.xsi_calls.specs.Undecided.{undecided_locks}
 use Rattle.xsi_calls.specs.UndecidedWords.{AnyInquiry, NotASystem, plan_of}
 use Rattle.xsi_calls.proofs.GoLemmas.{undecided_row}
 use Rattle.xsi_calls.proofs.MachineLemmas.{still_one, tries_at_once, writes_at_once}
 use Rattle.xsi_calls.proofs.RoomLemmas.{trying_in}
-use Rattle.xsi_calls.proofs.UndecidedReachLemmas.{trial_reaches, tries_reach}
-use Rattle.xsi_calls.proofs.call_machine.CallMachine.reach.Given as given
-use Rattle.xsi_calls.proofs.call_machine.CallMachine.reach.Goals as goal
-use Rattle.xsi_calls.proofs.call_machine.CallMachine.reach.Goals.{After-keep_order, then-not-tries+else-not-inserts+else-not-is_done+in-Ok-true, else-not-tries}
+use Rattle.xsi_calls.proofs.UndecidedAtOnceLemmas.{trial_at_once, tries_from_part}
+use Rattle.xsi_calls.proofs.call_machine.CallMachine.write_through.Given as given
+use Rattle.xsi_calls.proofs.call_machine.CallMachine.write_through.Goals as goal
+use Rattle.xsi_calls.proofs.call_machine.CallMachine.write_through.Goals.{After-keep_order, then-not-tries+else-not-inserts+else-not-is_done+in-Ok-true, else-not-tries}
 
 -- behind its questions it tries, and a step of that is one of the call
 tried : (g : given.Over) (c : After-keep_order g) → (part : Part) × (c.if-not-tries.self-inside ≡ record {
@@ -48,31 +48,31 @@ tried g c =
       )
     ]
 
-pub invariant_of-self-then-reach : goal.invariant_of-self-then-reach
-invariant_of-self-then-reach g c =
+pub invariant_of-self-then-write_through : goal.invariant_of-self-then-write_through
+invariant_of-self-then-write_through g c =
     let i = c.self.inside in
-    let (part, is, tries) = tried g (goal.at.invariant_of-self-then-reach g c).After-keep_order in
+    let (part, is, tries) = tried g (goal.at.invariant_of-self-then-write_through g c).After-keep_order in
     let counted = c.count_one.ensures
     ∙ ap (λ (x : Inside). record x.questions { finds = min (x.questions.finds + 1) MOST_FINDS }) is in
     rw (is, counted) (still_one i.caller i.call i.questions i.part i.phase
     (ap (λ (m : CallView). is_undecided m.stage) c.self.view_is ∙ sym c.is_undecided.ensures ∙ c.if-is_undecided.true)
     c.self.invariant (min (i.questions.finds + 1) MOST_FINDS)
     (record {
-      writes = c.reach.new.self;
+      writes = c.write_through.new.self;
       on_trial = c.in-Writes.place.on_trial;
       conclusion = c.in-Writes.place.conclusion;
     }))
 
-pub returns-then-reach-clause-made : goal.returns-then-reach-clause-made
-returns-then-reach-clause-made g c = λ made stopped.
+pub returns-then-write_through-clause-made : goal.returns-then-write_through-clause-made
+returns-then-write_through-clause-made g c = λ made stopped.
     let i = c.self.inside in
     let q = c.self.inside.questions in
     let hash = g.K.PseudoKey.of_key c.args.keys.now in
     let undecided = sym c.is_undecided.ensures ∙ c.if-is_undecided.true in
-    let (part, is, tries) = tried g (goal.at.returns-then-reach-clause-made g c).After-keep_order in
+    let (part, is, tries) = tried g (goal.at.returns-then-write_through-clause-made g c).After-keep_order in
     let place = c.in-Writes.place in
     let part2 = parts.Writes (record {
-      writes = c.reach.new.self;
+      writes = c.write_through.new.self;
       on_trial = c.in-Writes.place.on_trial;
       conclusion = c.in-Writes.place.conclusion;
     }) in
@@ -82,27 +82,28 @@ returns-then-reach-clause-made g c = λ made stopped.
     ∙ ap (λ (x : Inside). record x.questions { finds = min (x.questions.finds + 1) MOST_FINDS }) is in
     let row = c.requires.row ∙ undecided_row i.caller i.call (undecided_with i.call q i.part)
     (stage_at i.phase (payment_under i.part) (conclusion_under i.part)) c.args.self.now c.self.view_is undecided in
-    let goes : ReachesAtOnce (MakesUndecided (g.K.PseudoKey.of_key c.args.keys.now) c.args.seat c.self.inside.call)
-    c.args.seat (undecided_with c.self.inside.call c.self.inside.questions part)
-    (undecided_with c.self.inside.call c.count_one.new.self part2) c.args.pool.now c.args.locks.now
-    c.reach.new.locks =
-    rw (here, on_trial, counted) (trial_reaches hash c.args.seat i.call (asked_with q None)
+    let goes : WritesAtOnce (MakesUndecided (g.K.PseudoKey.of_key c.args.keys.now) c.args.seat c.self.inside.call)
+    undecided_searches c.args.seat (undecided_with c.self.inside.call c.self.inside.questions part)
+    (undecided_with c.self.inside.call c.count_one.new.self part2) c.args.pool.now c.write_through.new.pool
+    c.args.locks.now =
+    rw (here, on_trial, counted) (trial_at_once hash c.args.seat i.call (asked_with q None)
     (subst (λ (x : Inside). AreNames x.questions.names) is c.keep_order.ensures) c.new-plan.result
     (c.new-plan.ensures ∙ ap (λ (y : AnyInquiry). plan_of c.if-not-tries.self-inside.call y)
     c.inquiry-then-is_undecided.ensures ∙ ap (λ (x : Inside). plan_of x.call x.questions.inquiry) is)
-    (decision_by i.call q.inquiry) place.writes c.reach.new.self c.args.pool.now c.args.locks.now c.reach.new.locks
-    c.requires.seat (row ∙ sym tries.row ∙ ap undecided_locks now) (c.reach.ensures.made c.if-reach.true)) in
+    (decision_by i.call q.inquiry) place.writes c.write_through.new.self c.args.pool.now c.write_through.new.pool
+    c.args.locks.now c.requires.seat (row ∙ sym tries.row ∙ ap undecided_locks now)
+    (c.write_through.ensures.made c.if-write_through.true)) in
     rw is (tries_at_once hash c.args.seat stopped i.caller i.call q i.part i.phase c.args.self.now c.self.view_is
-    undecided c.count_one.new.self part2 c.args.pool.now c.args.locks.now c.reach.new.locks
-    (tries_reach hash c.args.seat i.call q i.part part tries (undecided_with i.call c.count_one.new.self part2)
-    c.args.pool.now c.args.locks.now c.reach.new.locks goes))
+    undecided c.count_one.new.self part2 c.args.pool.now c.write_through.new.pool c.args.locks.now
+    (tries_from_part hash c.args.seat i.call q i.part part tries (undecided_with i.call c.count_one.new.self part2)
+    c.args.pool.now c.write_through.new.pool c.args.locks.now goes))
 
 pub returns-in-Writes-part-clause-made : goal.returns-in-Writes-part-clause-made
 returns-in-Writes-part-clause-made g c = λ made stopped.
     let i = c.self.inside in
     writes_at_once (g.K.PseudoKey.of_key c.args.keys.now) c.args.seat stopped i.caller i.call i.questions i.part i.phase
     c.args.self.now c.self.view_is (sym c.is_paying.ensures ∙ c.if-not-is_paying.false) c.self.invariant
-    c.in-Writes-part.place c.in-Writes-part.is c.reach-in-Writes-part.new.self c.keep_order-2.ensures
+    c.in-Writes-part.place c.in-Writes-part.is c.write_through-in-Writes-part.new.self c.keep_order-2.ensures
     c.new-plan-2.result (c.new-plan-2.ensures ∙ ap (λ (x : AnyInquiry). plan_of c.self.inside.call x)
-    c.inquiry-2.ensures) c.args.pool.now c.args.locks.now c.reach-in-Writes-part.new.locks c.requires.seat
-    c.requires.row (c.reach-in-Writes-part.ensures.made made)
+    c.inquiry-2.ensures) c.args.pool.now c.write_through-in-Writes-part.new.pool c.args.locks.now c.requires.seat
+    c.requires.row (c.write_through-in-Writes-part.ensures.made made)
