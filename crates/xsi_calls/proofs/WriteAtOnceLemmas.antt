@@ -16,7 +16,7 @@ use Rattle.xsi_calls.specs.declared.deed.Deed.TheVariants as deeds
 use Rattle.xsi_calls.specs.declared.writes.CallWrites.{CallWrites}
 use Rattle.xsi_calls.specs.WriteWords.{AccessView, Deed, Delete, Due, Ended, EndsRow, HasEnded, IsSeat, Lock, MakesAccess, Moved, Plan, PoolState, RecordKey, Relink, Replace, Serves, Table, access_locks, row_of, searches_under, store_of}
 use Rattle.xsi_calls.specs.Counting.{is_to_search, last_of}
-use Rattle.xsi_calls.specs.Dues.{IsBehind, IsNext, purpose_of}
+use Rattle.xsi_calls.specs.Dues.{IsNext, purpose_of}
 use Rattle.xsi_calls.specs.MakeSteps.{Begins, Goes, GoesOn, IsSetOut, LetsGo, Makes, MakesDeed, MakesWrites, PaysDue, Stays}
 use Rattle.xsi_calls.specs.QuestionRuns.{At, Way, WritesAtOnce, at}
 use Rattle.xsi_calls.specs.Views.{begun_deed, locks_under, writes_locks, writes_search}

@@ -1,5 +1,5 @@
 -- The access of the deed that comes next begins.
-use Rattle.std.proofs.Common.{sym, ap, ◌∙◌, subst, Some}
+use Rattle.std.proofs.Common.{ap, subst, Some}
 use Rattle.xsi_calls.specs.WriteWords.{AccessView, Serves}
 use Rattle.xsi_calls.specs.Dues.{purpose_of}
 use Rattle.xsi_calls.specs.MakeSteps.{Begins}

@@ -1,7 +1,7 @@
 -- The access of the deed that comes next begins, makes its moves, and is let go.
 use Rattle.xsi_calls.specs.WriteWords.{AccessView, row_of}
 use Rattle.xsi_calls.specs.declared.writes.CallWrites.{CallWrites}
-use Rattle.std.proofs.Common.{◌≡◌, Option, sym, ap, subst, ◌∙◌}
+use Rattle.std.proofs.Common.{Option, sym, ap, subst, ◌∙◌}
 use Rattle.xsi_calls.specs.MakeSteps.{MakesWrites}
 use Rattle.xsi_calls.specs.QuestionRuns.{WritesAtOnce}
 use Rattle.xsi_calls.specs.Views.{writes_search}
