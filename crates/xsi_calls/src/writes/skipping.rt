@@ -1,7 +1,7 @@
 //! A deed that is made in one go.
 
-ghost use Rattle.std.specs.Prelude.{◌≡◌, None, false, true};
-ghost use Rattle.xsi_calls.specs.WriteWords.{EndsRow, IsReady, IsSeat, row_of};
+ghost use Rattle.std.specs.Prelude.{◌≡◌, IfErr, IfOk, None, false, true};
+ghost use Rattle.xsi_calls.specs.WriteWords.{EndsRow, Fault, IsReady, IsSeat, row_of};
 ghost use Rattle.xsi_calls.specs.MakeSteps.{MakesWrites};
 ghost use Rattle.xsi_calls.specs.QuestionRuns.{WritesAtOnce};
 ghost use Rattle.xsi_calls.specs.Views.{writes_locks, writes_search};
@@ -12,11 +12,12 @@ use bucket_page::PseudoKey;
 use buffer_pool::Pool;
 use page_device::PageDevice;
 use page_locks::LockTable;
+use record_file::file_pages::FileFault;
 
 impl CallWrites {
     /// All steps of the next deed in one go: where no access is under way, what it writes keeps the
     /// limits of one record, and it can be made so (`Access::write_through`). Else nothing is done,
-    /// and it is left to `step`.
+    /// it tells false, and it is left to `step`. A fault is that of the write of its page.
     pub fn write_through<D: PageDevice, K: PseudoKey>(
         &mut self,
         plan: &PlanOf<'_>,
@@ -24,32 +25,36 @@ impl CallWrites {
         locks: &LockTable,
         keys: &K,
         seat: u8,
-    ) -> bool
+    ) -> Result<bool, FileFault>
         requires seat { IsSeat locks.now seat }
         requires ready { IsReady pool.old }
         requires row { EndsRow (writes_locks self.old) 3 (row_of locks.now seat) }
-        ensures made { result ≡ true → WritesAtOnce
+        ensures made { IfOk result (λ made. made ≡ true → WritesAtOnce
             (MakesWrites (K.of_key keys.now) seat plan.now) writes_search seat self.old self.new
-            pool.old pool.new locks.now }
-        ensures spares { result ≡ false → (self.new ≡ self.old) × (pool.new ≡ pool.old) }
+            pool.old pool.new locks.now) }
+        ensures spares { IfOk result (λ made. made ≡ false →
+            (self.new ≡ self.old) × (pool.new ≡ pool.old)) }
+        ensures failed { IfErr result (λ fault.
+            MakesWrites (K.of_key keys.now) seat plan.now (Fault fault) self.old self.new
+            pool.old pool.new locks.now locks.now) }
     {
         if self.access.is_under_way() || plan.is_done(self.due) {
-            return false;
+            return Ok(false);
         }
         let Some((deed, behind)) = plan.next(self.due) else {
-            return false;
+            return Ok(false);
         };
         if !deed.is_in_range() {
-            return false;
+            return Ok(false);
         }
         let access = self.access.open();
         deed.begin(access, keys);
-        if access.write_through(pool, locks, seat) {
+        if access.write_through(pool, locks, seat)? {
             self.access.close();
             self.due = behind;
-            return true;
+            return Ok(true);
         }
         self.access.close();
-        false
+        Ok(false)
     }
 }
