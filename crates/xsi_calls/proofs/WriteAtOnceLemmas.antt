@@ -6,7 +6,7 @@ use Rattle.page_locks.specs.Table.{with_row}
 use Rattle.page_locks.specs.declared.lock.LockKind.TheVariants.{Read, Selective}
 use Rattle.page_locks.specs.declared.lock.LockName.TheVariants.{Directory, Page}
 use Rattle.record_file.specs.AccessRuns.{AccessStep, access_at}
-use Rattle.record_file.specs.AccessRuns.{WritesAtOnce as GoesAtOnce}
+use Rattle.record_file.specs.AccessRuns.{FailsAtOnce, WritesAtOnce as GoesAtOnce}
 use Rattle.record_file.specs.stale_search.Searches.{locks_at}
 use Rattle.record_file.specs.stale_search.declared.place.SearchPlace.{SearchPlace}
 use Rattle.record_file.specs.stale_search.declared.place.SearchPlace.TheVariants as places
@@ -14,7 +14,7 @@ use Rattle.step_rules.specs.declared.kind.Kind.{Kind}
 use Rattle.step_rules.specs.declared.kind.Kind.TheVariants as kinds
 use Rattle.xsi_calls.specs.declared.deed.Deed.TheVariants as deeds
 use Rattle.xsi_calls.specs.declared.writes.CallWrites.{CallWrites}
-use Rattle.xsi_calls.specs.WriteWords.{AccessView, Deed, Delete, Due, Ended, EndsRow, HasEnded, IsSeat, Lock, MakesAccess, Moved, Plan, PoolState, RecordKey, Relink, Replace, Serves, Table, access_locks, row_of, searches_under, store_of}
+use Rattle.xsi_calls.specs.WriteWords.{AccessView, Deed, Delete, Due, Ended, EndsRow, Fault, HasEnded, IsSeat, Lock, MakesAccess, Moved, Plan, PoolState, RecordKey, Relink, Replace, Serves, Table, access_locks, row_of, searches_under, store_of}
 use Rattle.xsi_calls.specs.Counting.{is_to_search, last_of}
 use Rattle.xsi_calls.specs.Dues.{IsNext, purpose_of}
 use Rattle.xsi_calls.specs.MakeSteps.{Begins, Goes, GoesOn, IsSetOut, LetsGo, Makes, MakesDeed, MakesWrites, PaysDue, Stays}
@@ -22,7 +22,8 @@ use Rattle.xsi_calls.specs.QuestionRuns.{At, Way, WritesAtOnce, at}
 use Rattle.xsi_calls.specs.Views.{begun_deed, locks_under, writes_locks, writes_search}
 use Rattle.xsi_calls.proofs.CountLemmas.{last_there}
 use Rattle.xsi_calls.proofs.MakesLemmas.{makes_writes}
-use Rattle.xsi_calls.proofs.WriteBeginLemmas.{begun_locks, begun_unwritten}
+use Rattle.xsi_calls.proofs.WriteNames.{FileFault}
+use Rattle.xsi_calls.proofs.WriteBeginLemmas.{begun_locks, begun_unwritten, not_ended}
 
 -- ---- the row of its seat
 
@@ -120,6 +121,28 @@ module _ (hash : RecordKey → ℕ) (seat : ℕ) (p : Plan) where
       (subst (λ (w : Bool). PaysDue p (not w && a'.written) due due) (sym was) refl) step)
       (LetsGo a' refl ended refl written refl refl))
 
+  -- ---- a fault
+
+  deed_fails : (d : Deed) (due due' : Due) → IsNext p due d due' → Serves (purpose_of d) (begun_deed hash d) →
+      (fault : FileFault) (pool pool' : PoolState) (locks : Table) →
+      AccessStep hash seat (Fault fault) (at (begun_deed hash d) pool locks) (at (begun_deed hash d) pool' locks) →
+      MakesWrites hash seat p (Fault fault) (resting due) (under due (begun_deed hash d)) pool pool' locks locks
+  deed_fails d due due' next serves fault pool pool' locks step =
+      makes_writes hash seat p (Fault fault) (resting due) (under due (begun_deed hash d)) pool pool' locks locks
+      step.may.seated step.may.ready
+      (Makes (under due (begun_deed hash d)) (under due (begun_deed hash d)) (Fault fault)
+      (Begins d refl next.deed serves refl)
+      (Goes (record {
+        before = begun_deed hash d;
+        was = refl;
+        going = not_ended hash d;
+        behind = begun_deed hash d;
+        is = refl;
+        made = step.makes;
+        due = still_due due (begun_deed hash d).written;
+      }))
+      (Stays refl refl (λ b is ended. refl)))
+
   -- ---- all of them
 
   module _ (d : Deed) (due due' : Due) (next : IsNext p due d due') (serves : Serves (purpose_of d) (begun_deed hash d))
@@ -213,12 +236,29 @@ module _ (hash : RecordKey → ℕ) (seat : ℕ) (p : Plan) where
         }
 
 -- from its place
-pub deed_from : (hash : RecordKey → ℕ) (seat : ℕ) (p : Plan) (pool pool' : PoolState) (locks : Table)
-    (w : CallWrites) → w.access ≡ None → (d : Deed) (due' : Due) → IsNext p w.due d due' → (b : AccessView) →
-    b ≡ begun_deed hash d → Serves (purpose_of d) b → (a : AccessView) → GoesAtOnce seat b a pool pool' locks →
-    WritesAtOnce (MakesWrites hash seat p) writes_search seat w (record { due = due'; access = None }) pool pool' locks
-deed_from hash seat p pool pool' locks w none d due' next b begun serves a goes =
-    subst (λ (o : Option AccessView). WritesAtOnce (MakesWrites hash seat p) writes_search seat
-    (record { due = w.due; access = o }) (record { due = due'; access = None }) pool pool' locks) (sym none)
-    (deed_at_once hash seat p d w.due due' next (subst (Serves (purpose_of d)) begun serves) pool pool' locks a
-    (subst (λ (x : AccessView). GoesAtOnce seat x a pool pool' locks) begun goes))
+module _ (hash : RecordKey → ℕ) (seat : ℕ) (p : Plan) (pool pool' : PoolState) (locks : Table) (w : CallWrites)
+    (none : w.access ≡ None) (d : Deed) (due' : Due) (next : IsNext p w.due d due') (b : AccessView)
+    (begun : b ≡ begun_deed hash d) (serves : Serves (purpose_of d) b) where
+  serves_it : Serves (purpose_of d) (begun_deed hash d)
+  serves_it = subst (Serves (purpose_of d)) begun serves
+
+  pub deed_from : (a : AccessView) → GoesAtOnce seat b a pool pool' locks →
+      WritesAtOnce (MakesWrites hash seat p) writes_search seat w (record { due = due'; access = None }) pool pool'
+      locks
+  deed_from a goes =
+      subst (λ (o : Option AccessView). WritesAtOnce (MakesWrites hash seat p) writes_search seat
+      (record { due = w.due; access = o }) (record { due = due'; access = None }) pool pool' locks) (sym none)
+      (deed_at_once hash seat p d w.due due' next serves_it pool pool' locks a
+      (subst (λ (x : AccessView). GoesAtOnce seat x a pool pool' locks) begun goes))
+
+  -- where its page can't be written, its access has begun
+  pub fails_from : (fault : FileFault) (a : AccessView) → FailsAtOnce seat fault b a pool pool' locks →
+      MakesWrites hash seat p (Fault fault) w (record { due = w.due; access = Some a }) pool pool' locks locks
+  fails_from fault a fails =
+      subst (λ (o : Option AccessView). MakesWrites hash seat p (Fault fault) (record { due = w.due; access = o })
+      (record { due = w.due; access = Some a }) pool pool' locks locks) (sym none)
+      (subst (λ (x : AccessView). MakesWrites hash seat p (Fault fault) (record { due = w.due; access = None })
+      (record { due = w.due; access = Some x }) pool pool' locks locks) (sym (fails.same ∙ begun))
+      (deed_fails hash seat p d w.due due' next serves_it fault pool pool' locks
+      (subst (λ (x : AccessView). AccessStep hash seat (Fault fault) (at x pool locks) (at x pool' locks)) begun
+      (fails.step hash))))
