@@ -1,7 +1,7 @@
 //! The command line.
 
-ghost use Rattle.std.specs.Prelude.{◌≡◌, IfOk, IfSome};
-ghost use Rattle.msgq_cli.specs.Tasks.{HasPages, IsFileSize, ReadsInputOnce, pages_of};
+ghost use Rattle.std.specs.Prelude.{◌≡◌, ◌&&◌, IfOk, IfSome};
+ghost use Rattle.msgq_cli.specs.Tasks.{HasPages, IsFileSize, ReadsInputOnce, is_input, pages_of};
 
 use crate::argument_names::{
     FILE, MAP, METRICS, NEW, OLD, PAGES, SCHEDULE, SCRIPT, TRACE, VERBOSE, WAIT,
@@ -181,15 +181,23 @@ fn read_replay<'a>(arguments: &ArgMatches<'a>) -> Result<Task<'a>, Wrong<'a>>
 {
     let script = arguments.get_str(SCRIPT).unwrap_or("");
     let schedule = arguments.get_str(SCHEDULE).unwrap_or("");
-    if script == STANDARD_INPUT && schedule == STANDARD_INPUT {
+    if share_input(script, schedule) {
         return Err(Wrong::OneInput);
     }
+    let file = opening(arguments)?;
     Ok(Task::Replay {
-        file: opening(arguments)?,
+        file,
         script,
         schedule,
         is_traced: arguments.get_flag(TRACE),
     })
+}
+
+/// Whether two texts would both be that of standard input.
+fn share_input(one: &str, other: &str) -> bool
+    ensures { result ≡ (is_input one.now && is_input other.now) }
+{
+    one == STANDARD_INPUT && other == STANDARD_INPUT
 }
 
 /// What a report shows, and of which file.

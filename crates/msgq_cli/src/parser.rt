@@ -93,24 +93,23 @@ fn option_argument<'a>(alloc: Global, row: &OptionRow) -> Result<Arg<'a>, AllocE
         .conflicts_with_all(row.conflicts)
 }
 
-/// How the value of an option is given.
+/// How the value of an option is given. The argument stands in one line of steps, since each branch
+/// that makes one would have the proof join it with those of the others.
 fn with_value<'a>(argument: Arg<'a>, value: Value) -> Arg<'a> {
-    match value {
-        Value::Nothing => argument.action(ArgAction::SetTrue),
-        Value::Word(shown) | Value::User(shown) | Value::Group(shown) | Value::Path(shown) => {
-            argument.action(ArgAction::Set).value_name(shown)
-        }
-        Value::Signed(shown) => argument
-            .action(ArgAction::Set)
-            .value_name(shown)
-            .allow_negative_numbers(true),
-        Value::Perhaps(shown) => argument
-            .action(ArgAction::Set)
-            .value_name(shown)
-            .num_args(0..=1)
-            .require_equals(true)
-            .default_missing_value(FOR_EVER),
+    let Some(shown) = value.shown() else {
+        return argument.action(ArgAction::SetTrue);
+    };
+    let argument = argument
+        .action(ArgAction::Set)
+        .value_name(shown)
+        .allow_negative_numbers(matches!(value, Value::Signed(_)));
+    if !matches!(value, Value::Perhaps(_)) {
+        return argument;
     }
+    argument
+        .num_args(0..=1)
+        .require_equals(true)
+        .default_missing_value(FOR_EVER)
 }
 
 /// The options of which at least one is given.

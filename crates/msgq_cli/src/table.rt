@@ -111,6 +111,17 @@ pub enum Value {
     Path(&'static str),
 }
 
+impl Value {
+    /// How it is shown, where there is one.
+    pub(crate) fn shown(self) -> Option<&'static str> {
+        match self {
+            Value::Nothing => None,
+            Value::Word(shown) | Value::Signed(shown) | Value::Perhaps(shown) => Some(shown),
+            Value::User(shown) | Value::Group(shown) | Value::Path(shown) => Some(shown),
+        }
+    }
+}
+
 /// The row of a command.
 pub fn command_named(rows: &[CommandRow], name: &str) -> Option<CommandRow> {
     rows.iter().copied().find(|row| row.name == name)
