@@ -12,7 +12,7 @@ use Rattle.step_rules.specs.declared.progress.Progress.TheVariants as progress
 use Rattle.xsi_calls.specs.CallSteps.{MakesCall}
 use Rattle.xsi_calls.specs.Machine.{conclusion_at, is_searching, is_undecided}
 use Rattle.xsi_calls.specs.Stages.{Paying, Releasing, Stage, Undecided}
-use Rattle.xsi_calls.specs.Words.{AskStep, AsksAtOnce, At, ReachesAtOnce, Way, at, stops_on, stops_to}
+use Rattle.xsi_calls.specs.Words.{AskStep, AsksAtOnce, At, Way, WritesAtOnce, at, stops_on, stops_through}
 use Rattle.xsi_calls.specs.declared.conclusion.Conclusion.{Conclusion}
 use Rattle.interleaving_core.specs.Words.{Answer, CallView, Entry, IsSeat, PoolState, Progress, RecordKey, Table, answer_of_call, conclusion_of}
 use Rattle.interleaving_core.specs.Active.{ActiveView, IsDrafted, IsKept, decided_by, draft_by, entries_by}
@@ -80,10 +80,6 @@ abbrev pub AreOthers : List (Stop (At CallView)) → Type 0
 AreOthers [] = ⊤
 AreOthers (next ∷ stops) = (next.kind ≡ kinds.Decide → ⊥) × AreOthers stops
 
-others_to : (w : Way (At CallView)) → AreOthers (stops_to w)
-others_to w =
-    (λ e. absurd cc, (λ e. absurd cc, (λ e. absurd cc, (λ e. absurd cc, (λ e. absurd cc, (λ e. absurd cc, tt))))))
-
 others_on : (w : Way (At CallView)) (new : At CallView) → AreOthers (stops_on w new)
 others_on w new = (
   λ e. absurd cc,
@@ -93,13 +89,22 @@ others_on w new = (
       λ e. absurd cc,
       (
         λ e. absurd cc,
-        (
-          λ e. absurd cc,
-          (
-            λ e. absurd cc,
-            (λ e. absurd cc, tt),
-          ),
-        ),
+        (λ e. absurd cc, (λ e. absurd cc, (λ e. absurd cc, tt))),
+      ),
+    ),
+  ),
+)
+
+others_through : (w : Way (At CallView)) (written new : At CallView) → AreOthers (stops_through w written new)
+others_through w written new = (
+  λ e. absurd cc,
+  (
+    λ e. absurd cc,
+    (
+      λ e. absurd cc,
+      (
+        λ e. absurd cc,
+        (λ e. absurd cc, (λ e. absurd cc, (λ e. absurd cc, (λ e. absurd cc, tt)))),
       ),
     ),
   ),
@@ -130,13 +135,13 @@ module _ (hash : RecordKey → ℕ) (seat : ℕ) (stopped : Bool) (m : CallView)
       far_along (stops_on asks.way (at m' pool locks)) (others_on asks.way (at m' pool locks)) (at m pool locks)
       asks.moves (record { come = refl; kept = kept })
 
-  pub reached_far : (m' : CallView) (pool : PoolState) (locks locks' : Table) →
-      ReachesAtOnce (MakesCall hash seat stopped) seat m m' pool locks locks' → IsDrafted m draft →
+  pub written_far : (m' : CallView) (pool pool' : PoolState) (locks : Table) →
+      WritesAtOnce (MakesCall hash seat stopped) is_searching seat m m' pool pool' locks → IsDrafted m draft →
       IsAsFar m draft m'
-  reached_far m' pool locks locks' reaches kept =
-      subst (λ (s : At CallView). IsAsFar m draft s.machine) reaches.arrives
-      (far_along (stops_to reaches.way) (others_to reaches.way) (at m pool locks) reaches.moves
-      (record { come = refl; kept = kept }))
+  written_far m' pool pool' locks writes kept =
+      far_along (stops_through writes.way writes.written (at m' pool' locks))
+      (others_through writes.way writes.written (at m' pool' locks)) (at m pool locks) writes.moves
+      (record { come = refl; kept = kept })
 
 none_some : (o : Option ℕ) → is_some o ≡ false → IsSome o → ⊥
 none_some None none some = absurd cc

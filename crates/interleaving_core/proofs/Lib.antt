@@ -1,4 +1,5 @@
 pub mod CountLemmas
+pub mod SearchLemmas
 pub mod PlaceLemmas
 pub mod PartLemmas
 pub mod PastLemmas
