@@ -29,25 +29,26 @@ use Rattle.interleaving_core.proofs.FailureLemmas.{none_blamed}
 use Rattle.interleaving_core.proofs.KernelLemmas.{row, same_here, turn_behind, whole_behind}
 use Rattle.interleaving_core.proofs.TurnLemmas.{Does, added_by, comes_at, none_left, some_by, stays_at}
 
--- ---- a move that is no Decide
+-- ---- a step that is no Decide
 
 -- a call has come to what it had come to, and what is kept for its entry is there
 pub record IsAsFar (first : CallView) (draft : Option Draft) (m : CallView) : Type 0 where
   pub come : conclusion_of m ≡ conclusion_of first
   pub kept : IsDrafted m draft
 
-module _ (hash : RecordKey → ℕ) (seat : ℕ) (stopped : Bool) (kind : Kind) (other : kind ≡ kinds.Decide → ⊥)
-    (m m' : CallView) (pool pool' : PoolState) (locks locks' : Table)
-    (makes : MakesCall hash seat stopped (progress.Moved kind) m m' pool pool' locks locks') where
-  pub no_decide : ◌≡◌ {A = Progress FileFault} (progress.Moved kind) (progress.Moved kinds.Decide) → ⊥
-  no_decide is = other cc
+pub other_kind : (kind : Kind) → (kind ≡ kinds.Decide → ⊥) →
+    ◌≡◌ {A = Progress FileFault} (progress.Moved kind) (progress.Moved kinds.Decide) → ⊥
+other_kind kind other is = other cc
 
+module _ (hash : RecordKey → ℕ) (seat : ℕ) (stopped : Bool) (did : Progress FileFault)
+    (other : did ≡ progress.Moved kinds.Decide → ⊥) (m m' : CallView) (pool pool' : PoolState) (locks locks' : Table)
+    (makes : MakesCall hash seat stopped did m m' pool pool' locks locks') where
   come_on : conclusion_of m' ≡ conclusion_of m
   come_on = by (conclusion_of m) refl
     where
       none : conclusion_of m ≡ None → (c : Option Conclusion) → conclusion_of m' ≡ c → c ≡ None
       none is None come = refl
-      none is (Some c) come = absurd (no_decide (makes.aim.decides is (subst IsSome (sym come) refl)))
+      none is (Some c) come = absurd (other (makes.aim.decides is (subst IsSome (sym come) refl)))
 
       by : (c : Option Conclusion) → conclusion_of m ≡ c → conclusion_of m' ≡ conclusion_of m
       by None is = none is (conclusion_of m') refl ∙ sym is
@@ -55,11 +56,10 @@ module _ (hash : RecordKey → ℕ) (seat : ℕ) (stopped : Bool) (kind : Kind) 
 
   drafted_on : (draft : Option Draft) → IsDrafted m draft → IsDrafted m' draft
   drafted_on None some =
-      subst IsSome (sym (stays_at (progress.Moved kind) m m' makes.aim (conclusion_of m) refl
+      subst IsSome (sym (stays_at did m m' makes.aim (conclusion_of m) refl
       (some_by (conclusion_of m) m.undecided.questions.room.bytes some))) some
   drafted_on (Some d) had = record {
-    unanswered = comes_at (progress.Moved kind) m m' makes.aim (conclusion_of m) (conclusion_of m') refl refl
-        had.unanswered no_decide;
+    unanswered = comes_at did m m' makes.aim (conclusion_of m) (conclusion_of m') refl refl had.unanswered other;
     call = had.call ∙ sym makes.aim.call;
     room = had.room ∙ sym makes.aim.most;
   }
@@ -120,7 +120,8 @@ module _ (hash : RecordKey → ℕ) (seat : ℕ) (stopped : Bool) (m : CallView)
       AskStep (MakesCall hash seat stopped) (progress.Moved kind) s t → IsAsFar m draft s.machine →
       IsAsFar m draft t.machine
   far_behind kind other s t step so_far =
-      far_on hash seat stopped kind other s.machine t.machine s.pool t.pool s.locks t.locks step m draft so_far
+      far_on hash seat stopped (progress.Moved kind) (other_kind kind other) s.machine t.machine s.pool t.pool s.locks
+      t.locks step m draft so_far
 
   far_along : (stops : List (Stop (At CallView))) → AreOthers stops → (s : At CallView) → Along s stops →
       IsAsFar m draft s.machine → IsAsFar m draft (end_of s stops).machine
@@ -188,7 +189,7 @@ module _ {K : Type 0} (of : K → RecordKey → ℕ) (seat : ℕ) (b : KernelSta
 
   none_joins : entries_by seat (answer_of_call m) x.draft ≡ []
   none_joins = added_by seat (progress.Moved kind) x.machine m makes.aim x.draft kept
-      (no_decide (of b.keys) seat b.stopped kind other x.machine m b.pool pool b.locks locks makes)
+      (other_kind kind other)
 
   turns : Turns (of b.keys) seat b.stopped (steps.Moved kind) (call_at b.seats seat) (Some y) b.pool pool b.locks locks
       b.journal b.journal
@@ -202,8 +203,8 @@ module _ {K : Type 0} (of : K → RecordKey → ℕ) (seat : ℕ) (b : KernelSta
             come = y;
             makes = makes;
             kept = kept;
-            draft = draft_stays (of b.keys) seat b.stopped kind other x.machine m b.pool pool b.locks locks makes
-                x.draft kept;
+            draft = draft_stays (of b.keys) seat b.stopped (progress.Moved kind) (other_kind kind other) x.machine m
+                b.pool pool b.locks locks makes x.draft kept;
             journal = sym (ap (λ (es : List Entry). b.journal ++ es) none_joins ∙ append-nil b.journal);
             marked = record { begun = refl; decided = marked; awake = refl };
             told_is = refl;

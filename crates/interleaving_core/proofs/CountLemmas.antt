@@ -158,26 +158,6 @@ own_none u c = by c.over refl
     by true is = refl
     by false is = ap (λ (x : Bool). record c { over = x }) (sym is)
 
--- of a search that is over nothing tells whether it goes on
-own_either : (begins first other ends : Bool) (u : UnderWay) (c : SearchCount) → c.over ≡ true →
-    own_count begins first ends u c ≡ own_count begins other ends u c
-own_either true first other ends u c over = refl
-own_either false first other ends u c over = stays first ∙ sym (stays other)
-  where
-    stays : (goes_on : Bool) → (if c.over then c else gone_count goes_on ends c) ≡ c
-    stays goes_on = ap (λ (b : Bool). if b then c else gone_count goes_on ends c) over
-
-pub either_way : (seat : ℕ) (kind : Kind) (begins first other ends : Bool) (old new : CountsState) →
-    (count_at old.counts seat).over ≡ true → Notes seat kind begins first ends old new →
-    Notes seat kind begins other ends old new
-either_way seat kind begins first other ends old new over notes = record {
-  under_way = notes.under_way;
-  as_many = notes.as_many;
-  own = notes.own ∙ own_either begins first other ends new.under_way
-      (count_behind kind new.under_way (count_at old.counts seat)) over;
-  others = notes.others;
-}
-
 -- the count that stands for no seat
 unseated : (kind : Kind) (u : UnderWay) → count_behind kind u no_count ≡ no_count
 unseated kind u = refl

@@ -1,11 +1,11 @@
 -- A step of a seat leaves a kernel whole, and tells that seat what the journal says.
-use Rattle.std.proofs.Common.{◌≡◌, refl, sym, ap, ◌∙◌, subst, ℕ, ◌+◌, ◌-◌, ◌≤◌, Bool, true, false, ◌||◌, IsSome, inl, inr, List, ◌++◌, Option, Some, None, drop, length, map, slice_set, slice_index_or, append-nil, length-append, arith}
+use Rattle.std.proofs.Common.{◌≡◌, refl, sym, ap, ◌∙◌, subst, ℕ, ◌+◌, ◌-◌, ◌≤◌, Bool, false, ◌||◌, IsSome, inl, inr, List, ◌++◌, Option, Some, None, drop, length, map, slice_set, slice_index_or, append-nil, length-append, arith}
 use Rattle.std.specs.Prelude.{sum_by}
 use Rattle.std.proofs.lemmas.Bool.{cases_eq}
 use Rattle.std.proofs.lemmas.List.{get_or_read, length-map}
 use Rattle.file_pages.specs.Fault.{FileHasCause}
 use Rattle.file_pages.specs.declared.fault.FileFault.{FileFault}
-use Rattle.interleaving_core.specs.Counting.{CountsState, IsCountedSeat, count_at}
+use Rattle.interleaving_core.specs.Counting.{CountsState, IsCountedSeat}
 use Rattle.interleaving_core.specs.Words.{Caller, Entry, IsSeat, PoolState, RecordKey, Table, caller_at, row_of, with_row}
 use Rattle.interleaving_core.specs.Active.{ActiveView}
 use Rattle.interleaving_core.specs.Kernel.{AreFittingCallers, IsCallOf, IsWhole, KernelState, call_at, due_at, due_for_stop, entries_of, locks_of, with_call}
@@ -14,15 +14,13 @@ use Rattle.interleaving_core.specs.Past.{IsOfJournal, KeepsJournal, call_of, unt
 use Rattle.interleaving_core.specs.declared.fault.Failure.{Failure}
 use Rattle.interleaving_core.specs.declared.fault.StepFault.TheVariants as faults
 use Rattle.queue_model.specs.Journal.{part_of}
-use Rattle.step_rules.specs.declared.kind.Kind.{Kind}
 use Rattle.std.specs.Option.{is_some}
-use Rattle.interleaving_core.specs.Searches.{Counts, CountsFrom, begins_search, ends_on, ends_search, goes_on, goes_on_from}
+use Rattle.interleaving_core.specs.Searches.{Counts, CountsFrom, ends_on}
 use Rattle.interleaving_core.specs.Turn.{TakesTurn, Turns}
 use Rattle.interleaving_core.specs.declared.step.Step.{Step}
 use Rattle.interleaving_core.specs.declared.step.Step.TheVariants as steps
 use Rattle.interleaving_core.proofs.TurnLemmas.{Does}
 use Rattle.interleaving_core.proofs.AnewLemmas.{turn_does, turn_looked}
-use Rattle.interleaving_core.proofs.CountLemmas.{either_way}
 use Rattle.interleaving_core.proofs.FailureLemmas.{blamed_by, none_blamed, turn_cause}
 use Rattle.interleaving_core.proofs.PartLemmas.{part_other, part_own}
 use Rattle.interleaving_core.proofs.PastLemmas.{kept_beside, part_since, unwoken_whole}
@@ -132,30 +130,19 @@ same_many seat (steps.Answered answer) old new counts = ap (λ (s : CountsState)
 same_many seat steps.Idle old new counts = ap (λ (s : CountsState). length s.counts) counts
 same_many seat (steps.Fault fault) old new counts = ap (λ (s : CountsState). length s.counts) counts
 
--- from the page on which its row ended, where its search is under way, with the call that is left
+-- from the page on which its row ended, with the call that is left
 pub counts_by : {K : Type 0} (seat : ℕ) (did : Step) (old new : KernelState K) (before : ℕ)
-    (left : Option ActiveView) →
-    ((count_at old.searches.counts seat).over ≡ false → before ≡ ends_on (row_of old.locks seat)) →
-    call_at new.seats seat ≡ left → CountsFrom seat did before left new.locks old.searches new.searches →
-    Counts seat did old new
+    (left : Option ActiveView) → before ≡ ends_on (row_of old.locks seat) → call_at new.seats seat ≡ left →
+    CountsFrom seat did before left new.locks old.searches new.searches → Counts seat did old new
 counts_by seat did old new before left is there counts =
-    by did (subst (λ (a : Option ActiveView). CountsFrom seat did before a new.locks old.searches new.searches)
-    (sym there) counts)
+    by did (subst (λ (a : Option ActiveView). CountsFrom seat did (ends_on (row_of old.locks seat)) a new.locks
+    old.searches new.searches) (sym there)
+    (subst (λ (n : ℕ). CountsFrom seat did n left new.locks old.searches new.searches) is counts))
   where
-    moved : (kind : Kind) (b : Bool) → (count_at old.searches.counts seat).over ≡ b →
-        CountsFrom seat (steps.Moved kind) before (call_at new.seats seat) new.locks old.searches new.searches →
-        Counts seat (steps.Moved kind) old new
-    moved kind true over counts =
-        either_way seat kind (begins_search kind seat new.locks) (goes_on_from kind seat before new.locks)
-        (goes_on kind seat old.locks new.locks) (ends_search kind (call_at new.seats seat)) old.searches new.searches
-        over counts
-    moved kind false over counts =
-        subst (λ (n : ℕ). CountsFrom seat (steps.Moved kind) n (call_at new.seats seat) new.locks old.searches
-        new.searches) (is over) counts
-
-    by : (d : Step) → CountsFrom seat d before (call_at new.seats seat) new.locks old.searches new.searches →
-        Counts seat d old new
-    by (steps.Moved kind) counts = moved kind (count_at old.searches.counts seat).over refl counts
+    by : (d : Step) →
+        CountsFrom seat d (ends_on (row_of old.locks seat)) (call_at new.seats seat) new.locks old.searches
+        new.searches → Counts seat d old new
+    by (steps.Moved kind) counts = counts
     by (steps.Blocked other) counts = counts
     by steps.Waiting counts = counts
     by (steps.Answered answer) counts = counts

@@ -16,7 +16,7 @@ use Rattle.interleaving_core.specs.Driving.{Moves}
 use Rattle.interleaving_core.specs.Kernel.{IsWhole, KernelState, call_at, with_call}
 use Rattle.interleaving_core.specs.Searches.{Counts, ends_search}
 use Rattle.interleaving_core.specs.declared.step.Step.TheVariants as steps
-use Rattle.interleaving_core.proofs.AtOnceLemmas.{IsAsFar, LeadsOn, far_on, leads_on, none_is, undecided_at, written_far}
+use Rattle.interleaving_core.proofs.AtOnceLemmas.{IsAsFar, LeadsOn, far_on, leads_on, none_is, other_kind, undecided_at}
 use Rattle.interleaving_core.proofs.CountLemmas.{none_noted}
 use Rattle.interleaving_core.proofs.KernelLemmas.{is_counted, seat_there}
 use Rattle.interleaving_core.proofs.LentLemmas.{is_its, slot_is}
@@ -84,8 +84,8 @@ module _ {K : Type 0} (of : K → RecordKey → ℕ) (seat : ℕ) (old : KernelS
         made = record { before = old; stands = refl; kind = kind; step = led.step };
         is_whole = led.is_whole;
         is_seat = led.is_seat;
-        far = far_on (of old.keys) seat old.stopped kind other a.machine t.machine old.pool t.pool old.locks t.locks
-            makes a.machine a.draft (record { come = refl; kept = kept });
+        far = far_on (of old.keys) seat old.stopped (progress.Moved kind) (other_kind kind other) a.machine t.machine
+            old.pool t.pool old.locks t.locks makes a.machine a.draft (record { come = refl; kept = kept });
       }
 
   next : (moves : ℕ) (kind : Kind) → (kind ≡ kinds.Decide → ⊥) → (n n' : CountsState) (s t : At CallView) →
@@ -95,8 +95,8 @@ module _ {K : Type 0} (of : K → RecordKey → ℕ) (seat : ℕ) (old : KernelS
     made = record { before = kernel_at n s; stands = so_far.made; kind = kind; step = led.step };
     is_whole = led.is_whole;
     is_seat = led.is_seat;
-    far = far_on (of old.keys) seat old.stopped kind other s.machine t.machine s.pool t.pool s.locks t.locks makes
-        a.machine a.draft so_far.far;
+    far = far_on (of old.keys) seat old.stopped (progress.Moved kind) (other_kind kind other) s.machine t.machine
+        s.pool t.pool s.locks t.locks makes a.machine a.draft so_far.far;
   }
     where
       led : LeadsOn (of old.keys) seat kind (kernel_at n s) (kernel_at n' t)
@@ -265,13 +265,12 @@ module _ {K : Type 0} (of : K → RecordKey → ℕ) (seat : ℕ) (slot : Option
       (seven_steps of seat old whole is sound a its_call (none_is a.wait awake) kept ended still notes m
       (asks old.stopped)))
 
-  -- by a record that was written so, by which its call is marked as by a step
-  pub written_at_once : decided ≡ decided_by (conclusion_of m) many a.decided →
+  -- by a record that was written so
+  pub written_at_once : decided ≡ decided_by (conclusion_of a.machine) many a.decided →
       ((stopped : Bool) →
       WritesAtOnce (MakesCall (of old.keys) seat stopped) is_searching seat a.machine m old.pool pool old.locks) →
       MadeAtOnce of seat 8 now left
   written_at_once marked writes =
-      let run = writes old.stopped in
-      left_by 8 (marked ∙ ap (λ (c : Option Conclusion). decided_by c many a.decided)
-      (written_far (of old.keys) seat old.stopped a.machine a.draft m old.pool pool old.locks run kept).come)
-      (eight_steps of seat old whole is sound a its_call (none_is a.wait awake) kept ended still notes m pool run)
+      left_by 8 marked
+      (eight_steps of seat old whole is sound a its_call (none_is a.wait awake) kept ended still notes m pool
+      (writes old.stopped))

@@ -23,7 +23,7 @@ use crate::counts::SearchCounts;
 use crate::fault::{BeginFault, CloseFault, Failure, OpenFault};
 use crate::opening::{copied, idle_seats, least_frames};
 use crate::places::{due, failure_of, has_call, told_of_failure};
-use crate::searches::{ends_search, note, note_move, page_before};
+use crate::searches::{ends_search, last_page, note, note_move};
 use crate::seat::Seat;
 use crate::step::Step;
 use bucket_page::PseudoKey;
@@ -261,7 +261,7 @@ impl<D: PageDevice + Drop, K: PseudoKey + Drop> Kernel<D, K> {
         if self.failure.is_some() {
             return told_of_failure(&self.seats[place]);
         }
-        let before = page_before(&self.searches, &self.locks, seat);
+        let before = last_page(&self.locks, seat);
         let at = &mut self.seats[place];
         let Some(active) = at.under_way() else {
             return Step::Idle;

@@ -1,7 +1,8 @@
 //! What a step of a seat is to the searches that are counted.
 
-ghost use Rattle.std.specs.Prelude.{◌≡◌, false};
-ghost use Rattle.interleaving_core.specs.Counting.{IsCountedSeat, Notes, count_at};
+ghost use Rattle.std.specs.Prelude.{◌≡◌};
+ghost use Rattle.interleaving_core.specs.Counting.{IsCountedSeat};
+ghost use Rattle.interleaving_core.specs.Counting.{Notes};
 ghost use Rattle.interleaving_core.specs.Searches.{CountsFrom, begins_search, ends_by, ends_on, goes_on_from};
 ghost use Rattle.xsi_calls.specs.Machine.{is_searching};
 ghost use Rattle.interleaving_core.specs.Words.{IsSeat, row_of};
@@ -13,22 +14,8 @@ use page_locks::{Lock, LockKind, LockName, LockTable};
 use step_rules::Kind;
 use xsi_calls::CallMachine;
 
-/// The page on which a seat has its last lock before a step, by which its search may go on to another
-/// one; it is not looked for where no search of the seat is under way.
-pub(crate) fn page_before(searches: &SearchCounts, locks: &LockTable, seat: u8) -> u32
-    requires seat { IsSeat locks.now seat }
-    requires counted { IsCountedSeat searches.now.counts seat }
-    ensures { (count_at searches.now.counts seat).over ≡ false →
-        result ≡ ends_on (row_of locks.now seat) }
-{
-    if searches.of(seat).over {
-        return 0;
-    }
-    last_page(locks, seat)
-}
-
 /// The page on which a seat has its last lock, 0 where that is on no page.
-fn last_page(locks: &LockTable, seat: u8) -> u32
+pub(crate) fn last_page(locks: &LockTable, seat: u8) -> u32
     requires { IsSeat locks.now seat }
     ensures { result ≡ ends_on (row_of locks.now seat) }
 {
@@ -43,8 +30,8 @@ fn last_page(locks: &LockTable, seat: u8) -> u32
     }
 }
 
-/// A step of a seat is counted, where it has moved. This was told of the page before it
-/// (`page_before`), and it has this call left.
+/// A step of a seat is counted, where it has moved. Before it the last lock of the seat was on this
+/// page, and it has this call left.
 pub(crate) fn note(
     searches: &mut SearchCounts,
     locks: &LockTable,
@@ -63,8 +50,8 @@ pub(crate) fn note(
     }
 }
 
-/// A move of a seat of this kind is counted, by which a page has answered its search or not. This was
-/// told of the page before it (`page_before`).
+/// A move of a seat of this kind is counted, by which a page has answered its search or not. Before
+/// it the last lock of the seat was on this page.
 pub(crate) fn note_move(
     searches: &mut SearchCounts,
     locks: &LockTable,

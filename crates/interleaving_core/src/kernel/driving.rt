@@ -1,8 +1,8 @@
 //! A seat is stepped until its call does not move.
 
-ghost use Rattle.std.specs.Prelude.{◌≡◌, ◌≤◌, false, true};
-ghost use Rattle.interleaving_core.specs.Driving.{IsDriven, Moves};
-ghost use Rattle.interleaving_core.specs.Owing.{IsMove, IsRun, answer_told};
+ghost use Rattle.std.specs.Prelude.{◌≡◌, ◌≤◌, IfErr, IfOk, false, true};
+ghost use Rattle.interleaving_core.specs.Driving.{IsDriven, IsStep, Moves};
+ghost use Rattle.interleaving_core.specs.Owing.{IsMove, IsRun, answer_told, fault_told};
 ghost use Rattle.interleaving_core.specs.Words.{IsSeat};
 
 use crate::active::decided_by;
@@ -40,9 +40,13 @@ impl<D: PageDevice + Drop, K: PseudoKey + Drop> Kernel<D, K> {
                     moves += QUESTION_STEPS;
                     continue;
                 }
-                if self.write_through(seat, MOST_STEPS - moves) {
-                    moves += WRITE_STEPS;
-                    continue;
+                match self.write_through(seat, MOST_STEPS - moves) {
+                    Ok(true) => {
+                        moves += WRITE_STEPS;
+                        continue;
+                    }
+                    Ok(false) => {}
+                    Err(fault) => return Step::Fault(StepFault::File(fault)),
                 }
             }
             match self.step(seat) {
@@ -98,37 +102,48 @@ impl<D: PageDevice + Drop, K: PseudoKey + Drop> Kernel<D, K> {
 
     /// All steps of the next write of the seat's call, in one go, where so many steps may be made,
     /// the seat was not told that it waits, and it can be made so (`CallMachine::write_through`).
-    /// Else nothing is done, and it is left to `step`. They are counted as those of `skip`.
-    fn write_through(&mut self, seat: u8, most: u32) -> bool
+    /// Else nothing is done, it tells false, and it is left to `step`. They are counted as those of
+    /// `skip`. A fault is that of a step of the seat, by which the kernel has failed.
+    fn write_through(&mut self, seat: u8, most: u32) -> Result<bool, FileFault>
         requires { IsSeat self.old.locks seat }
-        ensures made { result ≡ true →
-            Moves (K.of_key self.old.keys) seat WRITE_STEPS self.old self.new }
-        ensures few { result ≡ true → WRITE_STEPS ≤ most }
-        ensures spares { result ≡ false → self.new ≡ self.old }
+        ensures made { IfOk result (λ made. made ≡ true →
+            Moves (K.of_key self.old.keys) seat WRITE_STEPS self.old self.new) }
+        ensures few { IfOk result (λ made. made ≡ true → WRITE_STEPS ≤ most) }
+        ensures spares { IfOk result (λ made. made ≡ false → self.new ≡ self.old) }
+        ensures failed { IfErr result (λ fault.
+            IsStep (K.of_key self.old.keys) seat (fault_told fault) self.old self.new) }
     {
         if most < WRITE_STEPS {
-            return false;
+            return Ok(false);
         }
         if self.failure.is_some() {
-            return false;
+            return Ok(false);
         }
         let place = seat as usize - 1;
         let Some(active) = self.seats[place].under_way() else {
-            return false;
+            return Ok(false);
         };
         if active.wait.is_some() {
-            return false;
+            return Ok(false);
         }
-        if !active
+        let decided = decided_by(&active.machine, self.journal.len(), active.decided);
+        match active
             .machine
             .write_through(&mut self.pool, &self.locks, &self.keys, seat)
         {
-            return false;
+            Ok(true) => {
+                active.decided = decided;
+                self.searches.note_search(seat);
+                self.searches.are_sound();
+                Ok(true)
+            }
+            Ok(false) => Ok(false),
+            Err(fault) => {
+                active.decided = decided;
+                self.failure = Some(Failure { seat, fault });
+                Err(fault)
+            }
         }
-        active.decided = decided_by(&active.machine, self.journal.len(), active.decided);
-        self.searches.note_search(seat);
-        self.searches.are_sound();
-        true
     }
 }
 

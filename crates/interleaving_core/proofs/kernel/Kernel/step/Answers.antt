@@ -71,7 +71,7 @@ module _ (g : given.Over) (c : After-note_entry g) (told : Step) (left : Option 
   -- and so a step of the kernel, once it is marked and counted
   made : (room : ℕ) → vec_capacity c.note_entry.new.journal ≤ room → (failure : Option Failure)
       (searches : CountsState) → failure ≡ failure_by c.args.seat told None →
-      CountsFrom c.args.seat told c.page_before-before.result left locks c.self.inside.searches searches →
+      CountsFrom c.args.seat told c.last_page-before.result left locks c.self.inside.searches searches →
       MakesStep g.K.PseudoKey.of_key c.args.seat told c.args.self.now (record {
         keys = c.self.inside.keys;
         pool = pool;
@@ -92,7 +92,7 @@ module _ (g : given.Over) (c : After-note_entry g) (told : Step) (left : Option 
       c.self.view_is c.self.invariant c.requires c.index_mut-at.ensures.value turns refl refl refl refl more
       (λ none. absurd (lent_some _ _ _ c.under_way.ensures.value c.in-Some.is none))
       (sym c.is_some.ensures ∙ c.if-is_some.false) refl is
-      (counts_by c.args.seat told _ _ c.page_before-before.result left c.page_before-before.ensures
+      (counts_by c.args.seat told _ _ c.last_page-before.result left c.last_page-before.ensures
       (left_there c.args.seat c.index_mut-at.result.now _ c.args.self.now c.self.view_is c.self.invariant c.requires
       c.index_mut-at.ensures.value left) counts)
 
@@ -109,7 +109,7 @@ moves g c kind is =
 moved : (g : given.Over) (c : After-note_entry g) (kind : Kind) → c.step-did.result ≡ progress.Moved kind →
     (searches : CountsState) (ends : Bool) → ends ≡ ends_by kind (is_searching c.step-did.new.self) →
     Notes c.args.seat kind (begins_search kind c.args.seat c.step-did.new.locks)
-    (goes_on_from kind c.args.seat c.page_before-before.result c.step-did.new.locks) ends c.self.inside.searches
+    (goes_on_from kind c.args.seat c.last_page-before.result c.step-did.new.locks) ends c.self.inside.searches
     searches →
     MakesStep g.K.PseudoKey.of_key c.args.seat (steps.Moved kind) c.args.self.now (record {
       keys = c.self.inside.keys;
@@ -130,7 +130,7 @@ moved g c kind is searches ends ends_is counts =
     c.self.inside.failure searches
     (none_blamed _ c.self.invariant (sym c.is_some.ensures ∙ c.if-is_some.false))
     (subst (λ (b : Bool). Notes c.args.seat kind (begins_search kind c.args.seat c.step-did.new.locks)
-    (goes_on_from kind c.args.seat c.page_before-before.result c.step-did.new.locks) b c.self.inside.searches searches)
+    (goes_on_from kind c.args.seat c.last_page-before.result c.step-did.new.locks) b c.self.inside.searches searches)
     ends_is counts)
 
 pub returns-then-is_some-clause-turn : goal.returns-then-is_some-clause-turn
