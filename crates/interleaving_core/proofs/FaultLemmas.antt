@@ -11,6 +11,7 @@ use Rattle.interleaving_core.specs.Kernel.{IsWhole, KernelState}
 use Rattle.interleaving_core.specs.Owing.{fault_told}
 use Rattle.interleaving_core.specs.Turn.{Turns}
 use Rattle.interleaving_core.specs.Waiting.{stays_waiting}
+use Rattle.interleaving_core.specs.declared.active.Draft.{Draft}
 use Rattle.interleaving_core.specs.declared.step.Step.{Step}
 use Rattle.interleaving_core.proofs.AtOnceLemmas.{draft_stays, far_on, kept_still, none_is}
 use Rattle.interleaving_core.proofs.KernelLemmas.{MakesStep, makes_step}
@@ -80,11 +81,11 @@ module _ {K : Type 0} (of : K → RecordKey → ℕ) (seat : ℕ) (slot : Option
         (omega arith) (λ none. refl) sound refl refl refl
 
 -- what is always so of a call under way is so behind it
-pub kept_by_fault : (hash : RecordKey → ℕ) (seat : ℕ) (fault : FileFault) (a : ActiveView) (m : CallView)
-    (pool pool' : PoolState) (locks locks' : Table) →
-    MakesCall hash seat false (progress.Fault fault) a.machine m pool pool' locks locks' →
-    is_some a.wait ≡ false → IsDrafted a.machine a.draft → IsKept m a.draft a.wait
-kept_by_fault hash seat fault a m pool pool' locks locks' makes awake kept =
-    kept_still a.machine m a.draft a.wait awake
-    (far_on hash seat false (progress.Fault fault) (no_move fault) a.machine m pool pool' locks locks' makes a.machine
-    a.draft (record { come = refl; kept = kept }))
+pub kept_by_fault : (hash : RecordKey → ℕ) (seat : ℕ) (fault : FileFault) (m m' : CallView) (draft : Option Draft)
+    (wait : Option ℕ) (pool pool' : PoolState) (locks locks' : Table) →
+    MakesCall hash seat false (progress.Fault fault) m m' pool pool' locks locks' → is_some wait ≡ false →
+    IsDrafted m draft → IsKept m' draft wait
+kept_by_fault hash seat fault m m' draft wait pool pool' locks locks' makes awake kept =
+    kept_still m m' draft wait awake
+    (far_on hash seat false (progress.Fault fault) (no_move fault) m m' pool pool' locks locks' makes m draft
+    (record { come = refl; kept = kept }))

@@ -15,8 +15,8 @@ write_through-requires-clause-row g c =
 
 -- ---- the record was written
 
-pub invariant_of-active-in-Ok-true : goal.invariant_of-active-in-Ok-true
-invariant_of-active-in-Ok-true g c =
+pub invariant_of-active : goal.invariant_of-active
+invariant_of-active g c =
     kept_still c.active.inside.machine c.write_through.new.self c.active.inside.draft c.active.inside.wait
     (sym c.is_some-2.ensures ∙ c.if-is_some-2.false)
     (written_far (g.K.PseudoKey.of_key c.self.inside.keys) c.args.seat false c.active.inside.machine
@@ -49,8 +49,9 @@ returns-in-Ok-true-clause-made g c = λ made.
 
 pub invariant_of-active-in-Err : goal.invariant_of-active-in-Err
 invariant_of-active-in-Err g c =
-    kept_by_fault (g.K.PseudoKey.of_key c.self.inside.keys) c.args.seat c.in-Err.fault _ c.write_through.new.self
-    c.self.inside.pool c.write_through.new.pool c.self.inside.locks c.self.inside.locks
+    kept_by_fault (g.K.PseudoKey.of_key c.self.inside.keys) c.args.seat c.in-Err.fault c.active.inside.machine
+    c.write_through.new.self c.active.inside.draft c.active.inside.wait c.self.inside.pool c.write_through.new.pool
+    c.self.inside.locks c.self.inside.locks
     (c.in-Err.ensures.failed false) (sym c.is_some-2.ensures ∙ c.if-is_some-2.false) c.active.invariant.drafted
 
 pub invariant_of-self-in-Err : goal.invariant_of-self-in-Err
