@@ -36,8 +36,8 @@ pub mod ListenLemmas
 pub mod OpenLemmas
 pub mod QuestionFewLemmas
 pub mod QuestionRunLemmas
-pub mod ReachLemmas
-pub mod WriteReachLemmas
+pub mod WriteRunLemmas
+pub mod WriteAtOnceLemmas
 pub mod QuestionAtOnceLemmas
 pub mod QuestionNames
 pub mod QuestionAimLemmas
@@ -47,7 +47,7 @@ pub mod RecordLemmas
 pub mod SweptLemmas
 pub mod WrittenLemmas
 pub mod PaymentPayLemmas
-pub mod PaymentReachLemmas
+pub mod PaymentAtOnceLemmas
 pub mod PaymentBeginLemmas
 pub mod PaymentDecidedLemmas
 pub mod OwnLemmas
@@ -62,7 +62,7 @@ pub mod SweepLemmas
 pub mod BeginLemmas
 pub mod TryLemmas
 pub mod StepLemmas
-pub mod UndecidedReachLemmas
+pub mod UndecidedAtOnceLemmas
 pub mod UndecidedDecideLemmas
 pub mod UndecidedLawLemmas
 pub mod UndecidedAimLemmas
@@ -81,7 +81,7 @@ pub mod PhaseLemmas
 pub mod RoomLemmas
 pub mod ReleaseLemmas
 pub mod PayLemmas
-pub mod CallReachLemmas
+pub mod CallAtOnceLemmas
 pub mod MachineLemmas
 pub mod RowLemmas
 pub mod FileLockLemmas

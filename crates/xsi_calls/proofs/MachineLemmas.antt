@@ -13,7 +13,7 @@ use Rattle.xsi_calls.specs.declared.writes.CallWrites.{CallWrites}
 use Rattle.xsi_calls.specs.CallSteps.{ComesTo, MakesCall, MakesRelease}
 use Rattle.xsi_calls.specs.Concluding.{conclusion_by}
 use Rattle.xsi_calls.specs.Deciding.{IsDecidedIn}
-use Rattle.xsi_calls.specs.Machine.{CallView, call_locks, is_paying, is_searching, is_undecided}
+use Rattle.xsi_calls.specs.Machine.{CallView, call_locks, is_paying, is_searching, is_undecided, undecided_searches}
 use Rattle.xsi_calls.specs.Parts.{IsOneMachine, IsToPay, asked_with, conclusion_under, decision_by, payment_under, paying, question_under, tried_by, tried_under, trials_for, undecided_with}
 use Rattle.xsi_calls.specs.PaymentStages as stages
 use Rattle.xsi_calls.specs.PaymentWords.{Due}
@@ -22,16 +22,19 @@ use Rattle.xsi_calls.specs.MakeSteps.{MakesWrites}
 use Rattle.xsi_calls.specs.Questions.{has_asked, is_done, question_searches, questions_locks}
 use Rattle.xsi_calls.specs.Stages.{Stage, stage_at}
 use Rattle.xsi_calls.specs.Undecided.{IsCalmIn}
+use Rattle.xsi_calls.specs.Views.{writes_search}
 use Rattle.xsi_calls.specs.UndecidedSteps.{MakesUndecided}
 use Rattle.xsi_calls.specs.QuestionWords.{Roomful, caller_of}
 use Rattle.xsi_calls.specs.UndecidedWords.{Decision, QuestionsView}
-use Rattle.xsi_calls.specs.Words.{AreNames, AsksAtOnce, Call, Caller, CanDecide, Change, Ended, HasRoom, IsSeat, IsUndecided, Plan, PoolState, Progress, ReachesAtOnce, RecordKey, Records, Settled, State, Table, Trials, UndecidedCall, begun_payment, its_plan, row_of, trials_of}
+use Rattle.xsi_calls.specs.Words.{AreNames, AsksAtOnce, Call, Caller, CanDecide, Change, Ended, Fault, HasRoom, IsReady, IsSeat, IsUndecided, Plan, PoolState, Progress, RecordKey, Records, Settled, State, Table, Trials, UndecidedCall, WritesAtOnce, begun_payment, its_plan, row_of, trials_of}
 use Rattle.xsi_calls.proofs.AskingLemmas.{leaves_next, makes_next}
 use Rattle.xsi_calls.proofs.AtOnceLemmas.{asks_from}
-use Rattle.xsi_calls.proofs.CallReachLemmas.{pays_at_once, tries_from}
+use Rattle.xsi_calls.proofs.CallAtOnceLemmas.{pays_at_once, tries_from}
 use Rattle.xsi_calls.proofs.GoLemmas.{asked_from, asks_row, goes_from, with_stage}
 use Rattle.xsi_calls.proofs.Names.{FileFault}
-use Rattle.xsi_calls.proofs.PaymentReachLemmas.{payment_reaches}
+use Rattle.xsi_calls.proofs.PaymentAtOnceLemmas.{payment_at_once}
+use Rattle.xsi_calls.proofs.PartLemmas.{writes_part}
+use Rattle.xsi_calls.proofs.PayLemmas.{pays_from}
 use Rattle.xsi_calls.proofs.PhaseLemmas.{it_pays, paying_still, undecided_same}
 use Rattle.xsi_calls.proofs.RoomLemmas.{asks_nothing, has_come_to, none_to_decide, only_paid, pays_it, tries_nothing}
 
@@ -39,7 +42,7 @@ abbrev pub machine : Caller → Call → Questions → Part → Phase → CallVi
 machine caller call q part phase =
     with_stage caller call (undecided_with call q part) (stage_at phase (payment_under part) (conclusion_under part))
 
--- ---- a trial that goes to its page
+-- ---- a trial that is made in one go
 
 calm_in : (q : QuestionsView) (decision : Decision) (o : Option CallWrites) → q.question ≡ None →
     IsCalmIn q (trials_for decision o)
@@ -175,16 +178,17 @@ module _ (hash : RecordKey → ℕ) (seat : ℕ) (stopped : Bool) (caller : Call
           (goes_from hash seat stopped caller call u (undecided_with call q2 part2) stage now view undecided did pool
           pool' locks locks' more made)
 
-      -- a trial that goes to its page
-      pub tries_at_once : (pool : PoolState) (locks locks' : Table) →
-          ReachesAtOnce (MakesUndecided hash seat call) seat u (undecided_with call q2 part2) pool locks locks' →
-          ReachesAtOnce (MakesCall hash seat stopped) seat now (machine caller call q2 part2 phase) pool
-          locks locks'
-      tries_at_once pool locks locks' goes =
-          subst (λ (x : Stage). ReachesAtOnce (MakesCall hash seat stopped) seat now
-          (with_stage caller call (undecided_with call q2 part2) x) pool locks locks') (same_stage part2)
-          (tries_from hash seat stopped caller call stage now u (undecided_with call q2 part2) view undecided pool locks
-          locks' goes)
+      -- a trial that is made in one go
+      pub tries_at_once : (pool pool' : PoolState) (locks : Table) →
+          WritesAtOnce (MakesUndecided hash seat call) undecided_searches seat u (undecided_with call q2 part2) pool
+          pool' locks →
+          WritesAtOnce (MakesCall hash seat stopped) is_searching seat now (machine caller call q2 part2 phase) pool
+          pool' locks
+      tries_at_once pool pool' locks goes =
+          subst (λ (x : Stage). WritesAtOnce (MakesCall hash seat stopped) is_searching seat now
+          (with_stage caller call (undecided_with call q2 part2) x) pool pool' locks) (same_stage part2)
+          (tries_from hash seat stopped caller call stage now u (undecided_with call q2 part2) view undecided pool pool'
+          locks goes)
 
     -- the question that has begun in the room makes its first step
     module _ (none : question_under part ≡ None) (untried : tried_under part ≡ None)
@@ -274,24 +278,41 @@ module _ (hash : RecordKey → ℕ) (seat : ℕ) (stopped : Bool) (caller : Call
     pub no_trials : (place : TrialsPlace) → part ≡ parts.Writes place → place.on_trial ≡ false
     no_trials place is = subst IsToPay is to_pay
 
-    -- a write that goes to its page
+    -- a write that is made in one go
     pub writes_at_once : (place : TrialsPlace) → part ≡ parts.Writes place → (w : CallWrites) →
-        AreNames q.names → (x : Plan) → x ≡ its_plan call (asked_with q None) → (pool : PoolState)
-        (locks locks' : Table) → IsSeat locks seat → row_of locks seat ≡ call_locks now →
-        ReachesAtOnce (MakesWrites hash seat x) seat place.writes w pool locks locks' →
-        ReachesAtOnce (MakesCall hash seat stopped) seat now (machine caller call q
-        (parts.Writes (record place { writes = w })) phase) pool locks locks'
-    writes_at_once place is w names x plan pool locks locks' seated row goes =
-        subst (λ (y : UndecidedCall). ReachesAtOnce (MakesCall hash seat stopped) seat now
-        (with_stage caller call y (stage_at phase (stages.Writing w) place.conclusion)) pool locks locks')
+        AreNames q.names → (x : Plan) → x ≡ its_plan call (asked_with q None) → (pool pool' : PoolState)
+        (locks : Table) → IsSeat locks seat → row_of locks seat ≡ call_locks now →
+        WritesAtOnce (MakesWrites hash seat x) writes_search seat place.writes w pool pool' locks →
+        WritesAtOnce (MakesCall hash seat stopped) is_searching seat now (machine caller call q
+        (parts.Writes (record place { writes = w })) phase) pool pool' locks
+    writes_at_once place is w names x plan pool pool' locks seated row goes =
+        subst (λ (y : UndecidedCall). WritesAtOnce (MakesCall hash seat stopped) is_searching seat now
+        (with_stage caller call y (stage_at phase (stages.Writing w) place.conclusion)) pool pool' locks)
         (same_undecided (parts.Writes (record place { writes = w })) (no_trials place is))
-        (subst (λ (y : Stage). ReachesAtOnce (MakesCall hash seat stopped) seat now (with_stage caller call u y) pool
-        locks locks') (sym (paying_still phase (payment_under part) (stages.Writing w) c pays_here)
+        (subst (λ (y : Stage). WritesAtOnce (MakesCall hash seat stopped) is_searching seat now
+        (with_stage caller call u y) pool pool' locks)
+        (sym (paying_still phase (payment_under part) (stages.Writing w) c pays_here)
         ∙ ap (stage_at phase (stages.Writing w)) (ap conclusion_under is))
         (pays_at_once hash seat stopped caller call stage now u view (payment_under part) (stages.Writing w) c
-        (paying_still phase (payment_under part) (payment_under part) c pays_here) names pool locks locks'
-        seated row
-        (payment_reaches hash seat (its_plan call u.questions) (payment_under part) place.writes w
-        (ap payment_under is) pool locks locks'
-        (subst (λ (y : Plan). ReachesAtOnce (MakesWrites hash seat y) seat place.writes w pool locks locks') plan
-        goes))))
+        (paying_still phase (payment_under part) (payment_under part) c pays_here) names pool pool' locks seated row
+        (payment_at_once hash seat (its_plan call u.questions) (payment_under part) place.writes w
+        (ap payment_under is) pool pool' locks
+        (subst (λ (y : Plan). WritesAtOnce (MakesWrites hash seat y) writes_search seat place.writes w pool pool' locks)
+        plan goes))))
+
+    -- one whose page could not be written
+    pub write_fails : (place : TrialsPlace) → part ≡ parts.Writes place → (w : CallWrites) →
+        AreNames q.names → (x : Plan) → x ≡ its_plan call (asked_with q None) → (fault : FileFault)
+        (pool pool' : PoolState) (locks : Table) → IsSeat locks seat → IsReady pool →
+        row_of locks seat ≡ call_locks now →
+        MakesWrites hash seat x (Fault fault) place.writes w pool pool' locks locks →
+        MakesCall hash seat stopped (Fault fault) now (machine caller call q
+        (parts.Writes (record place { writes = w })) phase) pool pool' locks locks
+    write_fails place is w names x plan fault pool pool' locks seated ready row makes =
+        pays_there (parts.Writes (record place { writes = w })) (no_trials place is) (ap conclusion_under is)
+        (Fault fault) pool pool' locks locks
+        (pays_from hash seat caller call u phase (payment_under part) c now view pays (asked_with q (question_under
+        part)) refl names x plan (stages.Writing w) (Fault fault) pool pool' locks locks seated ready row
+        (writes_part hash seat x (Fault fault) pool pool' locks locks (payment_under part) place.writes w
+        (ap payment_under is) makes)
+        (λ e. absurd cc) stopped)

@@ -47,6 +47,11 @@ IsBehind p (Undoing standing) due' = due' ≡ Undoing (standing - 1)
 IsBehind p (Writing from) due' =
     (slot : ℕ) × (due' ≡ Writing slot) × (writes_left p slot ≡ drop 1 (writes_left p from))
 
+-- it comes next, and this is due once it has written
+pub record IsNext (p : Plan) (due : Due) (d : Deed) (due' : Due) : Type 0 where
+  pub deed : next_deed p due ≡ Some d
+  pub behind : IsBehind p due due'
+
 -- so many deeds are left
 abbrev pub deeds_left : Plan → Due → ℕ
 deeds_left p (Trying place) = length (drop place p.trials)

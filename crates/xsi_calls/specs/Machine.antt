@@ -98,6 +98,9 @@ abbrev pub asking_access : Option Question → Option Trials → Option AccessVi
 asking_access question None = question_access question
 asking_access question (Some t) = t.writes.access
 
+abbrev pub undecided_searches : UndecidedCall → Bool
+undecided_searches u = searches_under (asking_access u.questions.question u.trials)
+
 abbrev pub under_way_at : UndecidedCall → Stage → Option AccessView
 under_way_at u Undecided = asking_access u.questions.question u.trials
 under_way_at u (Paying payment conclusion) = payment_access payment

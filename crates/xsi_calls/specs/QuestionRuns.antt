@@ -1,4 +1,4 @@
--- A question that is asked in one go, and a write that goes to its page so, by each machine of a call. docs/STEPS.md,
+-- A question that is asked in one go, and a record that is written so, by each machine of a call. docs/STEPS.md,
 -- "Search".
 use Rattle.std.specs.Prelude.{ℕ, ◌≡◌, Bool, true, false, List, [], ◌∷◌}
 use Rattle.file_pages.specs.declared.fault.FileFault.{FileFault}
@@ -54,26 +54,7 @@ pub record AsksAtOnce {V : Type 0} (Makes : Promise V) (searches : V → Bool) (
   pub counted : SearchesOnce seat way
   pub answered : searches way.looked.machine ≡ false
 
--- its moves up to the Look
-abbrev pub stops_to : {S : Type 0} → Way S → List (Stop S)
-stops_to way =
-    stop kinds.Grant way.locked
-    ∷ stop kinds.ReadDepth way.deep
-    ∷ stop kinds.ReadEntry way.named
-    ∷ stop kinds.Grant way.arrived
-    ∷ stop kinds.Release way.alone
-    ∷ stop kinds.Look way.looked
-    ∷ []
-
--- a write goes to its page by such moves; the pool is then what it was, and of locks the page's has come to the seat
-pub record ReachesAtOnce {V : Type 0} (Makes : Promise V) (seat : ℕ) (old new : V) (pool : PoolState)
-    (locks locks' : Table) : Type 0 where
-  pub way : Way (At V)
-  pub arrives : way.looked ≡ at new pool locks'
-  pub moves : MovesAlong (AskStep Makes) (at old pool locks) (stops_to way)
-  pub counted : SearchesOnce seat way
-
--- its moves and those by which the record is written and the page is given back
+-- the moves of a write: behind the Look the record is written, and by the last one the page is given back
 abbrev pub stops_through : {S : Type 0} → Way S → (written new : S) → List (Stop S)
 stops_through way written new =
     stop kinds.Grant way.locked

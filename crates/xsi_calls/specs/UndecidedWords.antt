@@ -3,7 +3,7 @@ pub use Rattle.call_decisions.specs.Settling.{AreAlike, IsRight, Means, settled_
 pub use Rattle.call_decisions.specs.declared.settled.Settled.{Settled}
 pub use Rattle.xsi_calls.specs.Agreeing.{Agrees}
 pub use Rattle.xsi_calls.specs.Counting.{finds_behind}
-pub use Rattle.xsi_calls.specs.QuestionRuns.{At, AskStep, AsksAtOnce, Kind, MovesAlong, Promise, ReachesAtOnce, SearchesOnce, Way, WritesAtOnce, at, stops_on, stops_through, stops_to}
+pub use Rattle.xsi_calls.specs.QuestionRuns.{At, AskStep, AsksAtOnce, Kind, MovesAlong, Promise, SearchesOnce, Way, WritesAtOnce, at, stops_on, stops_through}
 pub use Rattle.xsi_calls.specs.QuestionWords.{AnyInquiry, AreNames, Blocked, MAX_NAMES, Call, Caller, IsFiled, KnowsOf, LockName, NotASystem, Roomful, State, asked_of, caller_of, left_of, names_for, names_in, plan_of, record_of}
 pub use Rattle.xsi_calls.specs.Questions.{AreNamesOf, HasBegun, HasKey, Holds, IsBare, KnowsApart, KnowsItsKey, KnowsNear, QuestionsView, is_done, questions_facts, questions_left, questions_locks, questions_turn}
 pub use Rattle.xsi_calls.specs.Questions.{IsRight as IsRightSoFar}

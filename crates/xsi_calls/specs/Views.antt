@@ -2,7 +2,7 @@
 use Rattle.std.specs.Prelude.{ℕ, ◌≡◌, ◌+◌, ◌-◌, ◌*◌, Bool, true, false, List, [], Option, Some, None, option_map, if◌then◌else◌}
 use Rattle.record_file.specs.step_rules.Turns.{no_ask}
 use Rattle.xsi_calls.specs.declared.writes.CallWrites.{CallWrites}
-use Rattle.xsi_calls.specs.WriteWords.{RecordKey, Plan, Lock, Store, Known, Turn, MOST_STEPS, AccessView, access_facts, access_left, access_locks, access_turn, begun, has_no_room, Deed, Due, Trying, Full, Undoing, Writing}
+use Rattle.xsi_calls.specs.WriteWords.{RecordKey, Plan, Lock, Store, Known, Turn, MOST_STEPS, AccessView, access_facts, access_left, access_locks, access_turn, begun, has_no_room, searches_under, Deed, Due, Trying, Full, Undoing, Writing}
 use Rattle.xsi_calls.specs.Dues.{deed_key, deeds_left, next_deed, purpose_of}
 
 -- ---- the access
@@ -41,6 +41,10 @@ decided_at (Trying place) = Writing 0
 decided_at (Full standing) = Undoing standing
 decided_at (Undoing standing) = Undoing standing
 decided_at (Writing from) = Writing from
+
+-- a search of the access under way is: the directory was granted to it, and no page has answered
+abbrev pub writes_search : CallWrites → Bool
+writes_search w = searches_under w.access
 
 -- ---- locks, facts, turns, and steps that are left
 

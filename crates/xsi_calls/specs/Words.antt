@@ -4,7 +4,7 @@ pub use Rattle.xsi_calls.specs.Payments.{IsPaid, begun_payment, owes_now, paymen
 pub use Rattle.xsi_calls.specs.Paying.{IsPaying}
 pub use Rattle.xsi_calls.specs.PaySteps.{KeepsPayment, MakesPayment, Pays}
 pub use Rattle.xsi_calls.specs.PaymentStages.{Stage as PaymentStage}
-pub use Rattle.xsi_calls.specs.UndecidedWords.{Agrees, AreNames, AreNamesOf, AskStep, AsksAtOnce, At, Blocked, IsBare, Kind, KnowsNear, MAX_NAMES, MovesAlong, QuestionsView, ReachesAtOnce, SearchesOnce, Sees, TrialLacksRoom, Way, Writes, WritesAtOnce, at, caller_of, finds_behind, locked_of, nothing, stops_on, stops_through, stops_to, with_row}
+pub use Rattle.xsi_calls.specs.UndecidedWords.{Agrees, AreNames, AreNamesOf, AskStep, AsksAtOnce, At, Blocked, IsBare, Kind, KnowsNear, MAX_NAMES, MovesAlong, QuestionsView, SearchesOnce, Sees, TrialLacksRoom, Way, Writes, WritesAtOnce, at, caller_of, finds_behind, locked_of, nothing, stops_on, stops_through, with_row}
 pub use Rattle.xsi_calls.specs.Undecided.{CanDecide, IsCalm, IsFresh, has_no_room, its_plan, undecided_facts, undecided_left, trials_of, undecided_locks, undecided_owes, undecided_turn}
 pub use Rattle.xsi_calls.specs.Knowing.{IsUndecided}
 pub use Rattle.xsi_calls.specs.UndecidedSteps.{AsksOn, GoesOn, IsBehind, KeepsUndecided}

@@ -1,8 +1,8 @@
 //! The plan of a call, lent.
 
-ghost use Rattle.std.specs.Prelude.{◌≡◌, None, true};
+ghost use Rattle.std.specs.Prelude.{◌≡◌, MatchOption, None, true};
 ghost use Rattle.call_decisions.specs.Anything.{plan_of};
-ghost use Rattle.xsi_calls.specs.Dues.{IsBehind, next_deed};
+ghost use Rattle.xsi_calls.specs.Dues.{IsBehind, IsNext, next_deed};
 
 use crate::deed::Deed;
 use crate::due::Due;
@@ -35,9 +35,10 @@ impl<'a> PlanOf<'a> {
         PlanOf { call, inquiry }
     }
 
-    /// The deed that comes next, if one is left.
-    pub(crate) fn deed(&self, due: Due) -> Option<Deed<'a>>
-        ensures { result ≡ next_deed self.now due }
+    /// The deed that comes next, and what is due once it has written; none where no deed is left.
+    pub(crate) fn next(&self, due: Due) -> Option<(Deed<'a>, Due)>
+        ensures { MatchOption result (next_deed self.now due ≡ None)
+            (λ next. IsNext self.now due next.0 next.1) }
     {
         match due {
             Due::Trying(place) => self.trial(place),
@@ -47,33 +48,39 @@ impl<'a> PlanOf<'a> {
         }
     }
 
-    fn trial(&self, place: usize) -> Option<Deed<'a>>
-        ensures { result ≡ next_deed self.now (Due.Trying place) }
+    fn trial(&self, place: usize) -> Option<(Deed<'a>, Due)>
+        ensures { MatchOption result (next_deed self.now (Due.Trying place) ≡ None)
+            (λ next. IsNext self.now (Due.Trying place) next.0 next.1) }
     {
         match self.inquiry.trial(self.call, place) {
             None => None,
-            Some(entry) => Some(Deed::Trial(entry)),
+            Some(entry) => Some((Deed::Trial(entry), self.behind(Due::Trying(place)))),
         }
     }
 
-    fn undo(&self, standing: usize) -> Option<Deed<'a>>
-        ensures { result ≡ next_deed self.now (Due.Undoing standing) }
+    fn undo(&self, standing: usize) -> Option<(Deed<'a>, Due)>
+        ensures { MatchOption result (next_deed self.now (Due.Undoing standing) ≡ None)
+            (λ next. IsNext self.now (Due.Undoing standing) next.0 next.1) }
     {
         if standing == 0 {
             return None;
         }
         match self.inquiry.trial(self.call, standing - 1) {
             None => None,
-            Some(entry) => Some(Deed::Write(Write::Delete(entry.key()))),
+            Some(entry) => {
+                let deed = Deed::Write(Write::Delete(entry.key()));
+                Some((deed, self.behind(Due::Undoing(standing))))
+            }
         }
     }
 
-    fn write(&self, from: usize) -> Option<Deed<'a>>
-        ensures { result ≡ next_deed self.now (Due.Writing from) }
+    fn write(&self, from: usize) -> Option<(Deed<'a>, Due)>
+        ensures { MatchOption result (next_deed self.now (Due.Writing from) ≡ None)
+            (λ next. IsNext self.now (Due.Writing from) next.0 next.1) }
     {
         match self.inquiry.next_write(self.call, from) {
             None => None,
-            Some((_, write)) => Some(Deed::Write(write)),
+            Some((slot, write)) => Some((Deed::Write(write), Due::Writing(slot + 1))),
         }
     }
 
@@ -93,8 +100,8 @@ impl<'a> PlanOf<'a> {
         }
     }
 
-    /// What is due once that deed has written: of writes, from the slot on that has the next one. It
-    /// stands in the step that has written, since the plan is two references.
+    /// What is due once that deed has written: of writes, from behind its slot on. It stands in the
+    /// step that has written, since the plan is two references.
     #[inline(always)]
     pub(crate) fn behind(&self, due: Due) -> Due
         ensures { IsBehind self.now due result }
@@ -106,10 +113,7 @@ impl<'a> PlanOf<'a> {
             Due::Undoing(standing) => Due::Undoing(standing.saturating_sub(1)),
             Due::Writing(from) => match self.inquiry.next_write(self.call, from) {
                 None => Due::Writing(from),
-                Some((slot, _)) => match self.inquiry.next_write(self.call, slot + 1) {
-                    None => Due::Writing(MAX_WRITES),
-                    Some((next, _)) => Due::Writing(next),
-                },
+                Some((slot, _)) => Due::Writing(slot + 1),
             },
         }
     }

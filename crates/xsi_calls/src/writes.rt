@@ -163,7 +163,7 @@ impl CallWrites {
         requires none { self.old.access ≡ None }
         ensures { SetsOut (K.of_key keys.now) plan.now result self.old self.new }
     {
-        let Some(deed) = plan.deed(self.due) else {
+        let Some((deed, _)) = plan.next(self.due) else {
             return Ok(false);
         };
         if !deed.is_in_range() {

@@ -1,15 +1,16 @@
-//! A question of a call that is asked in one go, and a write of it that goes to its page so.
+//! A question of a call that is asked in one go, and a write of it that is made so.
 
-ghost use Rattle.std.specs.Prelude.{◌≡◌, Bool, false, true};
+ghost use Rattle.std.specs.Prelude.{◌≡◌, Bool, IfErr, IfOk, false, true};
 ghost use Rattle.xsi_calls.specs.CallSteps.{MakesCall};
 ghost use Rattle.xsi_calls.specs.Machine.{call_locks, is_searching, is_undecided};
-ghost use Rattle.xsi_calls.specs.Words.{AsksAtOnce, IsReady, IsSeat, ReachesAtOnce, WritesAtOnce, row_of};
+ghost use Rattle.xsi_calls.specs.Words.{AsksAtOnce, Fault, IsReady, IsSeat, WritesAtOnce, row_of};
 
 use crate::call_machine::CallMachine;
 use crate::part::Part;
 use crate::plan::PlanOf;
 use bucket_page::PseudoKey;
 use buffer_pool::Pool;
+use file_pages::FileFault;
 use page_device::PageDevice;
 use page_locks::LockTable;
 use xsi_inquiry::Inquiry;
@@ -47,46 +48,50 @@ impl CallMachine {
         self.questions.skip(pool, locks, keys, seat, &self.call)
     }
 
-    /// All steps up to the Look of the next record that it inserts on trial, writes or takes out of
-    /// its trials, in one go, where it can go to its page so (`Access::reach`). Else nothing is
-    /// done, and it is left to `step`.
-    pub fn reach<D: PageDevice, K: PseudoKey>(
+    /// All steps of the next record that it inserts on trial, writes or takes out of its trials, in
+    /// one go, where nobody stands in the way and nothing more is due behind it
+    /// (`Access::write_through`). Else nothing is done, it tells false, and it is left to `step`. A
+    /// fault is that of the write of its page, told as `step` tells one.
+    pub fn write_through<D: PageDevice, K: PseudoKey>(
         &mut self,
         pool: &mut Pool<D>,
-        locks: &mut LockTable,
+        locks: &LockTable,
         keys: &K,
         seat: u8,
-    ) -> bool
-        requires seat { IsSeat locks.old seat }
+    ) -> Result<bool, FileFault>
+        requires seat { IsSeat locks.now seat }
         requires ready { IsReady pool.old }
-        requires row { row_of locks.old seat ≡ call_locks self.old }
-        ensures pool { pool.new ≡ pool.old }
-        ensures made { result ≡ true → (stopped : Bool) → ReachesAtOnce
-            (MakesCall (K.of_key keys.now) seat stopped) seat self.old self.new
-            pool.old locks.old locks.new }
-        ensures spares { result ≡ false → (self.new ≡ self.old) × (locks.new ≡ locks.old) }
+        requires row { row_of locks.now seat ≡ call_locks self.old }
+        ensures made { IfOk result (λ made. made ≡ true → (stopped : Bool) → WritesAtOnce
+            (MakesCall (K.of_key keys.now) seat stopped) is_searching seat self.old self.new
+            pool.old pool.new locks.now) }
+        ensures spares { IfOk result (λ made. made ≡ false →
+            (self.new ≡ self.old) × (pool.new ≡ pool.old)) }
+        ensures failed { IfErr result (λ fault. (stopped : Bool) →
+            MakesCall (K.of_key keys.now) seat stopped (Fault fault) self.old self.new
+            pool.old pool.new locks.now locks.now) }
     {
         if self.is_undecided() {
             let tries = self.part.is_trying();
             if !tries {
                 // A call that inserts nothing on trial is left to its Decide.
                 if !self.questions.inquiry().inserts(&self.call) {
-                    return false;
+                    return Ok(false);
                 }
                 if !self.questions.is_done(&self.part, &self.call) {
-                    return false;
+                    return Ok(false);
                 }
                 let Ok(true) = self.part.begin_first(&self.questions, &self.call) else {
-                    return false;
+                    return Ok(false);
                 };
             }
             self.questions.keep_order();
             let plan = PlanOf::new(&self.call, self.questions.inquiry());
             match &mut self.part {
                 Part::Writes(place) => {
-                    if place.writes.reach(&plan, pool, locks, keys, seat) {
+                    if place.writes.write_through(&plan, pool, locks, keys, seat)? {
                         self.questions.count_one();
-                        return true;
+                        return Ok(true);
                     }
                 }
                 Part::Asks(_) | Part::Sweeps(_) => unreachable!(),
@@ -94,38 +99,16 @@ impl CallMachine {
             if !tries {
                 self.part.rest();
             }
-            return false;
+            return Ok(false);
         }
         if !self.is_paying() {
-            return false;
+            return Ok(false);
         }
         self.questions.keep_order();
         let plan = PlanOf::new(&self.call, self.questions.inquiry());
         if let Part::Writes(place) = &mut self.part {
-            return place.writes.reach(&plan, pool, locks, keys, seat);
+            return place.writes.write_through(&plan, pool, locks, keys, seat);
         }
-        false
-    }
-
-    /// All steps of the next record that it inserts on trial, writes or takes out of its trials, in
-    /// one go, where nobody stands in the way and nothing more is due behind it
-    /// (`Access::write_through`). Else nothing is done, and it is left to `step`.
-    pub fn write_through<D: PageDevice, K: PseudoKey>(
-        &mut self,
-        pool: &mut Pool<D>,
-        locks: &LockTable,
-        keys: &K,
-        seat: u8,
-    ) -> bool
-        requires seat { IsSeat locks.now seat }
-        requires ready { IsReady pool.old }
-        requires row { row_of locks.now seat ≡ call_locks self.old }
-        ensures made { result ≡ true → (stopped : Bool) → WritesAtOnce
-            (MakesCall (K.of_key keys.now) seat stopped) is_searching seat self.old self.new
-            pool.old pool.new locks.now }
-        ensures spares { result ≡ false → (self.new ≡ self.old) × (pool.new ≡ pool.old) }
-    {
-        let _ = (&mut *self, pool, locks, keys, seat);
-        false
+        Ok(false)
     }
 }

@@ -1,10 +1,10 @@
-//! A write that goes to its page in one go.
+//! A deed that is made in one go.
 
-ghost use Rattle.std.specs.Prelude.{◌≡◌, None, false, true};
-ghost use Rattle.xsi_calls.specs.WriteWords.{EndsRow, IsReady, IsSeat, row_of};
+ghost use Rattle.std.specs.Prelude.{◌≡◌, IfErr, IfOk, None, false, true};
+ghost use Rattle.xsi_calls.specs.WriteWords.{EndsRow, Fault, IsReady, IsSeat, row_of};
 ghost use Rattle.xsi_calls.specs.MakeSteps.{MakesWrites};
-ghost use Rattle.xsi_calls.specs.QuestionRuns.{ReachesAtOnce};
-ghost use Rattle.xsi_calls.specs.Views.{writes_locks};
+ghost use Rattle.xsi_calls.specs.QuestionRuns.{WritesAtOnce};
+ghost use Rattle.xsi_calls.specs.Views.{writes_locks, writes_search};
 
 use crate::plan::PlanOf;
 use crate::writes::CallWrites;
@@ -12,43 +12,49 @@ use bucket_page::PseudoKey;
 use buffer_pool::Pool;
 use page_device::PageDevice;
 use page_locks::LockTable;
+use record_file::file_pages::FileFault;
 
 impl CallWrites {
-    /// All steps of the next deed up to the Look, in one go: where no access is under way, what it
-    /// writes keeps the limits of one record, and it can go to its page so (`Access::reach`). Else
-    /// nothing is done, and it is left to `step`.
-    pub fn reach<D: PageDevice, K: PseudoKey>(
+    /// All steps of the next deed in one go: where no access is under way, what it writes keeps the
+    /// limits of one record, and it can be made so (`Access::write_through`). Else nothing is done,
+    /// it tells false, and it is left to `step`. A fault is that of the write of its page.
+    pub fn write_through<D: PageDevice, K: PseudoKey>(
         &mut self,
         plan: &PlanOf<'_>,
         pool: &mut Pool<D>,
-        locks: &mut LockTable,
+        locks: &LockTable,
         keys: &K,
         seat: u8,
-    ) -> bool
-        requires seat { IsSeat locks.old seat }
+    ) -> Result<bool, FileFault>
+        requires seat { IsSeat locks.now seat }
         requires ready { IsReady pool.old }
-        requires row { EndsRow (writes_locks self.old) 3 (row_of locks.old seat) }
-        ensures pool { pool.new ≡ pool.old }
-        ensures made { result ≡ true →
-            ReachesAtOnce (MakesWrites (K.of_key keys.now) seat plan.now) seat self.old self.new
-            pool.old locks.old locks.new }
-        ensures spares { result ≡ false → (self.new ≡ self.old) × (locks.new ≡ locks.old) }
+        requires row { EndsRow (writes_locks self.old) 3 (row_of locks.now seat) }
+        ensures made { IfOk result (λ made. made ≡ true → WritesAtOnce
+            (MakesWrites (K.of_key keys.now) seat plan.now) writes_search seat self.old self.new
+            pool.old pool.new locks.now) }
+        ensures spares { IfOk result (λ made. made ≡ false →
+            (self.new ≡ self.old) × (pool.new ≡ pool.old)) }
+        ensures failed { IfErr result (λ fault.
+            MakesWrites (K.of_key keys.now) seat plan.now (Fault fault) self.old self.new
+            pool.old pool.new locks.now locks.now) }
     {
         if self.access.is_under_way() || plan.is_done(self.due) {
-            return false;
+            return Ok(false);
         }
-        let Some(deed) = plan.deed(self.due) else {
-            return false;
+        let Some((deed, behind)) = plan.next(self.due) else {
+            return Ok(false);
         };
         if !deed.is_in_range() {
-            return false;
+            return Ok(false);
         }
         let access = self.access.open();
         deed.begin(access, keys);
-        if access.reach(pool, locks, seat) {
-            return true;
+        if access.write_through(pool, locks, seat)? {
+            self.access.close();
+            self.due = behind;
+            return Ok(true);
         }
         self.access.close();
-        false
+        Ok(false)
     }
 }

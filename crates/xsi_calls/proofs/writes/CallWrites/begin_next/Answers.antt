@@ -1,5 +1,5 @@
 -- The access of the deed that comes next begins.
-use Rattle.std.proofs.Common.{sym, ap, ◌∙◌, subst, Some}
+use Rattle.std.proofs.Common.{ap, subst, Some}
 use Rattle.xsi_calls.specs.WriteWords.{AccessView, Serves}
 use Rattle.xsi_calls.specs.Dues.{purpose_of}
 use Rattle.xsi_calls.specs.MakeSteps.{Begins}
@@ -10,6 +10,6 @@ pub returns : goal.returns
 returns g c =
     let started : (a : AccessView) → CallWrites =
     λ a. record { due = c.args.self.now.due; access = Some a } in
-    Begins c.in-Some.deed c.requires.none (sym c.deed.ensures ∙ c.in-Some.is)
+    Begins c.in-Some.deed c.requires.none c.in-Some.ensures.deed
     (subst (Serves (purpose_of c.in-Some.deed)) c.begin.ensures.value c.begin.ensures.serves)
     (ap started c.begin.ensures.value)

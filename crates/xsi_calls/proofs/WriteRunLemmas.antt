@@ -1,5 +1,5 @@
--- A write that goes to its page in one go: the machine above makes the same moves.
-use Rattle.std.proofs.Common.{◌≡◌, ℕ, List, [], ◌∷◌, ap, sym, subst, ◌∙◌}
+-- A record that is written in one go: the machine above makes the same moves.
+use Rattle.std.proofs.Common.{◌≡◌, ℕ, Bool, List, [], ◌∷◌, ap, sym, subst, ◌∙◌}
 use Rattle.page_locks.proofs.ChangeLemmas.{IsSeat-with_row}
 use Rattle.page_locks.proofs.TableLemmas.{row_of-same}
 use Rattle.page_locks.specs.Table.{with_row}
@@ -8,7 +8,7 @@ use Rattle.step_rules.specs.Runs.{MovesAlong, Stop, stops_in}
 use Rattle.step_rules.specs.declared.kind.Kind.{Kind}
 use Rattle.step_rules.specs.declared.progress.Progress.{Progress}
 use Rattle.step_rules.specs.declared.progress.Progress.TheVariants.{Moved}
-use Rattle.xsi_calls.specs.QuestionRuns.{AskStep, Promise, ReachesAtOnce, stops_to}
+use Rattle.xsi_calls.specs.QuestionRuns.{AskStep, Promise, WritesAtOnce, stops_through}
 use Rattle.xsi_calls.specs.QuestionWords.{IsSeat, Lock, PoolState, Table, row_of}
 use Rattle.xsi_calls.proofs.QuestionRunLemmas.{counted_in, way_in}
 
@@ -27,22 +27,23 @@ carried A B whole Stands each old (next ∷ stops) stands moves =
 
 -- ---- a machine, and the one that it is a part of
 
-pub reaches_in : {V W : Type 0} (A : Promise V) (B : Promise W) (seat : ℕ) (whole : V → W)
-    (Stands : V → Table → Type 0) →
+pub writes_in : {V W : Type 0} (A : Promise V) (B : Promise W) (searches : V → Bool) (searches' : W → Bool) (seat : ℕ)
+    (whole : V → W) (Stands : V → Table → Type 0) → ((v : V) → searches' (whole v) ≡ searches v) →
     ((kind : Kind) (old new : V) (pool pool' : PoolState) (locks locks' : Table) → Stands old locks →
     A (Moved kind) old new pool pool' locks locks' →
     B (Moved kind) (whole old) (whole new) pool pool' locks locks' × Stands new locks') →
-    (old new : V) (pool : PoolState) (locks locks' : Table) → Stands old locks →
-    ReachesAtOnce A seat old new pool locks locks' →
-    ReachesAtOnce B seat (whole old) (whole new) pool locks locks'
-reaches_in {V} {W} A B seat whole Stands each old new pool locks locks' stands reaches = record {
-  way = way_in among reaches.way;
-  arrives = ap among reaches.arrives;
+    (old new : V) (pool pool' : PoolState) (locks : Table) → Stands old locks →
+    WritesAtOnce A searches seat old new pool pool' locks →
+    WritesAtOnce B searches' seat (whole old) (whole new) pool pool' locks
+writes_in {V} {W} A B searches searches' seat whole Stands same each old new pool pool' locks stands writes = record {
+  way = way_in among writes.way;
+  written = among writes.written;
   moves = carried (AskStep A) (AskStep B) among (λ (s : At V). Stands s.machine s.locks)
       (λ kind before behind held step.
       each kind before.machine behind.machine before.pool behind.pool before.locks behind.locks held step)
-      (at old pool locks) (stops_to reaches.way) stands reaches.moves;
-  counted = counted_in whole seat reaches.way reaches.counted;
+      (at old pool locks) (stops_through writes.way writes.written (at new pool' locks)) stands writes.moves;
+  counted = counted_in whole seat writes.way writes.counted;
+  answered = same writes.way.looked.machine ∙ writes.answered;
 }
   where
     among : At V → At W

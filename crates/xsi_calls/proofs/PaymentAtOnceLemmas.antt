@@ -1,5 +1,5 @@
--- A write of what a call owes that goes to its page in one go.
-use Rattle.std.proofs.Common.{◌≡◌, ℕ, sym, ap, subst}
+-- A write of what a call owes that is made in one go.
+use Rattle.std.proofs.Common.{◌≡◌, ℕ, Bool, refl, sym, ap, subst}
 use Rattle.std.specs.Prelude.{⊤}
 use Rattle.step_rules.specs.declared.kind.Kind.{Kind}
 use Rattle.xsi_calls.specs.PaymentStages.{Stage}
@@ -7,8 +7,11 @@ use Rattle.xsi_calls.specs.PaymentStages as stages
 use Rattle.xsi_calls.specs.MakeSteps.{MakesWrites}
 use Rattle.xsi_calls.specs.PaySteps.{MakesPayment}
 use Rattle.xsi_calls.specs.PaymentWords.{CallWrites, Moved, Plan, PoolState, RecordKey, Table}
-use Rattle.xsi_calls.specs.QuestionRuns.{ReachesAtOnce}
-use Rattle.xsi_calls.proofs.ReachLemmas.{reaches_in}
+use Rattle.xsi_calls.specs.Payments.{payment_access}
+use Rattle.xsi_calls.specs.QuestionRuns.{WritesAtOnce}
+use Rattle.xsi_calls.specs.Views.{writes_search}
+use Rattle.xsi_calls.specs.WriteWords.{searches_under}
+use Rattle.xsi_calls.proofs.WriteRunLemmas.{writes_in}
 use Rattle.xsi_calls.proofs.WrittenLemmas.{writes_on}
 
 module _ (hash : RecordKey → ℕ) (seat : ℕ) (p : Plan) where
@@ -31,13 +34,17 @@ module _ (hash : RecordKey → ℕ) (seat : ℕ) (p : Plan) where
     turns_away = λ names records change y fine. makes.turns_away names records change y.carries fine;
   }
 
-  pub payment_reaches : (old : Stage) (w w' : CallWrites) → old ≡ stages.Writing w → (pool : PoolState)
-      (locks locks' : Table) → ReachesAtOnce (MakesWrites hash seat p) seat w w' pool locks locks' →
-      ReachesAtOnce (MakesPayment hash seat p) seat old (stages.Writing w') pool locks locks'
-  payment_reaches old w w' is pool locks locks' goes =
-      subst (λ (x : Stage). ReachesAtOnce (MakesPayment hash seat p) seat x (stages.Writing w') pool locks locks')
-      (sym is)
-      (reaches_in (MakesWrites hash seat p) (MakesPayment hash seat p) seat stages.Writing
-      (λ (v : CallWrites) (t : Table). ⊤)
-      (λ kind v v' pool pool' t t' stands makes. (pays kind v v' pool pool' t t' makes, tt)) w w' pool locks locks' tt
-      goes)
+  -- whether a search of it is under way
+  abbrev pub payment_searches : Stage → Bool
+  payment_searches v = searches_under (payment_access v)
+
+  pub payment_at_once : (old : Stage) (w w' : CallWrites) → old ≡ stages.Writing w → (pool pool' : PoolState)
+      (locks : Table) → WritesAtOnce (MakesWrites hash seat p) writes_search seat w w' pool pool' locks →
+      WritesAtOnce (MakesPayment hash seat p) payment_searches seat old (stages.Writing w') pool pool' locks
+  payment_at_once old w w' is pool pool' locks goes =
+      subst (λ (x : Stage). WritesAtOnce (MakesPayment hash seat p) payment_searches seat x (stages.Writing w') pool
+      pool' locks) (sym is)
+      (writes_in (MakesWrites hash seat p) (MakesPayment hash seat p) writes_search payment_searches seat stages.Writing
+      (λ (v : CallWrites) (t : Table). ⊤) (λ v. refl)
+      (λ kind v v' before behind t t' stands makes. (pays kind v v' before behind t t' makes, tt)) w w' pool pool' locks
+      tt goes)

@@ -1,4 +1,4 @@
--- A trial of a call that goes to its page in one go.
+-- A trial of a call that is made in one go.
 use Rattle.std.proofs.Common.{◌≡◌, ℕ, ◌+◌, min, Bool, Some, if◌then◌else◌, refl, sym, ap}
 use Rattle.file_pages.specs.declared.fault.FileFault.{FileFault}
 use Rattle.step_rules.specs.declared.kind.Kind.{Kind}
@@ -10,13 +10,15 @@ use Rattle.xsi_calls.specs.declared.questions.Questions.{Questions}
 use Rattle.xsi_calls.specs.Beginning.{Tries}
 use Rattle.xsi_calls.specs.Parts.{undecided_with}
 use Rattle.xsi_calls.specs.Counting.{MOST_FINDS, finds_behind}
+use Rattle.xsi_calls.specs.Machine.{undecided_searches}
 use Rattle.xsi_calls.specs.MakeSteps.{MakesWrites}
+use Rattle.xsi_calls.specs.Views.{writes_search}
 use Rattle.xsi_calls.specs.QuestionWords.{Moved}
 use Rattle.xsi_calls.specs.UndecidedSteps.{MakesUndecided}
-use Rattle.xsi_calls.specs.UndecidedWords.{AreNames, AskStep, At, Call, Decision, IsSeat, Plan, PoolState, QuestionsView, ReachesAtOnce, RecordKey, Table, at, row_of, writes_locks}
+use Rattle.xsi_calls.specs.UndecidedWords.{AreNames, AskStep, At, Call, Decision, IsSeat, Plan, PoolState, QuestionsView, RecordKey, Table, WritesAtOnce, at, row_of, writes_locks}
 use Rattle.xsi_calls.proofs.CountLemmas.{none_more}
 use Rattle.xsi_calls.proofs.QuestionRunLemmas.{counted_in, way_in}
-use Rattle.xsi_calls.proofs.ReachLemmas.{HasItsRow, row_behind}
+use Rattle.xsi_calls.proofs.WriteRunLemmas.{HasItsRow, row_behind}
 use Rattle.xsi_calls.proofs.StepLemmas.{tried_with}
 
 module _ (hash : RecordKey → ℕ) (seat : ℕ) (call : Call) (q : QuestionsView) (names : AreNames q.names) where
@@ -52,9 +54,9 @@ module _ (hash : RecordKey → ℕ) (seat : ℕ) (call : Call) (q : QuestionsVie
         (record { writes = s.machine; decision = decision }) names stands.1 (Moved kind) s'.machine s'.pool s'.locks
         step stands.0 m counts
 
-    module _ (w w' : CallWrites) (pool : PoolState) (locks locks' : Table) (seated : IsSeat locks seat)
+    module _ (w w' : CallWrites) (pool pool' : PoolState) (locks : Table) (seated : IsSeat locks seat)
         (row : row_of locks seat ≡ writes_locks w q.names)
-        (goes : ReachesAtOnce (MakesWrites hash seat x) seat w w' pool locks locks') where
+        (goes : WritesAtOnce (MakesWrites hash seat x) writes_search seat w w' pool pool' locks) where
       -- one search more
       abbrev more : ℕ
       more = min (q.finds + 1) MOST_FINDS
@@ -67,53 +69,53 @@ module _ (hash : RecordKey → ℕ) (seat : ℕ) (call : Call) (q : QuestionsVie
           finds_behind {F = FileFault} (Moved kinds.Grant) (row_of goes.way.arrived.locks seat) more
       counts_not = sym (none_more (Moved kinds.Grant) (row_of goes.way.arrived.locks seat) more goes.counted.once)
 
-      pub trial_reaches : ReachesAtOnce (MakesUndecided hash seat call) seat (trying q.finds w) (trying more w') pool
-          locks locks'
-      trial_reaches =
+      pub trial_at_once : WritesAtOnce (MakesUndecided hash seat call) undecided_searches seat (trying q.finds w)
+          (trying more w') pool pool' locks
+      trial_at_once =
           let way = goes.way in
           let m = goes.moves in
           let old : At CallWrites = at w pool locks in
+          let new : At CallWrites = at w' pool' locks in
           let s0 : Stands old = (seated, row) in
           let s1 = stands_on kinds.Grant old way.locked s0 m.0 in
           let s2 = stands_on kinds.ReadDepth way.locked way.deep s1 m.1.0 in
           let s3 = stands_on kinds.ReadEntry way.deep way.named s2 m.1.1.0 in
           let s4 = stands_on kinds.Grant way.named way.arrived s3 m.1.1.1.0 in
           let s5 = stands_on kinds.Release way.arrived way.alone s4 m.1.1.1.1.0 in
+          let s6 = stands_on kinds.Look way.alone way.looked s5 m.1.1.1.1.1.0 in
+          let s7 = stands_on kinds.WriteRecord way.looked goes.written s6 m.1.1.1.1.1.1.0 in
+          let locks_it = moves kinds.Grant q.finds more old way.locked s0 counts m.0 in
+          let reads = moves kinds.ReadDepth more more way.locked way.deep s1 refl m.1.0 in
+          let names_it = moves kinds.ReadEntry more more way.deep way.named s2 refl m.1.1.0 in
+          let arrives = moves kinds.Grant more more way.named way.arrived s3 counts_not m.1.1.1.0 in
+          let gives_back = moves kinds.Release more more way.arrived way.alone s4 refl m.1.1.1.1.0 in
+          let looks = moves kinds.Look more more way.alone way.looked s5 refl m.1.1.1.1.1.0 in
+          let writes = moves kinds.WriteRecord more more way.looked goes.written s6 refl m.1.1.1.1.1.1.0 in
+          let leaves = moves kinds.Release more more goes.written new s7 refl m.1.1.1.1.1.1.1.0 in
           record {
             way = way_in (among more) way;
-            arrives = ap (among more) goes.arrives;
+            written = among more goes.written;
+            moves = (locks_it, (reads, (names_it, (arrives, (gives_back, (looks, (writes, (leaves, tt))))))));
             counted = counted_in (trying more) seat way goes.counted;
-            moves = (
-              moves kinds.Grant q.finds more old way.locked s0 counts m.0,
-              (
-                moves kinds.ReadDepth more more way.locked way.deep s1 refl m.1.0,
-                (
-                  moves kinds.ReadEntry more more way.deep way.named s2 refl m.1.1.0,
-                  (
-                    moves kinds.Grant more more way.named way.arrived s3 counts_not m.1.1.1.0,
-                    (
-                      moves kinds.Release more more way.arrived way.alone s4 refl m.1.1.1.1.0,
-                      (moves kinds.Look more more way.alone way.looked s5 refl m.1.1.1.1.1.0, tt),
-                    ),
-                  ),
-                ),
-              ),
-            );
+            answered = goes.answered;
           }
 
 -- ---- trials are under way, or the first one begins
 
-pub tries_reach : (hash : RecordKey → ℕ) (seat : ℕ) (call : Call) (q : Questions) (old part : Part) →
-    Tries call q old part → (new : UndecidedCall) (pool : PoolState) (locks locks' : Table) →
-    ReachesAtOnce (MakesUndecided hash seat call) seat (undecided_with call q part) new pool locks locks' →
-    ReachesAtOnce (MakesUndecided hash seat call) seat (undecided_with call q old) new pool locks locks'
-tries_reach hash seat call q old part tries new pool locks locks' goes = record {
+pub tries_from_part : (hash : RecordKey → ℕ) (seat : ℕ) (call : Call) (q : Questions) (old part : Part) →
+    Tries call q old part → (new : UndecidedCall) (pool pool' : PoolState) (locks : Table) →
+    WritesAtOnce (MakesUndecided hash seat call) undecided_searches seat (undecided_with call q part) new pool pool'
+    locks →
+    WritesAtOnce (MakesUndecided hash seat call) undecided_searches seat (undecided_with call q old) new pool pool'
+    locks
+tries_from_part hash seat call q old part tries new pool pool' locks goes = record {
   way = goes.way;
-  arrives = goes.arrives;
+  written = goes.written;
   moves = (
     tries.makes hash seat (Moved kinds.Grant) goes.way.locked.machine pool goes.way.locked.pool locks
         goes.way.locked.locks goes.moves.0,
     goes.moves.1,
   );
   counted = goes.counted;
+  answered = goes.answered;
 }

@@ -1,0 +1,37 @@
+-- The access of the deed that comes next begins, makes its moves, and is let go.
+use Rattle.file_pages.proofs.ReadLemmas.{handed_on}
+use Rattle.xsi_calls.specs.WriteWords.{AccessView, row_of}
+use Rattle.xsi_calls.specs.declared.writes.CallWrites.{CallWrites}
+use Rattle.std.proofs.Common.{Option, sym, ap, subst, ◌∙◌}
+use Rattle.xsi_calls.specs.MakeSteps.{MakesWrites}
+use Rattle.xsi_calls.specs.QuestionRuns.{WritesAtOnce}
+use Rattle.xsi_calls.specs.Views.{writes_search}
+use Rattle.xsi_calls.proofs.HeldLemmas.{none_of}
+use Rattle.xsi_calls.proofs.WriteAtOnceLemmas.{begun_row, deed_from, fails_from}
+use Rattle.xsi_calls.proofs.writes.CallWrites.write_through.Goals as goal
+
+pub write_through-requires-clause-row : goal.write_through-requires-clause-row
+write_through-requires-clause-row g c =
+    begun_row c.args.self.now (none_of _ (sym c.is_under_way.ensures ∙ c.if-is_under_way.false))
+    (row_of c.args.locks.now c.args.seat) c.requires.row (g.K.PseudoKey.of_key c.args.keys.now) c.in-Some.deed
+    c.begin.new.access c.begin.ensures.value
+
+pub returns-then-branch-clause-made : goal.returns-then-branch-clause-made
+returns-then-branch-clause-made g c = λ made.
+    let hash = g.K.PseudoKey.of_key c.args.keys.now in
+    let rests : Option AccessView → CallWrites = λ o. record { due = c.in-Some.behind; access = o } in
+    subst (λ (w : CallWrites). WritesAtOnce (MakesWrites hash c.args.seat c.args.plan.now) writes_search c.args.seat
+    c.args.self.now w c.args.pool.now c.write_through.new.pool c.args.locks.now) (sym (ap rests c.close.ensures))
+    (deed_from hash c.args.seat c.args.plan.now c.args.pool.now c.write_through.new.pool c.args.locks.now
+    c.args.self.now (none_of _ (sym c.is_under_way.ensures ∙ c.if-is_under_way.false)) c.in-Some.deed c.in-Some.behind
+    c.in-Some.ensures c.begin.new.access c.begin.ensures.value c.begin.ensures.serves c.write_through.new.self
+    (c.in_ok-write_through.ensures.made c.if-branch.true))
+
+pub returns-in_err-write_through-clause-failed : goal.returns-in_err-write_through-clause-failed
+returns-in_err-write_through-clause-failed g c =
+    handed_on c.from_residual.result _ _ c.from_residual.ensures.1
+    (fails_from (g.K.PseudoKey.of_key c.args.keys.now) c.args.seat c.args.plan.now c.args.pool.now
+    c.write_through.new.pool c.args.locks.now c.args.self.now
+    (none_of _ (sym c.is_under_way.ensures ∙ c.if-is_under_way.false)) c.in-Some.deed c.in-Some.behind
+    c.in-Some.ensures c.begin.new.access c.begin.ensures.value c.begin.ensures.serves c.in_err-write_through.field-0.0
+    c.write_through.new.self c.in_err-write_through.ensures.failed)
