@@ -12,7 +12,7 @@ use Rattle.step_rules.specs.declared.progress.Progress.TheVariants as progress
 use Rattle.xsi_calls.specs.CallSteps.{MakesCall}
 use Rattle.xsi_calls.specs.Machine.{conclusion_at, is_searching, is_undecided}
 use Rattle.xsi_calls.specs.Stages.{Paying, Releasing, Stage, Undecided}
-use Rattle.xsi_calls.specs.Words.{AskStep, AsksAtOnce, At, ReachesAtOnce, Way, at, stops_on, stops_to}
+use Rattle.xsi_calls.specs.Words.{AskStep, AsksAtOnce, At, Way, WritesAtOnce, at, stops_on, stops_through}
 use Rattle.xsi_calls.specs.declared.conclusion.Conclusion.{Conclusion}
 use Rattle.interleaving_core.specs.Words.{Answer, CallView, Entry, IsSeat, PoolState, Progress, RecordKey, Table, answer_of_call, conclusion_of}
 use Rattle.interleaving_core.specs.Active.{ActiveView, IsDrafted, IsKept, decided_by, draft_by, entries_by}
@@ -29,25 +29,26 @@ use Rattle.interleaving_core.proofs.FailureLemmas.{none_blamed}
 use Rattle.interleaving_core.proofs.KernelLemmas.{row, same_here, turn_behind, whole_behind}
 use Rattle.interleaving_core.proofs.TurnLemmas.{Does, added_by, comes_at, none_left, some_by, stays_at}
 
--- ---- a move that is no Decide
+-- ---- a step that is no Decide
 
 -- a call has come to what it had come to, and what is kept for its entry is there
 pub record IsAsFar (first : CallView) (draft : Option Draft) (m : CallView) : Type 0 where
   pub come : conclusion_of m ≡ conclusion_of first
   pub kept : IsDrafted m draft
 
-module _ (hash : RecordKey → ℕ) (seat : ℕ) (stopped : Bool) (kind : Kind) (other : kind ≡ kinds.Decide → ⊥)
-    (m m' : CallView) (pool pool' : PoolState) (locks locks' : Table)
-    (makes : MakesCall hash seat stopped (progress.Moved kind) m m' pool pool' locks locks') where
-  pub no_decide : ◌≡◌ {A = Progress FileFault} (progress.Moved kind) (progress.Moved kinds.Decide) → ⊥
-  no_decide is = other cc
+pub other_kind : (kind : Kind) → (kind ≡ kinds.Decide → ⊥) →
+    ◌≡◌ {A = Progress FileFault} (progress.Moved kind) (progress.Moved kinds.Decide) → ⊥
+other_kind kind other is = other cc
 
+module _ (hash : RecordKey → ℕ) (seat : ℕ) (stopped : Bool) (did : Progress FileFault)
+    (other : did ≡ progress.Moved kinds.Decide → ⊥) (m m' : CallView) (pool pool' : PoolState) (locks locks' : Table)
+    (makes : MakesCall hash seat stopped did m m' pool pool' locks locks') where
   come_on : conclusion_of m' ≡ conclusion_of m
   come_on = by (conclusion_of m) refl
     where
       none : conclusion_of m ≡ None → (c : Option Conclusion) → conclusion_of m' ≡ c → c ≡ None
       none is None come = refl
-      none is (Some c) come = absurd (no_decide (makes.aim.decides is (subst IsSome (sym come) refl)))
+      none is (Some c) come = absurd (other (makes.aim.decides is (subst IsSome (sym come) refl)))
 
       by : (c : Option Conclusion) → conclusion_of m ≡ c → conclusion_of m' ≡ conclusion_of m
       by None is = none is (conclusion_of m') refl ∙ sym is
@@ -55,11 +56,10 @@ module _ (hash : RecordKey → ℕ) (seat : ℕ) (stopped : Bool) (kind : Kind) 
 
   drafted_on : (draft : Option Draft) → IsDrafted m draft → IsDrafted m' draft
   drafted_on None some =
-      subst IsSome (sym (stays_at (progress.Moved kind) m m' makes.aim (conclusion_of m) refl
+      subst IsSome (sym (stays_at did m m' makes.aim (conclusion_of m) refl
       (some_by (conclusion_of m) m.undecided.questions.room.bytes some))) some
   drafted_on (Some d) had = record {
-    unanswered = comes_at (progress.Moved kind) m m' makes.aim (conclusion_of m) (conclusion_of m') refl refl
-        had.unanswered no_decide;
+    unanswered = comes_at did m m' makes.aim (conclusion_of m) (conclusion_of m') refl refl had.unanswered other;
     call = had.call ∙ sym makes.aim.call;
     room = had.room ∙ sym makes.aim.most;
   }
@@ -80,10 +80,6 @@ abbrev pub AreOthers : List (Stop (At CallView)) → Type 0
 AreOthers [] = ⊤
 AreOthers (next ∷ stops) = (next.kind ≡ kinds.Decide → ⊥) × AreOthers stops
 
-others_to : (w : Way (At CallView)) → AreOthers (stops_to w)
-others_to w =
-    (λ e. absurd cc, (λ e. absurd cc, (λ e. absurd cc, (λ e. absurd cc, (λ e. absurd cc, (λ e. absurd cc, tt))))))
-
 others_on : (w : Way (At CallView)) (new : At CallView) → AreOthers (stops_on w new)
 others_on w new = (
   λ e. absurd cc,
@@ -93,13 +89,22 @@ others_on w new = (
       λ e. absurd cc,
       (
         λ e. absurd cc,
-        (
-          λ e. absurd cc,
-          (
-            λ e. absurd cc,
-            (λ e. absurd cc, tt),
-          ),
-        ),
+        (λ e. absurd cc, (λ e. absurd cc, (λ e. absurd cc, tt))),
+      ),
+    ),
+  ),
+)
+
+others_through : (w : Way (At CallView)) (written new : At CallView) → AreOthers (stops_through w written new)
+others_through w written new = (
+  λ e. absurd cc,
+  (
+    λ e. absurd cc,
+    (
+      λ e. absurd cc,
+      (
+        λ e. absurd cc,
+        (λ e. absurd cc, (λ e. absurd cc, (λ e. absurd cc, (λ e. absurd cc, tt)))),
       ),
     ),
   ),
@@ -115,7 +120,8 @@ module _ (hash : RecordKey → ℕ) (seat : ℕ) (stopped : Bool) (m : CallView)
       AskStep (MakesCall hash seat stopped) (progress.Moved kind) s t → IsAsFar m draft s.machine →
       IsAsFar m draft t.machine
   far_behind kind other s t step so_far =
-      far_on hash seat stopped kind other s.machine t.machine s.pool t.pool s.locks t.locks step m draft so_far
+      far_on hash seat stopped (progress.Moved kind) (other_kind kind other) s.machine t.machine s.pool t.pool s.locks
+      t.locks step m draft so_far
 
   far_along : (stops : List (Stop (At CallView))) → AreOthers stops → (s : At CallView) → Along s stops →
       IsAsFar m draft s.machine → IsAsFar m draft (end_of s stops).machine
@@ -130,13 +136,13 @@ module _ (hash : RecordKey → ℕ) (seat : ℕ) (stopped : Bool) (m : CallView)
       far_along (stops_on asks.way (at m' pool locks)) (others_on asks.way (at m' pool locks)) (at m pool locks)
       asks.moves (record { come = refl; kept = kept })
 
-  pub reached_far : (m' : CallView) (pool : PoolState) (locks locks' : Table) →
-      ReachesAtOnce (MakesCall hash seat stopped) seat m m' pool locks locks' → IsDrafted m draft →
+  pub written_far : (m' : CallView) (pool pool' : PoolState) (locks : Table) →
+      WritesAtOnce (MakesCall hash seat stopped) is_searching seat m m' pool pool' locks → IsDrafted m draft →
       IsAsFar m draft m'
-  reached_far m' pool locks locks' reaches kept =
-      subst (λ (s : At CallView). IsAsFar m draft s.machine) reaches.arrives
-      (far_along (stops_to reaches.way) (others_to reaches.way) (at m pool locks) reaches.moves
-      (record { come = refl; kept = kept }))
+  written_far m' pool pool' locks writes kept =
+      far_along (stops_through writes.way writes.written (at m' pool' locks))
+      (others_through writes.way writes.written (at m' pool' locks)) (at m pool locks) writes.moves
+      (record { come = refl; kept = kept })
 
 none_some : (o : Option ℕ) → is_some o ≡ false → IsSome o → ⊥
 none_some None none some = absurd cc
@@ -183,7 +189,7 @@ module _ {K : Type 0} (of : K → RecordKey → ℕ) (seat : ℕ) (b : KernelSta
 
   none_joins : entries_by seat (answer_of_call m) x.draft ≡ []
   none_joins = added_by seat (progress.Moved kind) x.machine m makes.aim x.draft kept
-      (no_decide (of b.keys) seat b.stopped kind other x.machine m b.pool pool b.locks locks makes)
+      (other_kind kind other)
 
   turns : Turns (of b.keys) seat b.stopped (steps.Moved kind) (call_at b.seats seat) (Some y) b.pool pool b.locks locks
       b.journal b.journal
@@ -197,8 +203,8 @@ module _ {K : Type 0} (of : K → RecordKey → ℕ) (seat : ℕ) (b : KernelSta
             come = y;
             makes = makes;
             kept = kept;
-            draft = draft_stays (of b.keys) seat b.stopped kind other x.machine m b.pool pool b.locks locks makes
-                x.draft kept;
+            draft = draft_stays (of b.keys) seat b.stopped (progress.Moved kind) (other_kind kind other) x.machine m
+                b.pool pool b.locks locks makes x.draft kept;
             journal = sym (ap (λ (es : List Entry). b.journal ++ es) none_joins ∙ append-nil b.journal);
             marked = record { begun = refl; decided = marked; awake = refl };
             told_is = refl;

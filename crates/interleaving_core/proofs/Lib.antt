@@ -1,4 +1,5 @@
 pub mod CountLemmas
+pub mod SearchLemmas
 pub mod PlaceLemmas
 pub mod PartLemmas
 pub mod PastLemmas
@@ -10,6 +11,7 @@ pub mod FailureLemmas
 pub mod KernelLemmas
 pub mod AtOnceLemmas
 pub mod SkipLemmas
+pub mod FaultLemmas
 pub mod SparedLemmas
 pub mod BeginLemmas
 pub mod RunLemmas

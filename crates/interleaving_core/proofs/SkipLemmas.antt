@@ -1,23 +1,22 @@
--- A question of a seat's call that is asked in one go, and a write that goes to its page so, are so many steps of a
--- kernel.
-use Rattle.std.proofs.Common.{◌≡◌, refl, sym, ap, ◌∙◌, subst, ℕ, suc, ◌-◌, Bool, true, false, not, List, Option, Some, None, length, slice_set, slice_index_or}
+-- A question of a seat's call that is asked in one go, and a write that is made so, are so many steps of a kernel.
+use Rattle.std.proofs.Common.{◌≡◌, refl, sym, ap, ◌∙◌, subst, ℕ, suc, ◌-◌, Bool, true, false, not, List, [], ◌∷◌, Option, Some, None, length, slice_set, slice_index_or}
 use Rattle.std.specs.Option.{is_some}
-use Rattle.step_rules.specs.Runs.{MovesAlong, Stop}
+use Rattle.step_rules.specs.Runs.{MovesAlong, Stop, stop}
 use Rattle.step_rules.specs.declared.kind.Kind.{Kind}
 use Rattle.step_rules.specs.declared.kind.Kind.TheVariants as kinds
 use Rattle.step_rules.specs.declared.progress.Progress.TheVariants as progress
 use Rattle.xsi_calls.specs.CallSteps.{MakesCall}
 use Rattle.xsi_calls.specs.Machine.{is_searching, is_undecided}
-use Rattle.xsi_calls.specs.Words.{AskStep, AsksAtOnce, At, ReachesAtOnce, SearchesOnce, Way, at, stops_to}
+use Rattle.xsi_calls.specs.Words.{AskStep, AsksAtOnce, At, SearchesOnce, Way, WritesAtOnce, at}
 use Rattle.xsi_calls.specs.declared.conclusion.Conclusion.{Conclusion}
 use Rattle.interleaving_core.specs.Words.{CallView, IsSeat, PoolState, RecordKey, Table, conclusion_of}
 use Rattle.interleaving_core.specs.Active.{ActiveView, IsDrafted, decided_by}
-use Rattle.interleaving_core.specs.Counting.{AreSoundCounts, CountsState, Notes, changes_counts}
+use Rattle.interleaving_core.specs.Counting.{AreSoundCounts, CountsState, Notes, NotesSearch, changes_counts}
 use Rattle.interleaving_core.specs.Driving.{Moves}
 use Rattle.interleaving_core.specs.Kernel.{IsWhole, KernelState, call_at, with_call}
 use Rattle.interleaving_core.specs.Searches.{Counts, ends_search}
 use Rattle.interleaving_core.specs.declared.step.Step.TheVariants as steps
-use Rattle.interleaving_core.proofs.AtOnceLemmas.{IsAsFar, LeadsOn, far_on, leads_on, none_is, reached_far, undecided_at}
+use Rattle.interleaving_core.proofs.AtOnceLemmas.{IsAsFar, LeadsOn, far_on, leads_on, none_is, other_kind, undecided_at}
 use Rattle.interleaving_core.proofs.CountLemmas.{none_noted}
 use Rattle.interleaving_core.proofs.KernelLemmas.{is_counted, seat_there}
 use Rattle.interleaving_core.proofs.LentLemmas.{is_its, slot_is}
@@ -38,9 +37,7 @@ marked_twice (Some c) many decided = refl
 module _ {K : Type 0} (of : K → RecordKey → ℕ) (seat : ℕ) (old : KernelState K) (whole : IsWhole old)
     (is : IsSeat old.locks seat) (sound : old.failed ≡ false) (a : ActiveView)
     (there : call_at old.seats seat ≡ Some a) (awake : a.wait ≡ None) (kept : IsDrafted a.machine a.draft)
-    (noted ended : CountsState) (has : AreSoundCounts noted)
-    (notes : Notes seat kinds.Grant true false false old.searches noted) (ends : Bool)
-    (over : Notes seat kinds.Look false false ends noted ended) where
+    (ended : CountsState) (still : AreSoundCounts ended) (notes : NotesSearch seat old.searches ended) where
   -- how long the journal was at its Decide, or is
   abbrev since : ℕ
   since = decided_by (conclusion_of a.machine) (length old.journal) a.decided
@@ -87,8 +84,8 @@ module _ {K : Type 0} (of : K → RecordKey → ℕ) (seat : ℕ) (old : KernelS
         made = record { before = old; stands = refl; kind = kind; step = led.step };
         is_whole = led.is_whole;
         is_seat = led.is_seat;
-        far = far_on (of old.keys) seat old.stopped kind other a.machine t.machine old.pool t.pool old.locks t.locks
-            makes a.machine a.draft (record { come = refl; kept = kept });
+        far = far_on (of old.keys) seat old.stopped (progress.Moved kind) (other_kind kind other) a.machine t.machine
+            old.pool t.pool old.locks t.locks makes a.machine a.draft (record { come = refl; kept = kept });
       }
 
   next : (moves : ℕ) (kind : Kind) → (kind ≡ kinds.Decide → ⊥) → (n n' : CountsState) (s t : At CallView) →
@@ -98,8 +95,8 @@ module _ {K : Type 0} (of : K → RecordKey → ℕ) (seat : ℕ) (old : KernelS
     made = record { before = kernel_at n s; stands = so_far.made; kind = kind; step = led.step };
     is_whole = led.is_whole;
     is_seat = led.is_seat;
-    far = far_on (of old.keys) seat old.stopped kind other s.machine t.machine s.pool t.pool s.locks t.locks makes
-        a.machine a.draft so_far.far;
+    far = far_on (of old.keys) seat old.stopped (progress.Moved kind) (other_kind kind other) s.machine t.machine
+        s.pool t.pool s.locks t.locks makes a.machine a.draft so_far.far;
   }
     where
       led : LeadsOn (of old.keys) seat kind (kernel_at n s) (kernel_at n' t)
@@ -123,12 +120,30 @@ module _ {K : Type 0} (of : K → RecordKey → ℕ) (seat : ℕ) (old : KernelS
   Moves_to stops =
       MovesAlong (AskStep (MakesCall (of old.keys) seat old.stopped)) (at a.machine old.pool old.locks) stops
 
-  module _ (w : Way (At CallView)) (counted : SearchesOnce seat w) (moves : Moves_to (stops_to w))
-      (ends_is : ends ≡ not (is_searching w.looked.machine)) where
+  -- what is counted while its search is under way
+  abbrev noted : CountsState
+  noted = notes.begun
+
+  has : AreSoundCounts noted
+  has = notes.sound
+
+  -- the way to a page, and what comes behind
+  abbrev stops_then : Way (At CallView) → List (Stop (At CallView)) → List (Stop (At CallView))
+  stops_then w rest =
+      stop kinds.Grant w.locked
+      ∷ stop kinds.ReadDepth w.deep
+      ∷ stop kinds.ReadEntry w.named
+      ∷ stop kinds.Grant w.arrived
+      ∷ stop kinds.Release w.alone
+      ∷ stop kinds.Look w.looked
+      ∷ rest
+
+  module _ (w : Way (At CallView)) (rest : List (Stop (At CallView))) (counted : SearchesOnce seat w)
+      (moves : Moves_to (stops_then w rest)) (answered : is_searching w.looked.machine ≡ false) where
     -- by the first one a search begins
     locked : HasLed 1 noted w.locked
     locked = first kinds.Grant (λ e. absurd cc) noted w.locked moves.0
-        (subst (λ (b : Bool). Notes seat kinds.Grant b false false old.searches noted) (sym counted.begins) notes)
+        (subst (λ (b : Bool). Notes seat kinds.Grant b false false old.searches noted) (sym counted.begins) notes.begins)
 
     deep : HasLed 2 noted w.deep
     deep = next 1 kinds.ReadDepth (λ e. absurd cc) noted noted w.locked w.deep locked moves.1.0
@@ -152,30 +167,34 @@ module _ {K : Type 0} (of : K → RecordKey → ℕ) (seat : ℕ) (old : KernelS
     looked : HasLed 6 ended w.looked
     looked = next 5 kinds.Look (λ e. absurd cc) noted ended w.alone w.looked alone moves.1.1.1.1.1.0
         (subst (λ (b : Bool). Notes seat kinds.Look false false b noted ended)
-        (ends_is ∙ sym (ap (ends_search kinds.Look) (here w.looked.machine))) over)
-
-  -- a write has gone to its page
-  pub six_steps : (m : CallView) (locks : Table) →
-      ReachesAtOnce (MakesCall (of old.keys) seat old.stopped) seat a.machine m old.pool old.locks locks →
-      ends ≡ not (is_searching m) → MadeAtOnce of seat 6 old (kernel_at ended (at m old.pool locks))
-  six_steps m locks run ends_is =
-      let led = looked run.way run.counted run.moves
-      (ends_is ∙ sym (ap (λ (s : At CallView). not (is_searching s.machine)) run.arrives)) in
-      subst (λ (s : At CallView). MadeAtOnce of seat 6 old (kernel_at ended s)) run.arrives
-      (record { moves = led.made; whole = led.is_whole })
+        (sym (ap not answered) ∙ sym (ap (ends_search kinds.Look) (here w.looked.machine))) notes.ends)
 
   -- a question was asked
-  pub seven_steps : AreSoundCounts ended → (m : CallView) →
+  pub seven_steps : (m : CallView) →
       AsksAtOnce (MakesCall (of old.keys) seat old.stopped) is_searching seat a.machine m old.pool old.locks →
-      ends ≡ true → MadeAtOnce of seat 7 old (kernel_at ended (at m old.pool old.locks))
-  seven_steps still m run ends_is =
+      MadeAtOnce of seat 7 old (kernel_at ended (at m old.pool old.locks))
+  seven_steps m run =
       let w = run.way in
-      let n = run.moves in
-      let led = looked w run.counted (n.0, (n.1.0, (n.1.1.0, (n.1.1.1.0, (n.1.1.1.1.0, (n.1.1.1.1.1.0, tt))))))
-      (ends_is ∙ sym (ap not run.answered)) in
+      let led = looked w (stop kinds.Release (at m old.pool old.locks) ∷ []) run.counted run.moves run.answered in
       let last = next 6 kinds.Release (λ e. absurd cc) ended ended w.looked (at m old.pool old.locks) led
-      n.1.1.1.1.1.1.0
+      run.moves.1.1.1.1.1.1.0
       (unnoted kinds.Release false false false refl ended still w.looked led.is_whole led.is_seat) in
+      record { moves = last.made; whole = last.is_whole }
+
+  -- a record was written
+  pub eight_steps : (m : CallView) (pool : PoolState) →
+      WritesAtOnce (MakesCall (of old.keys) seat old.stopped) is_searching seat a.machine m old.pool pool old.locks →
+      MadeAtOnce of seat 8 old (kernel_at ended (at m pool old.locks))
+  eight_steps m pool run =
+      let w = run.way in
+      let led = looked w (stop kinds.WriteRecord run.written ∷ stop kinds.Release (at m pool old.locks) ∷ [])
+      run.counted run.moves run.answered in
+      let wrote = next 6 kinds.WriteRecord (λ e. absurd cc) ended ended w.looked run.written led
+      run.moves.1.1.1.1.1.1.0
+      (unnoted kinds.WriteRecord false false false refl ended still w.looked led.is_whole led.is_seat) in
+      let last = next 7 kinds.Release (λ e. absurd cc) ended ended run.written (at m pool old.locks) wrote
+      run.moves.1.1.1.1.1.1.1.0
+      (unnoted kinds.Release false false false refl ended still run.written wrote.is_whole wrote.is_seat) in
       record { moves = last.made; whole = last.is_whole }
 
 -- ---- the kernel as it is left
@@ -185,14 +204,11 @@ module _ {K : Type 0} (of : K → RecordKey → ℕ) (seat : ℕ) (slot : Option
     (view : old ≡ now) (whole : IsWhole old) (seated : IsSeat now.locks seat)
     (at_slot : slot ≡ slice_index_or old.seats (seat - 1) slot) (sound : old.failed ≡ false) (a : ActiveView)
     (there : slot ≡ Some a) (awake : is_some a.wait ≡ false) (kept : IsDrafted a.machine a.draft)
-    (m : CallView) (decided many : ℕ) (as_many : many ≡ length old.journal) (pool : PoolState)
-    (same : pool ≡ old.pool) (noted ended : CountsState) (has : AreSoundCounts noted)
-    (notes : Notes seat kinds.Grant true false false old.searches noted) (ends : Bool)
-    (over : Notes seat kinds.Look false false ends noted ended) where
-  abbrev left : Table → KernelState K
-  left locks = record old {
+    (m : CallView) (decided many : ℕ) (as_many : many ≡ length old.journal) (pool : PoolState) (ended : CountsState)
+    (still : AreSoundCounts ended) (notes : NotesSearch seat old.searches ended) where
+  abbrev left : KernelState K
+  left = record old {
     pool = pool;
-    locks = locks;
     seats = slice_set old.seats (seat - 1) (Some (record a { machine = m; decided = decided }));
     searches = ended;
   }
@@ -212,22 +228,16 @@ module _ {K : Type 0} (of : K → RecordKey → ℕ) (seat : ℕ) (slot : Option
     wait = None;
   }
 
-  left_by : (n : ℕ) (locks : Table) → decided ≡ decided_by (conclusion_of a.machine) many a.decided →
+  left_by : (n : ℕ) → decided ≡ decided_by (conclusion_of a.machine) many a.decided →
       MadeAtOnce of seat n old (record old {
-        pool = old.pool;
-        locks = locks;
+        pool = pool;
         seats = with_call old.seats seat (Some come);
         searches = ended;
-      }) → MadeAtOnce of seat n now (left locks)
-  left_by n locks marked made =
-      subst (λ (k : KernelState K). MadeAtOnce of seat n k (left locks)) view
-      (subst (λ (p : PoolState). MadeAtOnce of seat n old (record old {
-        pool = p;
-        locks = locks;
-        seats = slice_set old.seats (seat - 1) (Some (record a { machine = m; decided = decided }));
-        searches = ended;
-      })) (sym same) (subst (λ (xs : Seats). MadeAtOnce of seat n old
-      (record old { locks = locks; seats = xs; searches = ended })) (sym seats_are) made))
+      }) → MadeAtOnce of seat n now left
+  left_by n marked made =
+      subst (λ (k : KernelState K). MadeAtOnce of seat n k left) view
+      (subst (λ (xs : Seats). MadeAtOnce of seat n old
+      (record old { pool = pool; seats = xs; searches = ended })) (sym seats_are) made)
     where
       come_is : record a { machine = m; decided = decided } ≡ come
       come_is = ap (λ (k : ℕ). record a { machine = m; decided = k })
@@ -240,25 +250,27 @@ module _ {K : Type 0} (of : K → RecordKey → ℕ) (seat : ℕ) (slot : Option
           ∙ ap (λ (b : ActiveView). with_call old.seats seat (Some b)) come_is
 
   -- by a question that was asked so
-  pub asked_at_once : AreSoundCounts ended → ends ≡ true → decided ≡ many → is_undecided a.machine.stage ≡ true →
+  pub asked_at_once : pool ≡ old.pool → decided ≡ many → is_undecided a.machine.stage ≡ true →
       ((stopped : Bool) →
       AsksAtOnce (MakesCall (of old.keys) seat stopped) is_searching seat a.machine m old.pool old.locks) →
-      MadeAtOnce of seat 7 now (left old.locks)
-  asked_at_once still ends_is marked undecided asks =
-      left_by 7 old.locks (marked ∙ ap (λ (c : Option Conclusion). decided_by c many a.decided)
+      MadeAtOnce of seat 7 now left
+  asked_at_once same marked undecided asks =
+      left_by 7 (marked ∙ ap (λ (c : Option Conclusion). decided_by c many a.decided)
       (sym (undecided_at a.machine.stage undecided)))
-      (seven_steps of seat old whole is sound a its_call (none_is a.wait awake) kept noted ended has notes ends over
-      still
-      m (asks old.stopped) ends_is)
+      (subst (λ (p : PoolState). MadeAtOnce of seat 7 old (record old {
+        pool = p;
+        seats = with_call old.seats seat (Some come);
+        searches = ended;
+      })) (sym same)
+      (seven_steps of seat old whole is sound a its_call (none_is a.wait awake) kept ended still notes m
+      (asks old.stopped)))
 
-  -- by a write that went to its page so, by which its call is marked as by a step
-  pub reached_at_once : (locks : Table) → ends ≡ not (is_searching m) →
-      decided ≡ decided_by (conclusion_of m) many a.decided →
-      ((stopped : Bool) → ReachesAtOnce (MakesCall (of old.keys) seat stopped) seat a.machine m old.pool old.locks
-      locks) → MadeAtOnce of seat 6 now (left locks)
-  reached_at_once locks ends_is marked reaches =
-      let run = reaches old.stopped in
-      left_by 6 locks (marked ∙ ap (λ (c : Option Conclusion). decided_by c many a.decided)
-      (reached_far (of old.keys) seat old.stopped a.machine a.draft m old.pool old.locks locks run kept).come)
-      (six_steps of seat old whole is sound a its_call (none_is a.wait awake) kept noted ended has notes ends over m
-      locks run ends_is)
+  -- by a record that was written so
+  pub written_at_once : decided ≡ decided_by (conclusion_of a.machine) many a.decided →
+      ((stopped : Bool) →
+      WritesAtOnce (MakesCall (of old.keys) seat stopped) is_searching seat a.machine m old.pool pool old.locks) →
+      MadeAtOnce of seat 8 now left
+  written_at_once marked writes =
+      left_by 8 marked
+      (eight_steps of seat old whole is sound a its_call (none_is a.wait awake) kept ended still notes m pool
+      (writes old.stopped))

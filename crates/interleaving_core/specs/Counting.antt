@@ -43,6 +43,10 @@ unbegun_count = record { hops = 0; changes = 0; calm = true; over = true }
 abbrev pub begun_count : UnderWay → SearchCount
 begun_count u = record { hops = 0; changes = 0; calm = is_nothing u; over = false }
 
+-- that of a search which was answered at once, while this is under way
+abbrev pub answered_count : UnderWay → SearchCount
+answered_count u = record { hops = 0; changes = 0; calm = is_nothing u; over = true }
+
 -- after a step of any seat; that of a search which is over stays
 abbrev pub count_behind : Kind → UnderWay → SearchCount → SearchCount
 count_behind kind u c = record c {
@@ -121,3 +125,10 @@ pub record Notes (seat : ℕ) (kind : Kind) (begins goes_on ends : Bool) (old ne
       own_count begins goes_on ends new.under_way (count_behind kind new.under_way (count_at old.counts seat))
   pub others : (other : ℕ) → other ≢ seat →
       count_at new.counts other ≡ count_behind kind new.under_way (count_at old.counts other)
+
+-- a search of the seat begins by a Grant, and a page answers it by a Look; between them nothing is counted
+pub record NotesSearch (seat : ℕ) (old new : CountsState) : Type 0 where
+  pub begun : CountsState
+  pub sound : AreSoundCounts begun
+  pub begins : Notes seat kinds.Grant true false false old begun
+  pub ends : Notes seat kinds.Look false false true begun new

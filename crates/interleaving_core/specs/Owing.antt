@@ -70,6 +70,10 @@ lapsed steps.Idle = 0
 lapsed (steps.Fault (faults.File fault)) = 0
 lapsed (steps.Fault faults.NoRoom) = 1
 
+-- a fault of the file is told
+abbrev pub fault_told : FileFault → Step
+fault_told fault = steps.Fault (faults.File fault)
+
 abbrev pub failed : Step
 failed = steps.Fault (faults.File Failed)
 

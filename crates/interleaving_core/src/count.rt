@@ -1,7 +1,7 @@
 //! What is counted of one seat.
 
 ghost use Rattle.std.specs.Prelude.{◌≡◌};
-ghost use Rattle.interleaving_core.specs.Counting.{begun_count, count_behind, own_count, unbegun_count};
+ghost use Rattle.interleaving_core.specs.Counting.{answered_count, begun_count, count_behind, own_count, unbegun_count};
 
 use crate::under_way::UnderWay;
 use step_rules::Kind;
@@ -43,6 +43,19 @@ impl SearchCount {
             changes: 0,
             calm: under_way.is_nothing(),
             over: false,
+        }
+    }
+
+    /// Of a search that a page has answered, with no hop and no step of another seat, while this is
+    /// under way.
+    pub(crate) fn answered(under_way: UnderWay) -> SearchCount
+        ensures { result ≡ answered_count under_way }
+    {
+        SearchCount {
+            hops: 0,
+            changes: 0,
+            calm: under_way.is_nothing(),
+            over: true,
         }
     }
 

@@ -2,7 +2,7 @@
 
 ghost use Rattle.std.specs.Prelude.{◌≡◌, false, map, IfOk};
 ghost use Rattle.interleaving_core.specs.Counting.{changes_counts, count_at, count_behind, counts_for_all, opened_counts, touches_all};
-ghost use Rattle.interleaving_core.specs.Counting.{AreSoundCounts, IsCountedSeat, Notes};
+ghost use Rattle.interleaving_core.specs.Counting.{AreSoundCounts, IsCountedSeat, Notes, NotesSearch};
 ghost use Rattle.step_rules.specs.declared.kind.Kind.{Kind};
 
 use crate::count::SearchCount;
@@ -80,6 +80,16 @@ impl SearchCounts {
         } else {
             self.count_own(seat, begins, goes_on, ends);
         }
+    }
+
+    /// A search of a seat has begun by a Grant, and a page has answered it by a Look, with no step of
+    /// another seat between.
+    pub fn note_search(&mut self, seat: u8)
+        requires { IsCountedSeat self.old.counts seat }
+        ensures { NotesSearch seat self.old self.new }
+    {
+        let place = seat as usize - 1;
+        self.counts[place] = SearchCount::answered(self.under_way);
     }
 
     /// Whether a step may change a count.

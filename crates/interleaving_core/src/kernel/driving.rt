@@ -1,14 +1,13 @@
 //! A seat is stepped until its call does not move.
 
-ghost use Rattle.std.specs.Prelude.{◌≡◌, ◌≤◌, false, true};
-ghost use Rattle.interleaving_core.specs.Driving.{IsDriven, Moves};
-ghost use Rattle.interleaving_core.specs.Owing.{IsMove, IsRun, answer_told};
+ghost use Rattle.std.specs.Prelude.{◌≡◌, ◌≤◌, IfErr, IfOk, false, true};
+ghost use Rattle.interleaving_core.specs.Driving.{IsDriven, IsStep, Moves};
+ghost use Rattle.interleaving_core.specs.Owing.{IsMove, IsRun, answer_told, fault_told};
 ghost use Rattle.interleaving_core.specs.Words.{IsSeat};
 
 use crate::active::decided_by;
 use crate::fault::{Failure, StepFault};
 use crate::kernel::{Kernel, MOST_STEPS};
-use crate::searches::ends_search;
 use crate::step::Step;
 use bucket_page::PseudoKey;
 use file_pages::FileFault;
@@ -18,14 +17,13 @@ use step_rules::Kind;
 /// The steps of a question that is asked in one go.
 const QUESTION_STEPS: u32 = 7;
 
-/// The steps by which a write goes to its page in one go.
-const WRITE_STEPS: u32 = 6;
+/// The steps of a write that is made in one go.
+const WRITE_STEPS: u32 = 8;
 
 impl<D: PageDevice + Drop, K: PseudoKey + Drop> Kernel<D, K> {
     /// Steps a seat until its call does not move: it is answered, waits, is blocked, meets a fault,
     /// or there is none. A call that still moves after `MOST_STEPS` fails the kernel. The steps of a
-    /// question in whose way nothing stands are made in one go, and those by which a write goes to
-    /// its page.
+    /// question in whose way nothing stands are made in one go, and so are those of a write.
     pub fn drive(&mut self, seat: u8) -> Step
         requires { IsSeat self.old.locks seat }
         ensures run { IsRun seat (answer_told result) self.old self.new }
@@ -42,11 +40,13 @@ impl<D: PageDevice + Drop, K: PseudoKey + Drop> Kernel<D, K> {
                     moves += QUESTION_STEPS;
                     continue;
                 }
-                if self.reach(seat, MOST_STEPS - moves) {
-                    moves += WRITE_STEPS;
-                    // The write itself comes next.
-                    may_go_ahead = false;
-                    continue;
+                match self.write_through(seat, MOST_STEPS - moves) {
+                    Ok(true) => {
+                        moves += WRITE_STEPS;
+                        continue;
+                    }
+                    Ok(false) => {}
+                    Err(fault) => return Step::Fault(StepFault::File(fault)),
                 }
             }
             match self.step(seat) {
@@ -95,51 +95,55 @@ impl<D: PageDevice + Drop, K: PseudoKey + Drop> Kernel<D, K> {
             return false;
         }
         active.decided = self.journal.len();
-        self.searches.are_sound();
-        self.searches.note(seat, Kind::Grant, true, false, false);
-        self.searches.are_sound();
-        self.searches.note(seat, Kind::Look, false, false, true);
+        self.searches.note_search(seat);
         self.searches.are_sound();
         true
     }
 
-    /// All steps by which the next write of the seat's call goes to its page, in one go, where so
-    /// many steps may be made, the seat was not told that it waits, and it can go so
-    /// (`CallMachine::reach`). Else nothing is done, and it is left to `step`. They are counted as
-    /// those of `skip`.
-    fn reach(&mut self, seat: u8, most: u32) -> bool
+    /// All steps of the next write of the seat's call, in one go, where so many steps may be made,
+    /// the seat was not told that it waits, and it can be made so (`CallMachine::write_through`).
+    /// Else nothing is done, it tells false, and it is left to `step`. They are counted as those of
+    /// `skip`. A fault is that of a step of the seat, by which the kernel has failed.
+    fn write_through(&mut self, seat: u8, most: u32) -> Result<bool, FileFault>
         requires { IsSeat self.old.locks seat }
-        ensures made { result ≡ true →
-            Moves (K.of_key self.old.keys) seat WRITE_STEPS self.old self.new }
-        ensures few { result ≡ true → WRITE_STEPS ≤ most }
-        ensures spares { result ≡ false → self.new ≡ self.old }
+        ensures made { IfOk result (λ made. made ≡ true →
+            Moves (K.of_key self.old.keys) seat WRITE_STEPS self.old self.new) }
+        ensures few { IfOk result (λ made. made ≡ true → WRITE_STEPS ≤ most) }
+        ensures spares { IfOk result (λ made. made ≡ false → self.new ≡ self.old) }
+        ensures failed { IfErr result (λ fault.
+            IsStep (K.of_key self.old.keys) seat (fault_told fault) self.old self.new) }
     {
         if most < WRITE_STEPS {
-            return false;
+            return Ok(false);
         }
         if self.failure.is_some() {
-            return false;
+            return Ok(false);
         }
         let place = seat as usize - 1;
         let Some(active) = self.seats[place].under_way() else {
-            return false;
+            return Ok(false);
         };
         if active.wait.is_some() {
-            return false;
+            return Ok(false);
         }
-        if !active
+        let decided = decided_by(&active.machine, self.journal.len(), active.decided);
+        match active
             .machine
-            .reach(&mut self.pool, &mut self.locks, &self.keys, seat)
+            .write_through(&mut self.pool, &self.locks, &self.keys, seat)
         {
-            return false;
+            Ok(true) => {
+                active.decided = decided;
+                self.searches.note_search(seat);
+                self.searches.are_sound();
+                Ok(true)
+            }
+            Ok(false) => Ok(false),
+            Err(fault) => {
+                active.decided = decided;
+                self.failure = Some(Failure { seat, fault });
+                Err(fault)
+            }
         }
-        active.decided = decided_by(&active.machine, self.journal.len(), active.decided);
-        let ends = ends_search(Kind::Look, &active.machine);
-        self.searches.are_sound();
-        self.searches.note(seat, Kind::Grant, true, false, false);
-        self.searches.are_sound();
-        self.searches.note(seat, Kind::Look, false, false, ends);
-        true
     }
 }
 

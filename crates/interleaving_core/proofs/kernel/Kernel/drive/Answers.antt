@@ -1,7 +1,7 @@
--- Each step goes on from those before it, each of which moved; so do those of a question, and of a write on its way.
+-- Each step goes on from those before it, each of which moved; so do those of a question, and of a write.
 use Rattle.std.proofs.Common.{◌≡◌, ◌<◌, ◌∙◌, ap, sym, subst, true, None, arith}
 use Rattle.interleaving_core.specs.Kernel.{KernelState}
-use Rattle.interleaving_core.specs.Owing.{failed, failure_by}
+use Rattle.interleaving_core.specs.Owing.{failed, failure_by, fault_told}
 use Rattle.interleaving_core.specs.Words.{IsSeat}
 use Rattle.interleaving_core.specs.declared.kernel.TheConstants.{MOST_STEPS}
 use Rattle.interleaving_core.specs.declared.kernel.driving.TheConstants.{QUESTION_STEPS, WRITE_STEPS}
@@ -17,8 +17,8 @@ has_moved : (g : given.Over) (c : After-step g) →
     c.if-may_go_ahead.self
 has_moved g c =
     let same : c.if-may_go_ahead.self ≡ c.loop-moves.self = elim c.if-may_go_ahead.branch [
-      | goal.then-may_go_ahead+else-skip+else-reach w ↦
-          w.self-is ∙ w.reach.ensures.spares w.if-reach.false
+      | goal.then-may_go_ahead+else-skip+in-Ok-false w ↦
+          w.self-is ∙ w.in-Ok-false.ensures.spares w.in-Ok-false.field-0-test
           ∙ w.skip.ensures.spares w.if-skip.false
       | goal.else-may_go_ahead w ↦ w.self-is
     ] in
@@ -50,34 +50,49 @@ loop-moves-preserved-then-skip g c =
           c.loop-moves.invariant.moved QUESTION_STEPS c.skip.new.self (c.skip.ensures.made c.if-skip.true);
     }
 
-pub reach-requires : goal.reach-requires
-reach-requires g c =
+pub write_through-requires : goal.write_through-requires
+write_through-requires g c =
     subst (λ (k : KernelState g.row.K.Denot). IsSeat k.locks c.args.seat) (sym (c.skip.ensures.spares c.if-skip.false))
     c.loop-moves.invariant.moved.seated
 
-pub overflow_add-moves-then-reach : goal.overflow_add-moves-then-reach
-overflow_add-moves-then-reach g c =
+pub overflow_add-moves-in-Ok-true : goal.overflow_add-moves-in-Ok-true
+overflow_add-moves-in-Ok-true g c =
     let few = c.loop-moves.invariant.few in
-    let room = c.reach.ensures.few c.if-reach.true in
+    let room = c.in-Ok-true.ensures.few c.in-Ok-true.field-0-test in
     omega (arith, few, room)
 
-pub loop-moves-preserved-then-reach : goal.loop-moves-preserved-then-reach
-loop-moves-preserved-then-reach g c =
+pub loop-moves-preserved-in-Ok-true : goal.loop-moves-preserved-in-Ok-true
+loop-moves-preserved-in-Ok-true g c =
     let test = c.loop-moves-test.true in
-    let room = c.reach.ensures.few c.if-reach.true in
+    let room = c.in-Ok-true.ensures.few c.in-Ok-true.field-0-test in
     let so_far = subst (λ (k : KernelState g.row.K.Denot). HasMoved g.K.PseudoKey.of_key c.args.seat
     c.loop-moves.moves c.args.self.now k) (sym (c.skip.ensures.spares c.if-skip.false)) c.loop-moves.invariant.moved in
     record {
       few = omega (arith, test, room);
       moved = moves_after g.K.PseudoKey.of_key c.args.seat c.loop-moves.moves c.args.self.now c.skip.new.self so_far
-          WRITE_STEPS c.reach.new.self (c.reach.ensures.made c.if-reach.true);
+          WRITE_STEPS c.write_through.new.self (c.in-Ok-true.ensures.made c.in-Ok-true.field-0-test);
+    }
+
+-- the file has failed at a write
+pub returns-in-Err : goal.returns-in-Err
+returns-in-Err g c =
+    let test = c.loop-moves-test.true in
+    let few : c.loop-moves.moves < MOST_STEPS = omega (arith, test) in
+    let so_far = subst (λ (k : KernelState g.row.K.Denot). HasMoved g.K.PseudoKey.of_key c.args.seat
+    c.loop-moves.moves c.args.self.now k) (sym (c.skip.ensures.spares c.if-skip.false)) c.loop-moves.invariant.moved in
+    record {
+      run = runs_on c.args.seat (fault_told c.in-Err.fault) c.args.self.now c.skip.new.self c.write_through.new.self
+          so_far.run c.in-Err.ensures.failed.turn;
+      rests = λ moves. moves;
+      driven = rests_at g.K.PseudoKey.of_key c.args.seat c.loop-moves.moves c.args.self.now c.skip.new.self so_far
+          (fault_told c.in-Err.fault) c.write_through.new.self c.in-Err.ensures.failed few (λ moves. moves);
     }
 
 pub step-requires : goal.step-requires
 step-requires g c =
     let same : c.if-may_go_ahead.self ≡ c.loop-moves.self = elim c.if-may_go_ahead.branch [
-      | goal.then-may_go_ahead+else-skip+else-reach w ↦
-          w.self-is ∙ w.reach.ensures.spares w.if-reach.false
+      | goal.then-may_go_ahead+else-skip+in-Ok-false w ↦
+          w.self-is ∙ w.in-Ok-false.ensures.spares w.in-Ok-false.field-0-test
           ∙ w.skip.ensures.spares w.if-skip.false
       | goal.else-may_go_ahead w ↦ w.self-is
     ] in

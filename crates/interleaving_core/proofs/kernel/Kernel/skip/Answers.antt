@@ -1,5 +1,5 @@
 -- The moves of a question are so many steps of its seat.
-use Rattle.std.proofs.Common.{rules, ◌≡◌, ◌∙◌, refl, sym, true, false, length}
+use Rattle.std.proofs.Common.{rules, ◌≡◌, ◌∙◌, refl, sym, false, length}
 use Rattle.std.specs.Vec.{vec_len}
 use Rattle.interleaving_core.proofs.AtOnceLemmas.{asked_far, kept_still}
 use Rattle.interleaving_core.proofs.LentLemmas.{row_there}
@@ -28,9 +28,8 @@ invariant_of-self-2 g c =
     (lent_there _ _ _ _ c.under_way.ensures.value c.in-Some.is c.active.view_is)
     (sym c.is_some-2.ensures ∙ c.if-is_some-2.false) c.active.invariant.drafted c.skip.new.self
     c.len-active-inside.result c.len-active-inside.result (c.len-active-inside.ensures ∙ many) c.skip.new.pool
-    c.skip.ensures.pool c.note.new.self c.note-2.new.self c.are_sound-2.ensures c.note.ensures true c.note-2.ensures
-    c.are_sound-3.ensures refl refl (c.skip.ensures.undecided c.if-not-skip.false)
-    (c.skip.ensures.made c.if-not-skip.false)).whole
+    c.note_search.new.self c.are_sound.ensures c.note_search.ensures c.skip.ensures.pool refl
+    (c.skip.ensures.undecided c.if-not-skip.false) (c.skip.ensures.made c.if-not-skip.false)).whole
 
 pub returns-clause-made : goal.returns-clause-made
 returns-clause-made g c = λ made.
@@ -40,6 +39,5 @@ returns-clause-made g c = λ made.
     (lent_there _ _ _ _ c.under_way.ensures.value c.in-Some.is c.active.view_is)
     (sym c.is_some-2.ensures ∙ c.if-is_some-2.false) c.active.invariant.drafted c.skip.new.self
     c.len-active-inside.result c.len-active-inside.result (c.len-active-inside.ensures ∙ many) c.skip.new.pool
-    c.skip.ensures.pool c.note.new.self c.note-2.new.self c.are_sound-2.ensures c.note.ensures true c.note-2.ensures
-    c.are_sound-3.ensures refl refl (c.skip.ensures.undecided c.if-not-skip.false)
-    (c.skip.ensures.made c.if-not-skip.false)).moves
+    c.note_search.new.self c.are_sound.ensures c.note_search.ensures c.skip.ensures.pool refl
+    (c.skip.ensures.undecided c.if-not-skip.false) (c.skip.ensures.made c.if-not-skip.false)).moves
