@@ -15,12 +15,11 @@ use page_device::PageDevice;
 use page_locks::LockTable;
 
 impl Access {
-    /// All steps of a write, in one go, up to the Release of its page. It makes them where it has
-    /// not begun and its pages are in frames, where the page that the directory names has the
-    /// pseudokey and what it writes can stand there, where nobody stands in its way, and where
-    /// nothing more is due behind it. Else it tells false, nothing is done, and it is left to
-    /// `step`. The lock of the page is never taken, since nobody else steps in between. A fault is
-    /// that of the write, by which no page has changed; the access is what it was.
+    /// All steps of a write, in one go, up to the Release of its page: where it has not begun, its
+    /// pages are in frames, the page that the directory names has the pseudokey and what it writes
+    /// can stand there, nobody stands in its way, and nothing more is due behind it. Else nothing is
+    /// done, it tells false, and it is left to `step`. The lock of the page is never taken, since
+    /// nobody else steps in between. A fault is that of the write; the access is what it was then.
     pub fn write_through<D: PageDevice>(
         &mut self,
         pool: &mut Pool<D>,

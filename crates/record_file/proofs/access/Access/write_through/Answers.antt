@@ -42,9 +42,7 @@ returns-clause-made g c = λ made.
     let found = c.in-Some-2.found in
     let way = c.in-Some-heads_for.ensures in
     let on = subst (λ (v : AccessView). IsBucketOf b v.operation) c.self.view_is c.in-Some.ensures in
-    let lent : MayBeLent (length c.self.inside.value) old.operation =
-    subst (λ (v : AccessView). MayBeLent (length c.self.inside.value) v.operation) c.self.view_is
-    c.self.invariant.lent in
+    let lent = subst (λ (v : AccessView). MayBeLent (length c.self.inside.value) v.operation) c.self.view_is c.self.invariant.lent in
     let done = subst (λ (p : PoolState). WritesThere page found p pool' old mid) c.heads_for.ensures.pool
     (subst (λ (r : Option (Option ℕ)). IfSome r (λ (f : Option ℕ).
     WritesThere page f c.heads_for.new.pool pool' old mid)) c.in-Some-2.is c.in_ok-found.ensures.made) in
