@@ -3,20 +3,22 @@ use Rattle.std.proofs.Common.{arith, ℕ, ◌≡◌, ◌≤◌, refl, sym, subst
 use Rattle.std.specs.Option.{is_some}
 use Rattle.queue_model.specs.declared.answer.Answer.{Answer}
 use Rattle.queue_model.specs.declared.call.Call.{Call}
+use Rattle.queue_model.specs.declared.caller.Caller.{Caller}
 use Rattle.session.specs.Session.{SessionState}
 use Rattle.session.specs.Words.{IsFaultNumber, OpenFault, open_number_of}
 use Rattle.session.specs.declared.unanswered.Unanswered.{Unanswered}
 use Rattle.session.specs.declared.unanswered.Unanswered.TheVariants as unanswered
 use Rattle.session.proofs.FaultLemmas.{fault_numbers}
 use Rattle.msgq_c.specs.Codes.{code_of}
-use Rattle.msgq_c.specs.Files.{HasOpened, IsKept, Keeps}
+use Rattle.msgq_c.specs.Files.{HasOpened, IsFor, IsKept, Keeps}
 use Rattle.msgq_c.specs.Held.{KeptSession}
 use Rattle.msgq_c.specs.Serving.{Answers, Serves}
 use Rattle.msgq_c.specs.declared.codes.TheConstants.{DONE, NO_MEMORY}
+use Rattle.msgq_c.specs.declared.kept.Kept.{Kept}
 
 -- ---- it is opened
 
-in_handle : (Is : SessionState → Type 0) (code : ℕ) (k : SessionState) (after : KeptSession) → Is k → code ≡ DONE →
+in_handle : (Is : Kept → Type 0) (code : ℕ) (k : Kept) (after : KeptSession) → Is k → code ≡ DONE →
     after ≡ Some k → HasOpened Is code after
 in_handle Is code k after is done kept = record {
   kept = λ _. (k, kept, is);
@@ -24,7 +26,7 @@ in_handle Is code k after is done kept = record {
   fault = λ not. absurd (not done);
 }
 
-not_in : (Is : SessionState → Type 0) (code : ℕ) (after : KeptSession) → IsFaultNumber code → after ≡ None →
+not_in : (Is : Kept → Type 0) (code : ℕ) (after : KeptSession) → IsFaultNumber code → after ≡ None →
     HasOpened Is code after
 not_in Is code after number none = record {
   kept = λ (done : code ≡ 0).
@@ -34,16 +36,19 @@ not_in Is code after number none = record {
   fault = λ _. number;
 }
 
-pub opened_so : (Is : SessionState → Type 0) (opened : Result SessionState OpenFault) (code : ℕ) (after : KeptSession) →
-    IfOk opened Is → IsKept opened code after → HasOpened Is code after
-opened_so Is (Ok k) code after is (inl (done, kept)) = in_handle Is code k after is done kept
-opened_so Is (Ok k) code after is (inr (code_is, none)) =
-    not_in Is code after (subst IsFaultNumber (sym code_is) (record { least = omega arith; most = omega arith })) none
-opened_so Is (Err fault) code after is (code_is, none) =
-    not_in Is code after (subst IsFaultNumber (sym code_is) (fault_numbers fault)) none
+pub opened_so : (Is : SessionState → Type 0) (caller : Caller) (opened : Result SessionState OpenFault) (code : ℕ)
+    (after : KeptSession) → IfOk opened Is → IsKept caller opened code after → HasOpened (IsFor Is caller) code after
+opened_so Is caller (Ok k) code after is (inl (done, kept)) =
+    in_handle (IsFor Is caller) code (record { session = k; caller = caller }) after
+    (record { is = is; caller_is = refl }) done kept
+opened_so Is caller (Ok k) code after is (inr (code_is, none)) =
+    not_in (IsFor Is caller) code after
+    (subst IsFaultNumber (sym code_is) (record { least = omega arith; most = omega arith })) none
+opened_so Is caller (Err fault) code after is (code_is, none) =
+    not_in (IsFor Is caller) code after (subst IsFaultNumber (sym code_is) (fault_numbers fault)) none
 
 -- in a handle that had none
-pub opened_in : (Is : SessionState → Type 0) (is_open : Bool) (code : ℕ) (old after : KeptSession) →
+pub opened_in : (Is : Kept → Type 0) (is_open : Bool) (code : ℕ) (old after : KeptSession) →
     is_open ≡ is_some old → is_open ≡ false → HasOpened Is code after → Keeps Is code old after
 opened_in Is is_open code None after agrees closed opened = opened
 opened_in Is is_open code (Some k) after agrees closed opened = absurd (let clash : true ≡ false = cc in cc)
@@ -58,7 +63,7 @@ served call Tells came code (Some old) after made is tells = record {
   new = made.new;
   after_is = made.after_is;
   result = came;
-  calls = made.calls;
+  makes = made.makes;
   code_is = is;
   tells = tells;
 }
@@ -71,7 +76,7 @@ not_made call Tells (Some k) some = record {
   new = k;
   after_is = refl;
   result = Err unanswered.NoMemory;
-  calls = record { becomes = λ s holds. holds; caller = refl; saved = refl };
+  makes = record { becomes = λ s holds. holds; keeps = record { caller = refl; saved = refl } };
   code_is = refl;
   tells = λ answer is. absurd cc;
 }

@@ -2,10 +2,11 @@
 
 ghost use Rattle.std.specs.Prelude.{◌≡◌, IsNone};
 ghost use Rattle.session.specs.Words.{CanHavePages};
-ghost use Rattle.msgq_c.specs.Files.{Closes, CopiesPage, Counts, Creates, HasNoSuchSize, IsKept, NotesHandle, OpensHandle, StopsHandle, TellsNextPage, caller_of};
+ghost use Rattle.msgq_c.specs.Files.{Closes, CopiesPage, Counts, Creates, HasNoSuchSize, IsKept, NotesHandle, OpensHandle, RemakesHandle, StopsHandle, TellsNextPage, caller_of};
 
-use crate::codes::{DONE, FAILED, IN_USE, NO_MEMORY, NO_PAGE, NO_SESSION};
+use crate::codes::{DONE, FAILED, FOREIGN, IN_USE, NO_MEMORY, NO_PAGE, NO_SESSION};
 use crate::handle::Handle;
+use crate::kept::{Kept, Unmade};
 use session::queue_model::Caller;
 use session::{LEAST_PAGES, MAX_PAGES, OpenFault, PAGE_BYTES, Session};
 use std::alloc::Global;
@@ -36,7 +37,8 @@ pub extern "C" fn msgq_session_open(
     if handle.is_open {
         return IN_USE;
     }
-    keep(alloc, handle, Session::open(alloc, bytes, owner.caller()))
+    let caller = owner.caller();
+    keep(alloc, handle, caller, Session::open(alloc, bytes, caller))
 }
 
 /// Opens a new file of so many pages.
@@ -58,7 +60,8 @@ pub extern "C" fn msgq_session_create(
     if pages < LEAST_PAGES || MAX_PAGES < pages {
         return NO_PAGE;
     }
-    keep(alloc, handle, Session::create(alloc, pages, owner.caller()))
+    let caller = owner.caller();
+    keep(alloc, handle, caller, Session::create(alloc, pages, caller))
 }
 
 /// How many pages the file has.
@@ -69,9 +72,9 @@ pub extern "C" fn msgq_session_pages(alloc: Global, handle: &mut Handle, pages: 
     if !handle.is_open {
         return NO_SESSION;
     }
-    let session = handle.take(alloc);
-    *pages = session.pages();
-    handle.put(session);
+    let kept = handle.take(alloc);
+    *pages = kept.session.pages();
+    handle.put(kept);
     DONE
 }
 
@@ -88,13 +91,13 @@ pub extern "C" fn msgq_session_page(
     if !handle.is_open {
         return NO_SESSION;
     }
-    let mut session = handle.take(alloc);
-    if page >= session.pages() {
-        handle.put(session);
+    let mut kept = handle.take(alloc);
+    if page >= kept.session.pages() {
+        handle.put(kept);
         return NO_PAGE;
     }
-    let given = session.page(page);
-    handle.put(session);
+    let given = kept.session.page(page);
+    handle.put(kept);
     match given {
         Some(bytes) => {
             *into = bytes;
@@ -118,9 +121,9 @@ pub extern "C" fn msgq_session_next_changed(
     if !handle.is_open {
         return NO_SESSION;
     }
-    let session = handle.take(alloc);
-    let told = session.next_changed(from);
-    handle.put(session);
+    let kept = handle.take(alloc);
+    let told = kept.session.next_changed(from);
+    handle.put(kept);
     match told {
         Some(next) => {
             *page = next;
@@ -139,10 +142,30 @@ pub extern "C" fn msgq_session_note_saved(alloc: Global, handle: &mut Handle) ->
     if !handle.is_open {
         return NO_SESSION;
     }
-    let mut session = handle.take(alloc);
-    let is_saved = session.note_saved();
-    handle.put(session);
+    let mut kept = handle.take(alloc);
+    let is_saved = kept.session.note_saved();
+    handle.put(kept);
     if is_saved { DONE } else { FAILED }
+}
+
+/// Makes the calls again of an addition to the journal of the file, which a server had answered. Where
+/// one of them is not answered as it was, or there is no memory, the session is let go.
+#[unsafe(no_mangle)]
+pub extern "C" fn msgq_session_remake(alloc: Global, handle: &mut Handle, calls: &[u8]) -> u32
+    ensures { RemakesHandle calls.now result handle.old.held.session handle.new.held.session }
+{
+    if !handle.is_open {
+        return NO_SESSION;
+    }
+    let mut kept = handle.take(alloc);
+    match kept.make_all(alloc, calls) {
+        Ok(()) => {
+            handle.put(kept);
+            DONE
+        }
+        Err(Unmade::Foreign) => FOREIGN,
+        Err(Unmade::NoMemory) => NO_MEMORY,
+    }
 }
 
 /// Stops the system: from here on a call that would wait is refused.
@@ -153,9 +176,9 @@ pub extern "C" fn msgq_session_stop(alloc: Global, handle: &mut Handle) -> u32
     if !handle.is_open {
         return NO_SESSION;
     }
-    let mut session = handle.take(alloc);
-    session.stop();
-    handle.put(session);
+    let mut kept = handle.take(alloc);
+    kept.session.stop();
+    handle.put(kept);
     DONE
 }
 
@@ -179,15 +202,20 @@ pub extern "C" fn msgq_session_handle_size() -> usize
     size_of::<Handle>()
 }
 
-/// Puts a session that was opened into its handle.
-fn keep(alloc: Global, handle: &mut Handle, opened: Result<Session, OpenFault>) -> u32
+/// Puts a session that was opened for a caller into its handle.
+fn keep(
+    alloc: Global,
+    handle: &mut Handle,
+    caller: Caller,
+    opened: Result<Session, OpenFault>,
+) -> u32
     requires { IsNone handle.old.held.session }
-    ensures { IsKept opened result handle.new.held.session }
+    ensures { IsKept caller opened result handle.new.held.session }
 {
     match opened {
-        Ok(session) => match Box::new(alloc, session) {
-            Ok(session) => {
-                handle.put(session);
+        Ok(session) => match Box::new(alloc, Kept { session, caller }) {
+            Ok(kept) => {
+                handle.put(kept);
                 DONE
             }
             Err(_) => NO_MEMORY,

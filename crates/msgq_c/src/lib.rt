@@ -9,6 +9,7 @@ mod digest;
 mod files;
 mod handle;
 mod held;
+mod kept;
 mod serving;
 mod telling;
 
@@ -21,7 +22,7 @@ pub use digest::msgq_session_digest;
 pub use files::{
     Owner, msgq_session_close, msgq_session_create, msgq_session_handle_size,
     msgq_session_next_changed, msgq_session_note_saved, msgq_session_open, msgq_session_page,
-    msgq_session_pages, msgq_session_stop,
+    msgq_session_pages, msgq_session_remake, msgq_session_stop,
 };
 pub use handle::Handle;
 pub use telling::{Got, Info};
