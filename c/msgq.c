@@ -62,6 +62,8 @@ static int open_session(struct opened_file *it) {
     if ((wrong = error_of(code)) == EBADMSG)
         tell_fault(code, bytes, count);
     free(bytes);
+    if (wrong == 0 && (wrong = pair_bring_in(&it->pair, &it->session)) != 0)
+        (void)msgq_session_close(&it->session);
     return wrong;
 }
 

@@ -84,7 +84,7 @@ int msgq_create(const char *path, uint32_t pages);
 
 /* Opens a file, which is checked whole. EBUSY where a process has it open to change it, be it `msgq run` or this library;
  * EBADMSG where something is wrong with it (msgq_last_fault); ENOMEM; or what the system says. What a process that was
- * killed while it saved has left is undone first. */
+ * killed while it saved has left is undone first, and the calls that a server had answered which was killed are brought into it. */
 int msgq_open(const char *path, msgq **queues);
 
 /* The same, but waits while another process has the file open, or this one: without end where limit is NULL, else for so long at

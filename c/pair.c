@@ -77,13 +77,13 @@ int pair_open(struct pair *pair, const char *path) {
     /* More than one that moves the file has to come between, each time. */
     enum { MOST_TRIES = 100 };
     int wrong = ESTALE;
-    *pair = (struct pair){NOT_OPENED, NOT_OPENED};
+    *pair = (struct pair){.file = NOT_OPENED, .journal = NOT_OPENED};
     for (int tries = 0; wrong == ESTALE && tries < MOST_TRIES; tries++) {
         pair_close(pair);
         wrong = open_both(pair, path);
     }
     if (wrong == 0)
-        wrong = journal_recover(&pair->file, &pair->journal);
+        wrong = journal_recover(&pair->file, &pair->journal, &pair->noted);
     if (wrong != 0)
         pair_close(pair);
     return wrong;
@@ -166,8 +166,9 @@ static int test_both(const struct pair *pair) {
     return wrong == 0 ? 0 : why(wrong, "the program has closed its descriptor");
 }
 
-int pair_save(const struct pair *pair, struct handle *session) {
+int pair_save(struct pair *pair, struct handle *session) {
     struct journal journal = {.file = &pair->journal};
+    journal_go_on(&journal, &pair->noted);
     int wrong = test_both(pair);
     if (wrong == 0)
         wrong = each_changed(pair, session, journal_page, &journal);
@@ -179,7 +180,17 @@ int pair_save(const struct pair *pair, struct handle *session) {
         || (wrong = sync_bytes(&pair->file)) != 0
         || (wrong = journal_end(&journal)) != 0)
         return wrong;
+    pair->noted.end = 0;
     return msgq_session_note_saved(session) == DONE ? 0 : EIO;
+}
+
+static int remake(void *session, const uint8_t *calls, size_t count) {
+    return error_of(msgq_session_remake(session, calls, count));
+}
+
+int pair_bring_in(struct pair *pair, struct handle *session) {
+    int wrong = noted_each(&pair->journal, &pair->noted, remake, session);
+    return wrong == 0 && pair->noted.end > 0 ? pair_save(pair, session) : wrong;
 }
 
 int pair_make(const char *path, struct handle *session) {
