@@ -93,6 +93,8 @@ void pair_close(struct pair *pair) {
     /* A child of this process may have what was locked open too: it would hold the lock as long as it lives. */
     if (pair->journal.file >= 0 && test_opened(&pair->journal) != EBADF)
         (void)flock(pair->journal.file, LOCK_UN);
+    free(pair->room);
+    pair->room = NULL;
     pair_leave(pair);
 }
 
@@ -131,13 +133,17 @@ static int each_changed(const struct pair *pair, struct handle *session,
     return wrong == 0 && code != NO_PAGE ? EIO : wrong;
 }
 
+/* How many pages the file has, and the digest with which its page 0 ends: that was checked when the session was opened, or was sealed by it. */
+static int know_file(const struct pair *pair, struct handle *session, uint32_t *pages, uint8_t *digest) {
+    if (msgq_session_pages(session, pages) != DONE)
+        return EIO;
+    return read_at(&pair->file, digest, DIGEST_BYTES, PAGE_BYTES - DIGEST_BYTES);
+}
+
 static int begin_journal(struct journal *journal, const struct pair *pair, struct handle *session) {
-    /* Page 0 was checked against it when the session was opened, or was sealed by it. */
     uint8_t digest[DIGEST_BYTES];
     uint32_t pages;
-    if (msgq_session_pages(session, &pages) != DONE)
-        return EIO;
-    int wrong = read_at(&pair->file, digest, sizeof digest, PAGE_BYTES - DIGEST_BYTES);
+    int wrong = know_file(pair, session, &pages, digest);
     return wrong != 0 ? wrong : journal_begin(journal, pages, digest);
 }
 
@@ -184,6 +190,33 @@ int pair_save(struct pair *pair, struct handle *session) {
     return msgq_session_note_saved(session) == DONE ? 0 : EIO;
 }
 
+/* ---- calls are noted */
+
+/* So many bytes of calls are noted at once, which a session keeps at most; and behind so many bytes of them in the journal pages are saved. */
+enum { MOST_NOTED = 1 << 20, MOST_IN_JOURNAL = 8 << 20 };
+
+static int note(struct pair *pair, struct handle *session, size_t count) {
+    uint8_t digest[DIGEST_BYTES];
+    uint32_t pages = 0;
+    int wrong = test_both(pair);
+    if (wrong != 0 || (pair->noted.end == 0 && (wrong = know_file(pair, session, &pages, digest)) != 0)
+        || (wrong = noted_add(&pair->journal, &pair->noted, pages, digest, pair->room, count)) != 0)
+        return wrong;
+    return msgq_session_end_notes(session) == DONE ? 0 : EIO;
+}
+
+int pair_note(struct pair *pair, struct handle *session) {
+    size_t count;
+    if (pair->room == NULL)
+        pair->room = malloc(BEFORE_CALLS + MOST_NOTED + BEHIND_CALLS);
+    if (pair->room == NULL || pair->noted.end > MOST_IN_JOURNAL
+        || msgq_session_notes(session, pair->room + BEFORE_CALLS, MOST_NOTED, &count) != DONE)
+        return pair_save(pair, session);
+    return count == 0 ? 0 : note(pair, session, count);
+}
+
+/* ---- calls are made again */
+
 static int remake(void *session, const uint8_t *calls, size_t count) {
     return error_of(msgq_session_remake(session, calls, count));
 }
@@ -192,6 +225,8 @@ int pair_bring_in(struct pair *pair, struct handle *session) {
     int wrong = noted_each(&pair->journal, &pair->noted, remake, session);
     return wrong == 0 && pair->noted.end > 0 ? pair_save(pair, session) : wrong;
 }
+
+/* ---- a file is made */
 
 int pair_make(const char *path, struct handle *session) {
     uint32_t pages;

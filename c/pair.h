@@ -7,6 +7,7 @@
 struct pair {
     struct opened file, journal;
     struct noted noted; /* the calls that stand in the journal */
+    uint8_t *room;      /* in which calls are noted, once some were */
 };
 
 /* Opens both, locks the journal and undoes what a save that was cut off has left. EBUSY where another has them. */
@@ -22,6 +23,10 @@ int pair_bring_in(struct pair *pair, struct handle *session);
 /* Writes the pages of a session that have changed since it was opened from the file, or last saved to it, which ends the calls in the
  * journal. */
 int pair_save(struct pair *pair, struct handle *session);
+
+/* Brings what calls have changed to where it outlasts a crash: they are noted in the journal, or saved where the session wants that, the
+ * journal is long, or there is no memory. Where it fails the file is to be opened anew. */
+int pair_note(struct pair *pair, struct handle *session);
 
 /* Unlocks and closes both, for the process that opened them. */
 void pair_close(struct pair *pair);

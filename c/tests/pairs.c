@@ -1,9 +1,9 @@
 /* Opens a file by c/pair.c, over a stand-in for the session that has its pages in memory, and does what words say:
  *     pairs FILE [WORD ..]
  * `like` takes the pages of the file of that name, as many as FILE has, and saves them; `7=1` makes a call, which fills page 7 with ones;
- * `save` saves, and `state` writes the pages that the session has to the file of that name. Without a word FILE is opened, so that what a
- * save has left is undone; else the calls of its journal are brought in, of five bytes each: a page, and what fills it. Ends with status 0, or with 1 and the number of
- * the error. */
+ * `save` saves, `note` notes, `due` has the next note save, and `state` writes the pages that the session has to the file of that name.
+ * Without a word FILE is opened, so that what a save has left is undone; else the calls of its journal are brought in, of five bytes
+ * each: a page, and what fills it. Ends with status 0, or with 1 and the number of the error. */
 #include "../pair.h"
 #include "sha256.h"
 
@@ -14,6 +14,11 @@
 
 static uint8_t *now, *saved;
 static uint32_t count;
+
+/* The calls that are to be noted. */
+static uint8_t made[5000];
+static size_t length;
+static bool is_due;
 
 void msgq_session_digest(const uint8_t *bytes, size_t many, uint8_t *into) {
     digest(bytes, many, into);
@@ -46,6 +51,23 @@ uint32_t msgq_session_next_changed(struct handle *it, uint32_t from, uint32_t *p
 uint32_t msgq_session_note_saved(struct handle *it) {
     (void)it;
     memcpy(saved, now, (size_t)count * PAGE_BYTES);
+    length = 0;
+    is_due = false;
+    return DONE;
+}
+
+uint32_t msgq_session_notes(struct handle *it, uint8_t *into, size_t room, size_t *many) {
+    (void)it;
+    if (is_due || length > room)
+        return DUE;
+    memcpy(into, made, length);
+    *many = length;
+    return DONE;
+}
+
+uint32_t msgq_session_end_notes(struct handle *it) {
+    (void)it;
+    length = 0;
     return DONE;
 }
 
@@ -91,9 +113,11 @@ static uint8_t *pages_of(const char *path) {
 /* Makes the call that a word spells. */
 static void call(const char *word) {
     unsigned page, byte;
-    must(sscanf(word, "%u=%u", &page, &byte) != 2, word);
+    must(sscanf(word, "%u=%u", &page, &byte) != 2 || length + 5 > sizeof made, word);
     uint8_t spelled[5] = {(uint8_t)(page >> 24), (uint8_t)(page >> 16), (uint8_t)(page >> 8), (uint8_t)page, (uint8_t)byte};
     must(!make(spelled), word);
+    memcpy(made + length, spelled, sizeof spelled);
+    length += sizeof spelled;
 }
 
 static void write_state(const char *path) {
@@ -105,6 +129,10 @@ static void act(struct pair *pair, const char *word) {
     struct handle session = {0};
     if (strcmp(word, "save") == 0) {
         must(pair_save(pair, &session), word);
+    } else if (strcmp(word, "note") == 0) {
+        must(pair_note(pair, &session), word);
+    } else if (strcmp(word, "due") == 0) {
+        is_due = true;
     } else if (strcmp(word, "state") == 0) {
         write_state(word);
     } else if (strcmp(word, "like") == 0) {

@@ -1,5 +1,6 @@
 -- What C is told of a session that is opened, and of a call on one.
 use Rattle.std.proofs.Common.{arith, ℕ, ◌≡◌, ◌≤◌, refl, sym, subst, inl, inr, Bool, true, false, Option, Some, None, Result, Ok, Err, IfOk}
+use Rattle.std.specs.Prelude.{◌||◌}
 use Rattle.std.specs.Option.{is_some}
 use Rattle.queue_model.specs.declared.answer.Answer.{Answer}
 use Rattle.queue_model.specs.declared.call.Call.{Call}
@@ -9,8 +10,9 @@ use Rattle.session.specs.Words.{IsFaultNumber, OpenFault, open_number_of}
 use Rattle.session.specs.declared.unanswered.Unanswered.{Unanswered}
 use Rattle.session.specs.declared.unanswered.Unanswered.TheVariants as unanswered
 use Rattle.session.proofs.FaultLemmas.{fault_numbers}
+use Rattle.call_entries.proofs.LogLemmas.{notes_none}
 use Rattle.msgq_c.specs.Codes.{code_of}
-use Rattle.msgq_c.specs.Files.{HasOpened, IsFor, IsKept, Keeps}
+use Rattle.msgq_c.specs.Files.{HasOpened, IsFor, IsKept, Keeps, fresh}
 use Rattle.msgq_c.specs.Held.{KeptSession}
 use Rattle.msgq_c.specs.Serving.{Answers, Serves}
 use Rattle.msgq_c.specs.declared.codes.TheConstants.{DONE, NO_MEMORY}
@@ -39,8 +41,7 @@ not_in Is code after number none = record {
 pub opened_so : (Is : SessionState → Type 0) (caller : Caller) (opened : Result SessionState OpenFault) (code : ℕ)
     (after : KeptSession) → IfOk opened Is → IsKept caller opened code after → HasOpened (IsFor Is caller) code after
 opened_so Is caller (Ok k) code after is (inl (done, kept)) =
-    in_handle (IsFor Is caller) code (record { session = k; caller = caller }) after
-    (record { is = is; caller_is = refl }) done kept
+    in_handle (IsFor Is caller) code (fresh caller k) after (record { is = is; fresh_is = refl }) done kept
 opened_so Is caller (Ok k) code after is (inr (code_is, none)) =
     not_in (IsFor Is caller) code after
     (subst IsFaultNumber (sym code_is) (record { least = omega arith; most = omega arith })) none
@@ -68,6 +69,10 @@ served call Tells came code (Some old) after made is tells = record {
   tells = tells;
 }
 
+or_false : (b : Bool) → b ≡ (b || false)
+or_false true = refl
+or_false false = refl
+
 -- a call that is not made for want of memory comes to what one comes to that is made and has none
 pub not_made : (call : Call) (Tells : Answer → Type 0) (old : KeptSession) → is_some old ≡ true →
     Serves call Tells NO_MEMORY old old
@@ -76,7 +81,13 @@ not_made call Tells (Some k) some = record {
   new = k;
   after_is = refl;
   result = Err unanswered.NoMemory;
-  makes = record { becomes = λ s holds. holds; keeps = record { caller = refl; saved = refl } };
+  makes = record {
+    becomes = λ s holds. holds;
+    notes = notes_none k.log;
+    room = or_false k.lacked_room;
+    caller = refl;
+    saved = refl;
+  };
   code_is = refl;
   tells = λ answer is. absurd cc;
 }

@@ -9,7 +9,7 @@ use Rattle.call_entries.specs.declared.entry.CallEntry.{CallEntry}
 use Rattle.call_entries.specs.declared.reading.Unreadable.{Unreadable}
 use Rattle.call_entries.proofs.EntryLemmas.{spelled_both}
 use Rattle.call_entries.proofs.RuleLemmas.{lead_on}
-use Rattle.msgq_c.specs.Keeping.{KeepsSaved, MakesAgain, MakesAll}
+use Rattle.msgq_c.specs.Keeping.{Keeps, MakesAgain, MakesAll}
 use Rattle.msgq_c.specs.declared.kept.Kept.{Kept}
 
 -- ---- one call
@@ -25,17 +25,19 @@ makes_again e left answer old new calls told = record {
         made = record { answer = answer; by_rules = is.by_rules; told = told };
         holds = is.holds;
       };
-  keeps = record { caller = refl; saved = calls.saved };
+  keeps = record { others = refl; saved = calls.saved };
 }
 
 -- ---- those of an addition
 
-kept : (k : Kept) → KeepsSaved k k
-kept k = record { caller = refl; saved = refl }
+kept : (k : Kept) → Keeps k k
+kept k = record { others = refl; saved = refl }
 
-both_kept : (old mid new : Kept) → KeepsSaved old mid → KeepsSaved mid new → KeepsSaved old new
-both_kept old mid new first then =
-    record { caller = then.caller ∙ first.caller; saved = then.saved ∙ first.saved }
+both_kept : (old mid new : Kept) → Keeps old mid → Keeps mid new → Keeps old new
+both_kept old mid new first then = record {
+  others = then.others ∙ ap (λ (k : Kept). record k { session = new.session }) first.others;
+  saved = then.saved ∙ first.saved;
+}
 
 pub none_made : (calls : List ℕ) (k : Kept) → MakesAll calls calls k k
 none_made calls k = record {

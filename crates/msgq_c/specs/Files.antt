@@ -2,27 +2,32 @@
 use Rattle.std.specs.Prelude.{ℕ, ◌≡◌, ◌≤◌, ◌/◌, ◌⊎◌, Bool, true, false, List, [], Option, Some, None, Result, Ok, Err, length}
 use Rattle.page_device.specs.declared.page.TheConstants.{PAGE_BYTES}
 use Rattle.queue_model.specs.declared.caller.Caller.{Caller}
+use Rattle.call_entries.specs.Log.{empty}
 use Rattle.session.specs.Words.{IsFaultNumber, OpenFault, open_number_of}
-use Rattle.session.specs.Session.{GivesPage, NotesSave, Opens, OpensNew, SessionState, Stops, TellsChanges, pages_in, pages_of}
+use Rattle.session.specs.Session.{GivesPage, Opens, OpensNew, SessionState, Stops, TellsChanges, pages_in, pages_of}
 use Rattle.msgq_c.specs.Held.{KeptSession}
-use Rattle.msgq_c.specs.Keeping.{MakesAll}
-use Rattle.msgq_c.specs.declared.codes.TheConstants.{DONE, FAILED, FOREIGN, IN_USE, NO_MEMORY, NO_PAGE, NO_SESSION}
+use Rattle.msgq_c.specs.Keeping.{AreNotes, IsSaved, MakesAll, noted}
+use Rattle.msgq_c.specs.declared.codes.TheConstants.{DONE, DUE, FAILED, FOREIGN, IN_USE, NO_MEMORY, NO_PAGE, NO_SESSION}
 use Rattle.msgq_c.specs.declared.files.Owner.{Owner}
 use Rattle.msgq_c.specs.declared.kept.Kept.{Kept}
 
 abbrev pub caller_of : Owner → Caller
 caller_of owner = record { pid = owner.pid; uid = owner.uid; gid = owner.gid }
 
+-- a session for a caller, of which nothing is to be noted
+abbrev pub fresh : Caller → SessionState → Kept
+fresh caller k = record { session = k; caller = caller; log = empty; lacked_room = false }
+
 -- what came of opening is put into a handle that has none, or a number says why not
 abbrev pub IsKept : Caller → Result SessionState OpenFault → ℕ → (after : KeptSession) → Type 0
 IsKept caller (Ok k) code after =
-    ((code ≡ DONE) × (after ≡ Some (record { session = k; caller = caller }))) ⊎ ((code ≡ NO_MEMORY) × (after ≡ None))
+    ((code ≡ DONE) × (after ≡ Some (fresh caller k))) ⊎ ((code ≡ NO_MEMORY) × (after ≡ None))
 IsKept caller (Err fault) code after = (code ≡ open_number_of fault) × (after ≡ None)
 
--- a session that this is so of, whose calls are this caller's
+-- a session that this is so of, whose calls are this caller's, and of which nothing is to be noted
 pub record IsFor (Is : SessionState → Type 0) (caller : Caller) (k : Kept) : Type 0 where
   pub is : Is k.session
-  pub caller_is : k.caller ≡ caller
+  pub fresh_is : k ≡ fresh caller k.session
 
 -- a session that this is so of is in the handle, or the number of a fault says why there is none
 pub record HasOpened (Is : Kept → Type 0) (code : ℕ) (after : KeptSession) : Type 0 where
@@ -97,14 +102,25 @@ saved_code false = FAILED
 
 -- its pages are noted as saved, or it has failed
 pub record IsNoted (code : ℕ) (old : Kept) (after : KeptSession) : Type 0 where
-  pub new : SessionState
-  pub after_is : after ≡ Some (record old { session = new })
+  pub new : Kept
+  pub after_is : after ≡ Some new
   pub saved : Bool
-  pub notes : NotesSave saved old.session new
+  pub is_saved : IsSaved saved old new
   pub code_is : code ≡ saved_code saved
 
 abbrev pub NotesHandle : ℕ → (old after : KeptSession) → Type 0
 NotesHandle = Of (λ old code after. IsNoted code old after)
+
+-- the entries of the calls that are to be noted were copied, or the pages are to be saved
+abbrev pub Copies : (count : ℕ) → (into : List ℕ) → ℕ → Kept → Type 0
+Copies count into code k = ((code ≡ DONE) × AreNotes into count k) ⊎ (code ≡ DUE)
+
+abbrev pub CopiesHandle : (count : ℕ) → (into : List ℕ) → ℕ → (old after : KeptSession) → Type 0
+CopiesHandle count into = Of (λ old code after. Copies count into code old × (after ≡ Some old))
+
+-- they stand in the journal
+abbrev pub EndsNotes : ℕ → (old after : KeptSession) → Type 0
+EndsNotes = Of (λ old code after. (code ≡ DONE) × (after ≡ Some (noted old)))
 
 -- the calls of an addition were made again
 pub record HasRemade (calls : List ℕ) (code : ℕ) (old : Kept) (after : KeptSession) : Type 0 where
