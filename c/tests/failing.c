@@ -1,4 +1,4 @@
-/* Each call of the system that the library makes fails in turn, while a file is recovered, opened and saved; what is expected stands in
+/* Each call of the system that the library makes fails in turn, while a file is recovered, opened, saved and noted; what is expected stands in
  * msgq.h: the number of the failure, and at the next opening the file as before or as after. Run with the path of a new file. */
 #include "../msgq.h"
 #include "faults.h"
@@ -131,21 +131,22 @@ static void recovery_fails(struct both left, enum call call, int wrong) {
     }
 }
 
-/* Saves, while each call of a kind fails in turn. */
-static void save_fails(struct both start, enum call call, int wrong) {
+/* Saves or notes, while each call of a kind fails in turn. */
+static void save_fails(struct both start, int (*save)(msgq *), enum call call, int wrong) {
     bool was_come_to = true;
     for (int at = 1; was_come_to; at++) {
         char what[80];
-        snprintf(what, sizeof what, "a save where call %d of %s fails", at, names[call]);
+        snprintf(what, sizeof what, "a %s where call %d of %s fails", save == msgq_save ? "save" : "note", at, names[call]);
         put(start);
         msgq *queues = opened();
         change(queues);
         arm(call, at, wrong);
-        int told = msgq_save(queues);
+        int told = save(queues);
         was_come_to = disarm();
         is(told, was_come_to ? wrong : 0, what);
         if (told != 0) {
             is(msgq_save(queues), EIO, "a save behind it");
+            is(msgq_note(queues), EIO, "a note behind it");
             is(msgq_close(queues), EIO, "a close behind it");
         }
         is(msgq_abandon(queues), 0, "abandon");
@@ -284,6 +285,24 @@ static void calls_are_brought_in(struct bytes file) {
     }
 }
 
+/* Notes, on a journal that was ended and on one that says nothing; without memory the file is saved. */
+static void notes_fail(struct both start) {
+    struct both torn = {start.file, {"no head", 7}};
+    for (enum call call = PREAD; call <= FSTAT; call++) {
+        save_fails(start, msgq_note, call, ENOSPC);
+        save_fails(torn, msgq_note, call, ENOSPC);
+    }
+    put(start);
+    msgq *queues = opened();
+    change(queues);
+    arm(MALLOC, 1, ENOMEM);
+    is(msgq_note(queues), 0, "a note without memory");
+    is(disarm(), true, "it is asked for");
+    is(has_bytes(path, start.file), false, "it is a save");
+    is(msgq_abandon(queues), 0, "abandon");
+    is(state() == after, true, "what was noted");
+}
+
 int main(int argc, char **argv) {
     if (argc != 2)
         return 2;
@@ -325,7 +344,8 @@ int main(int argc, char **argv) {
         if (call != CLOCK && call != FLOCK && call != FOPEN)
             recovery_fails(alone, call, call == MALLOC || call == CALLOC ? ENOMEM : EIO);
     for (enum call call = PREAD; call <= FSTAT; call++)
-        save_fails(start, call, ENOSPC);
+        save_fails(start, msgq_save, call, ENOSPC);
+    notes_fail(start);
     others(start);
     clock_fails(start);
     calls_are_brought_in(start.file);
