@@ -5,3 +5,4 @@ pub mod Keeping
 pub mod Telling
 pub mod Serving
 pub mod Files
+pub mod Noting

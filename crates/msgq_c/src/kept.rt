@@ -1,6 +1,6 @@
 //! A session, who makes its calls, and what is noted of them.
 
-ghost use Rattle.std.specs.Prelude.{OnOk, [], ◌≡◌};
+ghost use Rattle.std.specs.Prelude.{OnOk, [], ◌||◌, ◌≡◌};
 ghost use Rattle.call_entries.specs.Log.{Ends};
 ghost use Rattle.msgq_c.specs.Keeping.{CopiesNotes, IsSaved, Makes, MakesAgain, MakesAll, answer_of, lacks_room, noted};
 
@@ -40,7 +40,7 @@ impl Kept {
         self.log.begin(self.caller, &call);
         let result = self.session.call_as(self.caller, &mut call);
         end_with(&mut self.log, &result);
-        self.lacked_room = self.lacked_room || lacks_room(&result);
+        self.lacked_room = has_lacked_room(self.lacked_room, &result);
         result
     }
 
@@ -136,9 +136,9 @@ fn end_with(log: &mut CallLog, came: &Result<Answer, Unanswered>)
     }
 }
 
-/// Whether a call was not answered for want of room.
-fn lacks_room(came: &Result<Answer, Unanswered>) -> bool
-    ensures { result ≡ lacks_room came.now }
+/// Whether a call lacked room before, or this one did.
+fn has_lacked_room(before: bool, came: &Result<Answer, Unanswered>) -> bool
+    ensures { result ≡ (before || lacks_room came.now) }
 {
-    matches!(came, Err(Unanswered::NoRoom))
+    before || matches!(came, Err(Unanswered::NoRoom))
 }

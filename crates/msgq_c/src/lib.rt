@@ -10,6 +10,7 @@ mod files;
 mod handle;
 mod held;
 mod kept;
+mod laws;
 mod serving;
 mod telling;
 
@@ -26,4 +27,5 @@ pub use files::{
     msgq_session_remake, msgq_session_stop,
 };
 pub use handle::Handle;
+pub use laws::what_is_noted_leads_on;
 pub use telling::{Got, Info};
