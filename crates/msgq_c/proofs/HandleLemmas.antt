@@ -69,6 +69,11 @@ served call Tells came code (Some old) after made is tells = record {
   tells = tells;
 }
 
+-- what is so of an answer, where there is one
+pub of_answer : (Tells : Answer → Type 0) (came : Result Answer Unanswered) → IfOk came Tells → (answer : Answer) →
+    came ≡ Ok answer → Tells answer
+of_answer Tells came tells answer is = subst (λ (r : Result Answer Unanswered). IfOk r Tells) is tells
+
 or_false : (b : Bool) → b ≡ (b || false)
 or_false true = refl
 or_false false = refl

@@ -47,13 +47,16 @@ module _ (leaves : RefusalsLeave) (caller : Caller) (call : Call) (answer : Answ
     entries = before.entries ++ e ∷ [];
     is = bytes ∙ ap entries_if is ∙ ap (λ (xs : List ℕ). xs ++ spelled (e ∷ [])) before.is
         ∙ sym (spelled_both before.entries (e ∷ []));
-    leads = lead_on before.entries (e ∷ []) s (running t) (running u) before.leads
-        (running u, record {
-          answer = answer;
-          by_rules = comes_again caller t call answer u by_rules
-              (not_refused (may_change call) (is_refusal answer) is);
-          told = refl;
-        }, refl);
+    leads = lead_on before.entries (e ∷ []) s (running t) (running u) before.leads (
+      running u,
+      record {
+        answer = answer;
+        by_rules = comes_again caller t call answer u by_rules
+            (not_refused (may_change call) (is_refusal answer) is);
+        told = refl;
+      },
+      refl,
+    );
   }
   answered_so false is =
       subst (λ (v : State). LeadOn new s (running v)) (sym (leaves_it leaves caller t answer u call by_rules is))
