@@ -356,6 +356,11 @@ int msgq_save(msgq *queues) {
     return queues == NULL ? no_queues() : queues->calls->save(queues);
 }
 
+int msgq_note(msgq *queues) {
+    nothing_is_wrong();
+    return queues == NULL ? no_queues() : queues->calls->note(queues);
+}
+
 int msgq_stop(msgq *queues) {
     nothing_is_wrong();
     return queues == NULL ? no_queues() : queues->calls->stop(queues);

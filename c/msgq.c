@@ -62,6 +62,8 @@ static int open_session(struct opened_file *it) {
     if ((wrong = error_of(code)) == EBADMSG)
         tell_fault(code, bytes, count);
     free(bytes);
+    if (wrong == 0 && (wrong = pair_bring_in(&it->pair, &it->session)) != 0)
+        (void)msgq_session_close(&it->session);
     return wrong;
 }
 
@@ -133,12 +135,12 @@ int msgq_open_wait(const char *path, const struct timespec *limit, msgq **queues
     return open_as(path, queues, true, limit);
 }
 
-/* Saves, under the lock. */
-static int save(struct opened_file *file) {
+/* Saves, or notes, under the lock. */
+static int save_by(struct opened_file *file, int (*save)(struct pair *, struct handle *)) {
     const char *name = file->handle.name;
     if (file->is_half_saved)
         return fails(why(EIO, "an earlier save has failed: it is to be opened anew"), name, "it can't be saved");
-    int wrong = pair_save(&file->pair, &file->session);
+    int wrong = save(&file->pair, &file->session);
     file->is_half_saved = wrong != 0;
     return fails(wrong, name, "it can't be saved, and is to be opened anew");
 }
@@ -146,7 +148,13 @@ static int save(struct opened_file *file) {
 int opened_save(msgq *queues) {
     struct opened_file *file = opened_of(queues);
     int wrong = enter(file, NULL);
-    return wrong != 0 ? wrong : leave(file, save(file));
+    return wrong != 0 ? wrong : leave(file, save_by(file, pair_save));
+}
+
+int opened_note(msgq *queues) {
+    struct opened_file *file = opened_of(queues);
+    int wrong = enter(file, NULL);
+    return wrong != 0 ? wrong : leave(file, save_by(file, pair_note));
 }
 
 /* Lets a file go, unless a call waits. */
@@ -157,7 +165,7 @@ static int let_go(struct opened_file *file, bool saves) {
     if (file->lock.waiting > 0)
         wrong = fails(why(EBUSY, "%u of its calls wait: msgq_stop ends them", file->lock.waiting), file->handle.name,
                       "it can't be closed");
-    if (wrong != 0 || (saves && (wrong = save(file)) != 0))
+    if (wrong != 0 || (saves && (wrong = save_by(file, pair_save)) != 0))
         return leave(file, wrong);
     note_closed(file);
     (void)msgq_session_close(&file->session);

@@ -84,7 +84,7 @@ int msgq_create(const char *path, uint32_t pages);
 
 /* Opens a file, which is checked whole. EBUSY where a process has it open to change it, be it `msgq run` or this library;
  * EBADMSG where something is wrong with it (msgq_last_fault); ENOMEM; or what the system says. What a process that was
- * killed while it saved has left is undone first. */
+ * killed while it saved has left is undone first, and the calls that a server had answered which was killed are brought into it. */
 int msgq_open(const char *path, msgq **queues);
 
 /* The same, but waits while another process has the file open, or this one: without end where limit is NULL, else for so long at
@@ -163,6 +163,13 @@ int msgq_list(msgq *queues, uint32_t after, uint32_t *id);
  * msgq_save is told EIO. A server that is durable has saved all that it has answered; of another it is asked for here. */
 int msgq_save(msgq *queues);
 
+/* What was answered before it outlasts the process and the machine, as behind msgq_save, and it is told what that is told. The calls are
+ * noted in the journal, with one wait for the disk; a save has three, and writes pages. Any opening makes them again, and so does each
+ * command of msgq, once nobody has the file open. Until then, or the next msgq_save or msgq_close, who reads the file sees it as it was saved
+ * last, and a copy needs its journal too. It saves where calls came to more than a mebibyte since it was called last, the journal is long,
+ * or a call was told ENOSPC for want of room since the last save; and at a server. */
+int msgq_note(msgq *queues);
+
 /* From here on a call that would wait is told EINTR, also one that waits now. The mark is not saved. ENOTSUP of a server. */
 int msgq_stop(msgq *queues);
 
@@ -170,7 +177,7 @@ int msgq_stop(msgq *queues);
  * without a save. */
 int msgq_close(msgq *queues);
 
-/* Lets go of the file without a save. EBUSY while a call waits. */
+/* Lets go of the file without a save: it is as it was saved last, or noted. EBUSY while a call waits. */
 int msgq_abandon(msgq *queues);
 
 /* The serial of the message that this thread has sent last; 0 before the first. */

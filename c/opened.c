@@ -139,5 +139,5 @@ static int list(msgq *queues, uint32_t after, uint32_t *id) {
 const struct calls OPENED_CALLS = {
     .get = get, .send = send, .send_all = send_all, .receive = receive, .reserve = reserve, .settle = settle,
     .stat = stat, .set = set, .remove = remove_queue, .list = list,
-    .save = opened_save, .stop = opened_stop, .close = opened_close, .abandon = opened_abandon,
+    .save = opened_save, .note = opened_note, .stop = opened_stop, .close = opened_close, .abandon = opened_abandon,
 };

@@ -24,6 +24,7 @@ static inline struct opened_file *opened_of(msgq *queues) {
 extern const struct calls OPENED_CALLS;
 
 int opened_save(msgq *queues);
+int opened_note(msgq *queues);
 int opened_stop(msgq *queues);
 int opened_close(msgq *queues);
 int opened_abandon(msgq *queues);

@@ -77,13 +77,13 @@ int pair_open(struct pair *pair, const char *path) {
     /* More than one that moves the file has to come between, each time. */
     enum { MOST_TRIES = 100 };
     int wrong = ESTALE;
-    *pair = (struct pair){NOT_OPENED, NOT_OPENED};
+    *pair = (struct pair){.file = NOT_OPENED, .journal = NOT_OPENED};
     for (int tries = 0; wrong == ESTALE && tries < MOST_TRIES; tries++) {
         pair_close(pair);
         wrong = open_both(pair, path);
     }
     if (wrong == 0)
-        wrong = journal_recover(&pair->file, &pair->journal);
+        wrong = journal_recover(&pair->file, &pair->journal, &pair->noted);
     if (wrong != 0)
         pair_close(pair);
     return wrong;
@@ -93,6 +93,8 @@ void pair_close(struct pair *pair) {
     /* A child of this process may have what was locked open too: it would hold the lock as long as it lives. */
     if (pair->journal.file >= 0 && test_opened(&pair->journal) != EBADF)
         (void)flock(pair->journal.file, LOCK_UN);
+    free(pair->room);
+    pair->room = NULL;
     pair_leave(pair);
 }
 
@@ -131,13 +133,17 @@ static int each_changed(const struct pair *pair, struct handle *session,
     return wrong == 0 && code != NO_PAGE ? EIO : wrong;
 }
 
+/* How many pages the file has, and the digest with which its page 0 ends: that was checked when the session was opened, or was sealed by it. */
+static int know_file(const struct pair *pair, struct handle *session, uint32_t *pages, uint8_t *digest) {
+    if (msgq_session_pages(session, pages) != DONE)
+        return EIO;
+    return read_at(&pair->file, digest, DIGEST_BYTES, PAGE_BYTES - DIGEST_BYTES);
+}
+
 static int begin_journal(struct journal *journal, const struct pair *pair, struct handle *session) {
-    /* Page 0 was checked against it when the session was opened, or was sealed by it. */
     uint8_t digest[DIGEST_BYTES];
     uint32_t pages;
-    if (msgq_session_pages(session, &pages) != DONE)
-        return EIO;
-    int wrong = read_at(&pair->file, digest, sizeof digest, PAGE_BYTES - DIGEST_BYTES);
+    int wrong = know_file(pair, session, &pages, digest);
     return wrong != 0 ? wrong : journal_begin(journal, pages, digest);
 }
 
@@ -166,8 +172,9 @@ static int test_both(const struct pair *pair) {
     return wrong == 0 ? 0 : why(wrong, "the program has closed its descriptor");
 }
 
-int pair_save(const struct pair *pair, struct handle *session) {
+int pair_save(struct pair *pair, struct handle *session) {
     struct journal journal = {.file = &pair->journal};
+    journal_go_on(&journal, &pair->noted);
     int wrong = test_both(pair);
     if (wrong == 0)
         wrong = each_changed(pair, session, journal_page, &journal);
@@ -179,8 +186,47 @@ int pair_save(const struct pair *pair, struct handle *session) {
         || (wrong = sync_bytes(&pair->file)) != 0
         || (wrong = journal_end(&journal)) != 0)
         return wrong;
+    pair->noted.end = 0;
     return msgq_session_note_saved(session) == DONE ? 0 : EIO;
 }
+
+/* ---- calls are noted */
+
+/* So many bytes of calls are noted at once, which a session keeps at most; and behind so many bytes of them in the journal pages are saved. */
+enum { MOST_NOTED = 1 << 20, MOST_IN_JOURNAL = 8 << 20 };
+
+static int note(struct pair *pair, struct handle *session, size_t count) {
+    uint8_t digest[DIGEST_BYTES];
+    uint32_t pages = 0;
+    int wrong = test_both(pair);
+    if (wrong != 0 || (pair->noted.end == 0 && (wrong = know_file(pair, session, &pages, digest)) != 0)
+        || (wrong = noted_add(&pair->journal, &pair->noted, pages, digest, pair->room, count)) != 0)
+        return wrong;
+    return msgq_session_end_notes(session) == DONE ? 0 : EIO;
+}
+
+int pair_note(struct pair *pair, struct handle *session) {
+    size_t count;
+    if (pair->room == NULL)
+        pair->room = malloc(BEFORE_CALLS + MOST_NOTED + BEHIND_CALLS);
+    if (pair->room == NULL || pair->noted.end > MOST_IN_JOURNAL
+        || msgq_session_notes(session, pair->room + BEFORE_CALLS, MOST_NOTED, &count) != DONE)
+        return pair_save(pair, session);
+    return count == 0 ? 0 : note(pair, session, count);
+}
+
+/* ---- calls are made again */
+
+static int remake(void *session, const uint8_t *calls, size_t count) {
+    return error_of(msgq_session_remake(session, calls, count));
+}
+
+int pair_bring_in(struct pair *pair, struct handle *session) {
+    int wrong = noted_each(&pair->journal, &pair->noted, remake, session);
+    return wrong == 0 && pair->noted.end > 0 ? pair_save(pair, session) : wrong;
+}
+
+/* ---- a file is made */
 
 int pair_make(const char *path, struct handle *session) {
     uint32_t pages;

@@ -2,11 +2,12 @@
 #ifndef MSGQ_PAIR_H
 #define MSGQ_PAIR_H
 
-#include "session.h"
-#include "transfers.h"
+#include "journal.h"
 
 struct pair {
     struct opened file, journal;
+    struct noted noted; /* the calls that stand in the journal */
+    uint8_t *room;      /* in which calls are noted, once some were */
 };
 
 /* Opens both, locks the journal and undoes what a save that was cut off has left. EBUSY where another has them. */
@@ -15,8 +16,17 @@ int pair_open(struct pair *pair, const char *path);
 /* The bytes of the file, which are the caller's to free. */
 int pair_read(const struct pair *pair, uint8_t **bytes, size_t *count);
 
-/* Writes the pages of a session that have changed since it was opened from the file, or last saved to it. */
-int pair_save(const struct pair *pair, struct handle *session);
+/* Makes the calls of the journal again, in a session that was opened from the bytes, and saves it: from there on the file has them. Where
+ * that fails the session may be closed, and the next opening makes them again. */
+int pair_bring_in(struct pair *pair, struct handle *session);
+
+/* Writes the pages of a session that have changed since it was opened from the file, or last saved to it, which ends the calls in the
+ * journal. */
+int pair_save(struct pair *pair, struct handle *session);
+
+/* Brings what calls have changed to where it outlasts a crash: they are noted in the journal, or saved where the session wants that, the
+ * journal is long, or there is no memory. Where it fails the file is to be opened anew. */
+int pair_note(struct pair *pair, struct handle *session);
 
 /* Unlocks and closes both, for the process that opened them. */
 void pair_close(struct pair *pair);

@@ -54,6 +54,7 @@ struct calls {
     int (*list)(msgq *, uint32_t after, uint32_t *id);
     /* These say their sentences themselves. */
     int (*save)(msgq *);
+    int (*note)(msgq *);
     int (*stop)(msgq *);
     int (*close)(msgq *);
     int (*abandon)(msgq *);

@@ -58,6 +58,8 @@ int error_of(uint32_t code) {
         return why(EIO, "the file has failed: it is to be opened anew");
     case NO_PAGE:
         return why(EINVAL, "a file has 258 to 65536 pages");
+    case FOREIGN:
+        return why(EBADMSG, "the calls in its journal are of another file: put the file or the journal that belongs there");
     case IN_USE:
         return EBUSY;
     case NO_SESSION:

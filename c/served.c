@@ -218,7 +218,7 @@ static const struct calls CALLS = {
     .get = get, .send = send, .send_all = send_all, .receive = receive, .reserve = reserve, .settle = settle,
     .stat = stat, .set = set, .remove = remove_queue, .list = list,
     /* What was answered is the server's to save. */
-    .save = save, .stop = stop, .close = disconnect, .abandon = disconnect,
+    .save = save, .note = save, .stop = stop, .close = disconnect, .abandon = disconnect,
 };
 
 int served_connect(const char *socket, const char *name, msgq **queues) {

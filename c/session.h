@@ -19,6 +19,8 @@ enum {
     NO_SESSION = 101,
     IN_USE = 102,
     NO_PAGE = 103,
+    FOREIGN = 104,
+    DUE = 105,
 };
 
 struct handle {
@@ -85,6 +87,9 @@ uint32_t msgq_session_pages(struct handle *, uint32_t *pages);
 uint32_t msgq_session_page(struct handle *, uint32_t page, uint8_t *into);
 uint32_t msgq_session_next_changed(struct handle *, uint32_t from, uint32_t *page);
 uint32_t msgq_session_note_saved(struct handle *);
+uint32_t msgq_session_notes(struct handle *, uint8_t *into, size_t room, size_t *count);
+uint32_t msgq_session_end_notes(struct handle *);
+uint32_t msgq_session_remake(struct handle *, const uint8_t *calls, size_t count);
 uint32_t msgq_session_close(struct handle *);
 size_t msgq_session_handle_size(void);
 void msgq_session_digest(const uint8_t *bytes, size_t count, uint8_t *into);

@@ -98,7 +98,7 @@ def _declared(library):
         "reserve": [one, number, c_int64, c_char_p, c_size_t, c_int, limit, POINTER(_Message), POINTER(number)],
         "acknowledge": [one, number], "release": [one, number],
         "stat": [one, number, POINTER(_Info)], "set": [one, number, POINTER(_Change)], "list": [one, number, POINTER(number)],
-        "remove": [one, number], "save": [one], "stop": [one], "close": [one], "abandon": [one], "last_fault": [],
+        "remove": [one, number], "save": [one], "note": [one], "stop": [one], "close": [one], "abandon": [one], "last_fault": [],
     }.items():
         getattr(library, "msgq_" + name).argtypes = kinds
     library.msgq_last_fault.restype = ctypes.c_uint
@@ -357,6 +357,11 @@ class Queues:
         """Writes what has changed to the file. Where it fails the file is to be opened anew: each further save is told EIO."""
         self._call("save")
 
+    def note(self):
+        """Brings what has changed to where it outlasts a crash, as `save` does, but notes the calls in the journal of the file: for one wait
+        for the disk in the place of three. Who reads the file sees them once it is saved or closed."""
+        self._call("note")
+
     def stop(self):
         """From here on a call that would wait raises InterruptedError. OSError of ENOTSUP for a server."""
         self._call("stop")
@@ -367,7 +372,7 @@ class Queues:
         self._let_go("close")
 
     def abandon(self):
-        """Lets go of the file without a save. OSError of EBUSY while another thread makes a call."""
+        """Lets go of the file as it was saved last, or noted. OSError of EBUSY while another thread makes a call."""
         self._let_go("abandon")
 
 

@@ -29,6 +29,7 @@ def try_exits(path):
         ("a thread that waits", OPEN + "threading.Thread(target=queue.receive, args=(5,), daemon=True).start()\ntime.sleep(0.1)\n" + one,
          0, [b"x"]),
         ("os._exit", OPEN + one + "os._exit(0)", 0, []),
+        ("a note and os._exit", OPEN + one + "queues.note()\nos._exit(0)", 0, [b"x"]),
         ("close", OPEN + one + "queues.close()", 0, [b"x"]),
         ("with", OPEN + "queues.close()\nwith msgq.open(sys.argv[1]) as queues: queues.get(7).send(b'x')", 0, [b"x"]),
         ("with and an exception", OPEN + "\nwith queues:\n    queue.send(b'x')\n    sys.exit(3)", 3, []),

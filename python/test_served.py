@@ -58,6 +58,7 @@ def calls(queues):
         queue.send(body)
     expect([message.body for message in queue], [b"a", b"b"], "the messages of a queue")
     queues.save()
+    queues.note()
     return queue
 
 

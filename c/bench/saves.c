@@ -1,5 +1,5 @@
-/* The time of a save of one message, in microseconds, and the pages that it writes, in files of 352 and of 65,536 pages, beside a
- * save of nothing and an fsync of the file after one page is written. The least of ten of each.
+/* The time of a save and of a note of one message, in microseconds, and the pages that it writes, in files of 352 and of 65,536 pages, beside a
+ * save of nothing and an fdatasync of the file after one page is written. The median of 101 of each, and the least.
  *     c/bench/run */
 #include "../msgq.h"
 
@@ -10,7 +10,7 @@
 #include <time.h>
 #include <unistd.h>
 
-enum { ROUNDS = 10 };
+enum { ROUNDS = 101 };
 
 static void must(int holds, const char *what) {
     if (!holds) {
@@ -37,40 +37,47 @@ static long long written(void) {
     return count;
 }
 
-/* The time of a save once so many messages are sent and received, and the pages that it writes. */
-static double save(msgq *queues, uint32_t id, int messages, double *pages) {
-    double least = 0;
+static double took[ROUNDS];
+
+static int compare(const void *one, const void *other) {
+    double a = *(const double *)one, b = *(const double *)other;
+    return (a > b) - (a < b);
+}
+
+static void tell(const char *what, double pages) {
+    qsort(took, ROUNDS, sizeof *took, compare);
+    printf("  %-24s %6.0f us, at least %6.0f us, %.2f pages\n", what, took[ROUNDS / 2], took[0], pages);
+}
+
+/* Times a save or a note once so many messages are sent, and the same once they are received. */
+static void time_it(const char *what, msgq *queues, uint32_t id, int (*save)(msgq *), int messages) {
+    double pages = 0;
     for (int round = 0; round < ROUNDS; round++) {
         for (int n = 0; n < messages; n++)
             must(msgq_send(queues, id, 1, "one message", 11, 0, NULL) == 0, "a send");
         long long before = written();
         double begun = now();
-        must(msgq_save(queues) == 0, "a save");
-        double took = now() - begun;
-        *pages = (double)(written() - before) / 4096;
-        if (round == 0 || took < least)
-            least = took;
+        must(save(queues) == 0, what);
+        took[round] = now() - begun;
+        pages = (double)(written() - before) / 4096;
         for (int n = 0; n < messages; n++)
             must(msgq_receive(queues, id, 0, NULL, 0, MSGQ_NOERROR, NULL, NULL) == 0, "a receive");
-        must(msgq_save(queues) == 0, "a save");
+        must(save(queues) == 0, what);
     }
-    return least;
+    tell(what, pages);
 }
 
-static double sync_of_a_page(const char *path) {
+static void time_sync(const char *path) {
     char page[4096];
-    double least = 0;
     int file = open(path, O_RDWR);
     must(file >= 0 && pread(file, page, sizeof page, 0) == sizeof page, "a page");
     for (int round = 0; round < ROUNDS; round++) {
         double begun = now();
-        must(pwrite(file, page, sizeof page, 0) == sizeof page && fsync(file) == 0, "a sync");
-        double took = now() - begun;
-        if (round == 0 || took < least)
-            least = took;
+        must(pwrite(file, page, sizeof page, 0) == sizeof page && fdatasync(file) == 0, "a sync");
+        took[round] = now() - begun;
     }
     close(file);
-    return least;
+    tell("a page and an fdatasync", 1);
 }
 
 int main(int argc, char **argv) {
@@ -79,14 +86,15 @@ int main(int argc, char **argv) {
     for (int n = 0; n < 2; n++) {
         msgq *queues;
         uint32_t id;
-        double few, none;
         unlink(argv[1]);
         must(msgq_create(argv[1], SIZES[n]) == 0 && msgq_open(argv[1], &queues) == 0, "a file");
         must(msgq_get(queues, 7, MSGQ_CREATE | 0600, &id) == 0 && msgq_save(queues) == 0, "a queue");
-        double nothing = save(queues, id, 0, &none), message = save(queues, id, 1, &few);
+        printf("%u pages:\n", SIZES[n]);
+        time_it("a save of nothing", queues, id, msgq_save, 0);
+        time_it("a save of one message", queues, id, msgq_save, 1);
+        time_it("a note of one message", queues, id, msgq_note, 1);
         must(msgq_close(queues) == 0, "a close");
-        printf("%5u pages: a save of nothing %6.0f us, of one message %6.0f us and %.1f pages, a page and a sync %6.0f us\n", SIZES[n],
-               nothing, message, few, sync_of_a_page(argv[1]));
+        time_sync(argv[1]);
     }
     unlink(argv[1]);
     return 0;

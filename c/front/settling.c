@@ -17,7 +17,7 @@
 #include <unistd.h>
 
 /* Who has the file and does not answer is waited for, so many naps of 20 ms: a server that begins or ends, or the core of another command.
- * A server whose socket stands elsewhere never answers here. */
+ * A server whose socket stands elsewhere never answers here, nor does a program that has opened the file and noted calls. */
 enum { NAPS = 50 };
 
 /* The head of a journal that is under way, and has calls (docs/FORMAT.md): its magic and its version. */
@@ -120,7 +120,7 @@ void settle_file(const char *file) {
         return;
     if (came == BUSY)
         why = "another process has it open, and none answers at its socket";
-    complain("%s: calls that a server has answered stand in its journal, and not in it, and are not seen here%s%s", file,
+    complain("%s: calls stand in its journal, and not in it, and are not seen here%s%s", file,
              why == NULL ? "" : ": ", why == NULL ? "" : why);
     is_said = true;
 }

@@ -1,4 +1,4 @@
-/* Calls that a server has answered may stand in the journal of a file, and not in the file yet. */
+/* Calls that a server has answered, or a program has noted, may stand in the journal of a file, and not in the file yet. */
 #ifndef MSGQ_SETTLING_H
 #define MSGQ_SETTLING_H
 

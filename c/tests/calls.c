@@ -53,6 +53,7 @@ static void refusals(msgq *queues, uint32_t id) {
     is(msgq_remove(NULL, id), EINVAL, "no queues");
     is(msgq_list(NULL, id, &other), EINVAL, "no queues");
     is(msgq_save(NULL), EINVAL, "no queues");
+    is(msgq_note(NULL), EINVAL, "no queues");
     is(msgq_stop(NULL), EINVAL, "no queues");
     is(msgq_close(NULL), EINVAL, "no queues");
     is(msgq_abandon(NULL), EINVAL, "no queues");

@@ -1,4 +1,4 @@
-/* Each call of the system that the library makes fails in turn, while a file is recovered, opened and saved; what is expected stands in
+/* Each call of the system that the library makes fails in turn, while a file is recovered, opened, saved and noted; what is expected stands in
  * msgq.h: the number of the failure, and at the next opening the file as before or as after. Run with the path of a new file. */
 #include "../msgq.h"
 #include "faults.h"
@@ -131,21 +131,22 @@ static void recovery_fails(struct both left, enum call call, int wrong) {
     }
 }
 
-/* Saves, while each call of a kind fails in turn. */
-static void save_fails(struct both start, enum call call, int wrong) {
+/* Saves or notes, while each call of a kind fails in turn. */
+static void save_fails(struct both start, int (*save)(msgq *), enum call call, int wrong) {
     bool was_come_to = true;
     for (int at = 1; was_come_to; at++) {
         char what[80];
-        snprintf(what, sizeof what, "a save where call %d of %s fails", at, names[call]);
+        snprintf(what, sizeof what, "a %s where call %d of %s fails", save == msgq_save ? "save" : "note", at, names[call]);
         put(start);
         msgq *queues = opened();
         change(queues);
         arm(call, at, wrong);
-        int told = msgq_save(queues);
+        int told = save(queues);
         was_come_to = disarm();
         is(told, was_come_to ? wrong : 0, what);
         if (told != 0) {
             is(msgq_save(queues), EIO, "a save behind it");
+            is(msgq_note(queues), EIO, "a note behind it");
             is(msgq_close(queues), EIO, "a close behind it");
         }
         is(msgq_abandon(queues), 0, "abandon");
@@ -232,36 +233,74 @@ static void clock_fails(struct both start) {
 
 /* ---- calls in a journal */
 
-/* A journal of version 3 for a file of 352 pages, with an addition of five bytes. */
-static struct bytes calls(void) {
-    static unsigned char made[80 + 4 + 5 + 32] = "msgqundo\0\0\0\3\0\0\1\140\0\0\0\0\0\0\0\1";
-    static unsigned char all[32 + 4 + 5];
+/* A journal of version 3 for a file of 300 pages, with the call by which this process sent two bytes to queue 1, and was told the serial 5. */
+static struct bytes calls(struct bytes file) {
+    enum { CALL = 62 };
+    static unsigned char made[80 + 4 + CALL + 32] = "msgqundo\0\0\0\3\0\0\1\54\0\0\0\0\0\0\0\1", all[32 + 4 + CALL];
+    static const unsigned char sent[CALL] = {[0] = 5, [8] = 42, [36] = 2, [37] = 1, [40] = 1, [44] = 7, [52] = 'a', 'b', [54] = 5};
+    const unsigned caller[3] = {(unsigned)getpid(), (unsigned)geteuid(), (unsigned)getegid()};
+    memcpy(made + 24, file.at + 4064, 24);
     digest(made, 48, made + 48);
-    memcpy(made + 80, "\200\0\0\5calls", 9);
-    memcpy(all, made + 48, 32);
-    memcpy(all + 32, made + 80, 9);
-    digest(all, sizeof all, made + 89);
+    memcpy(made + 80, "\200\0\0\76", 4);
+    memcpy(made + 84, sent, CALL);
+    for (int n = 0; n < 12; n++)
+        made[84 + 20 + n] = (unsigned char)(caller[n / 4] >> (n % 4 * 8));
+    memcpy(all, made + 48, sizeof all);
+    digest(all, sizeof all, made + 84 + CALL);
     return (struct bytes){(char *)made, sizeof made};
 }
 
-/* A file whose journal has calls is refused, and where that can't be read that is told; nothing is written. */
-static void calls_are_read(struct bytes file) {
-    const struct both left = {file, calls()};
-    msgq *queues;
-    for (int kind = 0; kind < 2; kind++) {
-        bool was = true;
-        for (int at = 1; was && at < 60; at++) {
-            put(left);
-            arm(kind == 0 ? PREAD : MALLOC, at, kind == 0 ? EIO : ENOMEM);
-            int told = msgq_open(path, &queues);
-            was = disarm();
-            /* (the system may do without memory) */
-            is(told == ENOTSUP || (was && told == (kind == 0 ? EIO : ENOMEM)), true, "calls in a journal");
-            is(was && kind == 0 && told == ENOTSUP, false, "a read that fails");
-            is(has_bytes(path, left.file) && has_bytes(journal, left.journal), true, "both stay");
-        }
-        is(was, false, "each has failed");
+/* An opening in another process that ends at a call; whether it came to it. */
+static bool opening_cut_off(struct both left, enum call call, int at) {
+    int status = 0;
+    put(left);
+    pid_t child = fork();
+    if (child == 0) {
+        msgq *queues;
+        dies = true;
+        arm(call, at, EIO);
+        _exit(msgq_open(path, &queues) == 0 ? 0 : 1);
     }
+    waitpid(child, &status, 0);
+    return WIFEXITED(status) && WEXITSTATUS(status) == 9;
+}
+
+/* Calls in a journal are brought in, where each call of the system fails in turn: alone, and behind an opening that was cut off. */
+static void calls_are_brought_in(struct bytes file) {
+    const struct both first = {file, calls(file)};
+    static const struct {
+        enum call call;
+        int at;
+    } ends[] = {{PREAD, 1}, {PWRITE, 1}, {FSYNC, 2}, {PWRITE, 2}, {FDATASYNC, 1}, {PWRITE, 3}, {FDATASYNC, 2}};
+    put(first);
+    before = after = state();
+    for (size_t n = 0; n < sizeof ends / sizeof *ends; n++) {
+        is(opening_cut_off(first, ends[n].call, ends[n].at), true, "an opening is cut off");
+        struct both left = keep();
+        for (enum call call = PREAD; call < CALLS; call++)
+            if (call != CLOCK && call != FOPEN)
+                recovery_fails(left, call, call == MALLOC || call == CALLOC ? ENOMEM : call == FSTAT ? ENOSPC : EIO);
+        free(left.file.at);
+        free(left.journal.at);
+    }
+}
+
+/* Notes, on a journal that was ended and on one that says nothing; without memory the file is saved. */
+static void notes_fail(struct both start) {
+    struct both torn = {start.file, {"no head", 7}};
+    for (enum call call = PREAD; call <= FSTAT; call++) {
+        save_fails(start, msgq_note, call, ENOSPC);
+        save_fails(torn, msgq_note, call, ENOSPC);
+    }
+    put(start);
+    msgq *queues = opened();
+    change(queues);
+    arm(MALLOC, 1, ENOMEM);
+    is(msgq_note(queues), 0, "a note without memory");
+    is(disarm(), true, "it is asked for");
+    is(has_bytes(path, start.file), false, "it is a save");
+    is(msgq_abandon(queues), 0, "abandon");
+    is(state() == after, true, "what was noted");
 }
 
 int main(int argc, char **argv) {
@@ -305,10 +344,11 @@ int main(int argc, char **argv) {
         if (call != CLOCK && call != FLOCK && call != FOPEN)
             recovery_fails(alone, call, call == MALLOC || call == CALLOC ? ENOMEM : EIO);
     for (enum call call = PREAD; call <= FSTAT; call++)
-        save_fails(start, call, ENOSPC);
+        save_fails(start, msgq_save, call, ENOSPC);
+    notes_fail(start);
     others(start);
     clock_fails(start);
-    calls_are_read(start.file);
+    calls_are_brought_in(start.file);
     free(start.file.at);
     free(start.journal.at);
     printf("%d passed, %d failed\n", passed, failed);

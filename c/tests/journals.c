@@ -105,9 +105,8 @@ static void add(struct left *it, uint32_t page, const uint8_t *was) {
 }
 
 /* Adds an addition of calls: its length with the highest bit set, its bytes, and the digest. */
-static void add_calls(struct left *it, const char *calls) {
-    uint8_t all[SUM + 4 + 64];
-    uint32_t length = (uint32_t)strlen(calls);
+static void add_calls(struct left *it, const void *calls, uint32_t length) {
+    uint8_t all[SUM + 4 + 256];
     memcpy(all, it->sum, SUM);
     number(all + SUM, 0x80000000u | length);
     memcpy(all + SUM + 4, calls, length);
@@ -115,6 +114,29 @@ static void add_calls(struct left *it, const char *calls) {
     memcpy(it->bytes + it->count, all + SUM, 4 + length);
     memcpy(it->bytes + it->count + 4 + length, it->sum, SUM);
     it->count += 4 + length + SUM;
+}
+
+/* Adds what says that the images before it were put back. */
+static void add_put_back(struct left *it) {
+    uint8_t all[SUM + 4];
+    memcpy(all, it->sum, SUM);
+    number(all + SUM, 0x40000000u);
+    digest(all, sizeof all, it->sum);
+    memcpy(it->bytes + it->count, all + SUM, 4);
+    memcpy(it->bytes + it->count + 4, it->sum, SUM);
+    it->count += 4 + SUM;
+}
+
+enum { CALL = 62 };
+
+/* Spells the call by which this process sent two bytes to queue 1, by NOWAIT at moment 5, and was told a serial. */
+static void spell_call(uint8_t *at, uint8_t serial) {
+    static const uint8_t sent[CALL] = {[0] = 5, [8] = 42, [36] = 2, [37] = 1, [40] = 1, [44] = 7, [52] = 'a', 'b'};
+    const uint32_t caller[3] = {(uint32_t)getpid(), (uint32_t)geteuid(), (uint32_t)getegid()};
+    memcpy(at, sent, CALL);
+    for (int n = 0; n < 12; n++)
+        at[20 + n] = (uint8_t)(caller[n / 4] >> (n % 4 * 8));
+    at[54] = serial;
 }
 
 static void says(const char *words) {
@@ -164,10 +186,86 @@ static void is_none(const struct left *it, size_t count, uint32_t save, const ch
     is(msgq_close(queues), 0, "close");
 }
 
+/* Opens the bytes with a journal with calls: they are brought in, with two messages more, and it is ended. */
+static void are_made(const struct left *it, const char *what) {
+    msgq *queues;
+    struct msgq_info info;
+    struct msgq_message got;
+    char body[8];
+    write_all(path, bytes, sizeof bytes);
+    write_all(journal, it->bytes, it->count);
+    is(msgq_open(path, &queues), 0, what);
+    is(msgq_abandon(queues), 0, "abandon");
+    is(holds(path, bytes, sizeof bytes), 0, "they are in the file");
+    FILE *file = fopen(journal, "r");
+    if (file == NULL || fread(body, 1, sizeof body, file) != sizeof body || fclose(file) != 0)
+        exit(2);
+    is(memcmp(body, "msgqdone", sizeof body), 0, "the journal is ended");
+    is(msgq_open(path, &queues), 0, "open");
+    is(msgq_stat(queues, 1, &info), 0, "stat");
+    is((long long)info.qnum, 3, what);
+    is((long long)info.stime, 5, what);
+    for (uint64_t serial = 2; serial < 4; serial++) {
+        is(msgq_receive(queues, 1, 7, body, sizeof body, MSGQ_NOWAIT, NULL, &got), 0, what);
+        is((long long)got.serial, (long long)serial, what);
+        is(got.length == 2 && memcmp(body, "ab", 2) == 0, 1, what);
+    }
+    is(msgq_abandon(queues), 0, "abandon");
+}
+
+/* Calls that a server has answered, behind which a save may have begun. */
+static void calls(void) {
+    static const char NOT_ITS[] =
+        "it can't be opened: the calls in its journal are of another file: put the file or the journal that belongs there";
+    static struct left it, before;
+    uint8_t call[2 * CALL];
+    memcpy(bytes, good, sizeof bytes);
+    spell_call(call, 2);
+    spell_call(call + CALL, 3);
+    begin(&it, 3, 7, PAGES, good);
+    add_calls(&it, call, 2 * CALL);
+    are_made(&it, "calls of one addition");
+    begin(&it, 3, 7, PAGES, good);
+    add_calls(&it, call, CALL);
+    add_put_back(&it);
+    add_calls(&it, call + CALL, CALL);
+    are_made(&it, "calls of two additions");
+    before = it;
+    memset(bytes + ROOT * PAGE, 'x', PAGE);
+    add(&it, ROOT, good + ROOT * PAGE);
+    are_made(&it, "calls, and a page that is put back");
+    it.bytes[it.count - 1]++;
+    memcpy(bytes, good, sizeof bytes);
+    are_made(&it, "calls, and an image that is wrong");
+    it = before;
+    add_put_back(&it);
+    add(&it, PAGES, good);
+    is_refused(&it, EBADMSG, "it can't be opened: its journal is of another file: put the file or the journal that belongs there");
+    /* A serial that was not told, bytes behind the last call, and calls that are none. */
+    begin(&it, 3, 7, PAGES, good);
+    add_calls(&it, call + CALL, CALL);
+    is_refused(&it, EBADMSG, NOT_ITS);
+    begin(&it, 3, 7, PAGES, good);
+    add_calls(&it, call, CALL + 1);
+    is_refused(&it, EBADMSG, NOT_ITS);
+    begin(&it, 3, 7, PAGES, good);
+    add_calls(&it, "calls", 5);
+    is_refused(&it, EBADMSG, NOT_ITS);
+    /* Where none is whole there is no journal. */
+    is_none(&it, it.count - 1, 8, "calls that are cut");
+    it.bytes[it.count - 1]++;
+    is_none(&it, it.count, 8, "calls whose digest is wrong");
+    is_none(&it, HEAD + 3, 8, "calls without their length");
+    begin(&it, 3, 7, PAGES, good);
+    add(&it, ROOT, good + ROOT * PAGE);
+    is_none(&it, it.count, 8, "a page where calls have to stand");
+    begin(&it, 3, 7, PAGES, good);
+    add_put_back(&it);
+    is_none(&it, it.count, 8, "images that were put back, and no calls");
+}
+
 static void journals(void) {
     static const char FOREIGN[] = "it can't be opened: its journal is of another file: put the file or the journal that belongs there";
-    static const char CALLS[] =
-        "it can't be opened: calls that a server has answered stand in its journal: any command of msgq on it brings them in, as 'msgq check'";
     static struct left it;
     static uint8_t more[(PAGES + 1) * PAGE];
     uint8_t *page = bytes + ROOT * PAGE, *first = bytes;
@@ -208,16 +306,9 @@ static void journals(void) {
     }
     begin(&it, 4, 7, PAGES, good);
     is_refused(&it, ENOTSUP, "it can't be opened: its journal is of another version");
-    begin(&it, 3, 7, PAGES, good);
-    add_calls(&it, "calls");
-    is_refused(&it, ENOTSUP, CALLS);
-    is_none(&it, it.count - 1, 1, "calls that are cut");
-    it.bytes[it.count - 1]++;
-    is_none(&it, it.count, 1, "calls whose digest is wrong");
-    is_none(&it, HEAD + 3, 1, "calls without their length");
-    begin(&it, 3, 7, PAGES, good);
-    add(&it, ROOT, page);
-    is_none(&it, it.count, 1, "a page where calls have to stand");
+    calls();
+    memcpy(bytes, good, sizeof bytes);
+    memset(page, 'x', PAGE);
     begin(&it, 2, 7, PAGES, good);
     add(&it, ROOT, page);
     is_none(&it, 1, 1, "a journal of one byte");

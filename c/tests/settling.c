@@ -205,7 +205,7 @@ struct row {
     const char *said;     /* the last of it, behind the name of the file */
 };
 
-#define LEFT "calls that a server has answered stand in its journal, and not in it, and are not seen here"
+#define LEFT "calls stand in its journal, and not in it, and are not seen here"
 
 /* Settles the file in a process of its own, which says things once, and twice as `top` does. */
 static void settle_twice(const struct row *row, bool is_closed) {

@@ -77,7 +77,8 @@ pub fn create(path: impl AsRef<Path>, pages: u32) -> Result<(), Error> {
     )
 }
 
-/// A file of queues that is open, or a server of one. Where a file is let go without `close` what was not saved is lost.
+/// A file of queues that is open, or a server of one. Where a file is let go without `close` what was neither saved nor noted is
+/// lost.
 #[derive(Debug)]
 pub struct Queues {
     at: raw::Handle,
@@ -345,6 +346,16 @@ impl Queues {
     pub fn save(&self) -> Result<(), Error> {
         // SAFETY: the file is open.
         must(unsafe { raw::msgq_save(self.at) }, "a save")
+    }
+
+    /// Brings what has changed to where it outlasts a crash, as `save` does, but notes the calls in the journal of the file: for
+    /// one wait for the disk in the place of three. Who reads the file sees them once it is saved or closed.
+    ///
+    /// # Errors
+    /// Those of `save`.
+    pub fn note(&self) -> Result<(), Error> {
+        // SAFETY: the file is open.
+        must(unsafe { raw::msgq_note(self.at) }, "a note")
     }
 
     /// From here on a call that would wait is told `EINTR`.

@@ -105,6 +105,7 @@ extern "C" {
     pub fn msgq_remove(queues: Handle, id: u32) -> c_int;
     pub fn msgq_list(queues: Handle, after: u32, id: *mut u32) -> c_int;
     pub fn msgq_save(queues: Handle) -> c_int;
+    pub fn msgq_note(queues: Handle) -> c_int;
     pub fn msgq_stop(queues: Handle) -> c_int;
     pub fn msgq_close(queues: Handle) -> c_int;
     pub fn msgq_abandon(queues: Handle) -> c_int;

@@ -50,6 +50,20 @@ fn a_message_is_kept() {
 }
 
 #[test]
+fn what_is_noted_is_kept() {
+    let file = NewFile::new("noted");
+    let queues = Queues::open(&file.0).unwrap();
+    let id = queues.get(Key::Of(7), Create::New, 0o600).unwrap();
+    queues.send(id, 3, b"one", Wait::Never).unwrap();
+    queues.note().unwrap();
+    queues.send(id, 3, b"two", Wait::Never).unwrap();
+    drop(queues);
+    let queues = Queues::open(&file.0).unwrap();
+    assert_eq!(queues.stat(id).unwrap().qnum, 1);
+    assert_eq!(queues.receive(id, 0, Wait::Never).unwrap().body, b"one");
+}
+
+#[test]
 fn messages_are_put_at_once() {
     let file = NewFile::new("at-once");
     let queues = Queues::open(&file.0).unwrap();

@@ -6,20 +6,20 @@ use Rattle.std_alloc.proofs.BoxSteps.Form.{Bx}
 use Rattle.std_heap.specs.contracts.Global as Heap
 use Rattle.std_heap.specs.contracts.GlobalAllocator.TheImpl.{ghosts, dict}
 use Rattle.std_heap.proofs.Global.TheLaws as heap
-use Rattle.session.specs.contracts.session.Session as Session
-use Rattle.session.proofs.session.Session.TheLaws as session
+use Rattle.msgq_c.specs.contracts.kept.Kept as Kept
+use Rattle.msgq_c.proofs.kept.Kept.TheLaws as kept
 use Rattle.msgq_c.specs.contracts.held.parts.Parts as Parts
 use Rattle.msgq_c.specs.contracts.held.Held as Held
 
 abbrev pub E : Bx
 E = record {
-  row = Session.the_row;
-  laws = session.the_row_laws;
+  row = Kept.the_row;
+  laws = kept.the_row_laws;
   al = record { row = Heap.the_row; laws = heap.the_row_laws; g = ghosts; d = dict; drops = impl [] tnil dnil };
 }
 
 abbrev pub FromParts : Slot 0
-FromParts = plain (λ _. Parts.the_row Session.the_row Heap.the_row ghosts)
+FromParts = plain (λ _. Parts.the_row Kept.the_row Heap.the_row ghosts)
 
 abbrev pub FromHeld : Slot 0
 FromHeld = plain (λ _. Held.the_row)

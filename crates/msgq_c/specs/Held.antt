@@ -8,7 +8,7 @@ use Rattle.std.specs.Global.{Global}
 use Rattle.std.specs.declared.option.Option.{Option}
 use Rattle.std.specs.declared.option.Option.TheVariants.{None, Some}
 use Rattle.std_heap.specs.contracts.GlobalAllocator.TheImpl.{ghosts}
-use Rattle.session.specs.contracts.session.Session.{the_row}
+use Rattle.msgq_c.specs.contracts.kept.Kept.{the_row}
 
 -- a session, or nothing
 abbrev pub KeptSession : Type 0

@@ -1,6 +1,6 @@
 //! The calls of message queues (POSIX.1-2017, `msgget`, `msgsnd`, `msgrcv`, `msgctl`).
 
-ghost use Rattle.std.specs.Prelude.{◌≡◌, length, min};
+ghost use Rattle.std.specs.Prelude.{◌≡◌, IfOk, length, min};
 ghost use Rattle.queue_model.specs.declared.call.Call.TheVariants as calls;
 ghost use Rattle.msgq_c.specs.Arguments.{get_of, receive_of, send_of, set_of};
 ghost use Rattle.msgq_c.specs.Serving.{Serves};
@@ -11,6 +11,7 @@ use crate::codes::{NO_MEMORY, NO_SESSION, code_of};
 use crate::handle::Handle;
 use crate::serving::serve;
 use crate::telling::{Got, Info};
+use session::Unanswered;
 use session::queue_model::{Answer, Body, Call};
 use std::alloc::Global;
 
@@ -90,18 +91,26 @@ pub extern "C" fn msgq_session_receive(
     let Some(result) = serve(alloc, handle, call.call(size)) else {
         return NO_SESSION;
     };
-    if let Ok(Answer::Received(message)) = &result {
-        let bytes = message.bytes.as_slice();
-        let count = bytes.len().min(room.len());
-        room[..count].copy_from_slice(&bytes[..count]);
-        *got = Got {
-            serial: message.serial,
-            mtype: message.mtype,
-            length: bytes.len(),
-            sender: message.sender,
-        };
-    }
+    tell_message(&result, room, got);
     code_of(&result)
+}
+
+/// Tells of a message that was taken, and copies its bytes as far as there is room.
+fn tell_message(came: &Result<Answer, Unanswered>, room: &mut [u8], got: &mut Got)
+    ensures { IfOk came.now (TellsMessage got.new room.new) }
+{
+    let Ok(Answer::Received(message)) = came else {
+        return;
+    };
+    let bytes = message.bytes.as_slice();
+    let count = bytes.len().min(room.len());
+    room[..count].copy_from_slice(&bytes[..count]);
+    *got = Got {
+        serial: message.serial,
+        mtype: message.mtype,
+        length: bytes.len(),
+        sender: message.sender,
+    };
 }
 
 /// `msgctl` with `IPC_STAT`: tells about a queue.

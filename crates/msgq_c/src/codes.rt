@@ -31,6 +31,12 @@ pub(crate) const IN_USE: u32 = 102;
 /// A file can't have so many pages, or has no such page.
 pub(crate) const NO_PAGE: u32 = 103;
 
+/// Calls do not lead on from the pages of the file.
+pub(crate) const FOREIGN: u32 = 104;
+
+/// The pages are to be written: what was done is not noted.
+pub(crate) const DUE: u32 = 105;
+
 /// That of a call.
 pub(crate) fn code_of(came: &Result<Answer, Unanswered>) -> u32
     ensures { result ≡ code_of came.now }

@@ -1,15 +1,20 @@
 //! Sessions are opened and closed, and their pages are read.
 
-ghost use Rattle.std.specs.Prelude.{◌≡◌, IsNone};
+ghost use Rattle.std.specs.Prelude.{◌≡◌, IsNone, Ok};
 ghost use Rattle.session.specs.Words.{CanHavePages};
-ghost use Rattle.msgq_c.specs.Files.{Closes, CopiesPage, Counts, Creates, HasNoSuchSize, IsKept, NotesHandle, OpensHandle, StopsHandle, TellsNextPage, caller_of};
+ghost use Rattle.msgq_c.specs.Files.{Closes, CopiesHandle, CopiesPage, Counts, Creates, EndsNotes, HasNoSuchSize, IsKept, NotesHandle, OpensHandle, RemakesHandle, StopsHandle, TellsNextPage, caller_of};
 
-use crate::codes::{DONE, FAILED, IN_USE, NO_MEMORY, NO_PAGE, NO_SESSION};
+use crate::codes::{DONE, DUE, FAILED, FOREIGN, IN_USE, NO_MEMORY, NO_PAGE, NO_SESSION};
 use crate::handle::Handle;
+use crate::kept::{Kept, Unmade};
+use call_entries::CallLog;
 use session::queue_model::Caller;
 use session::{LEAST_PAGES, MAX_PAGES, OpenFault, PAGE_BYTES, Session};
 use std::alloc::Global;
 use std::mem::size_of;
+
+/// Calls of so many bytes may be noted at once, some 8,000 of 64 bytes.
+const NOTED_BYTES: usize = 1_048_576;
 
 /// Who makes the calls of a session.
 #[repr(C)]
@@ -36,7 +41,8 @@ pub extern "C" fn msgq_session_open(
     if handle.is_open {
         return IN_USE;
     }
-    keep(alloc, handle, Session::open(alloc, bytes, owner.caller()))
+    let caller = owner.caller();
+    keep(alloc, handle, caller, Session::open(alloc, bytes, caller))
 }
 
 /// Opens a new file of so many pages.
@@ -58,7 +64,8 @@ pub extern "C" fn msgq_session_create(
     if pages < LEAST_PAGES || MAX_PAGES < pages {
         return NO_PAGE;
     }
-    keep(alloc, handle, Session::create(alloc, pages, owner.caller()))
+    let caller = owner.caller();
+    keep(alloc, handle, caller, Session::create(alloc, pages, caller))
 }
 
 /// How many pages the file has.
@@ -69,9 +76,9 @@ pub extern "C" fn msgq_session_pages(alloc: Global, handle: &mut Handle, pages: 
     if !handle.is_open {
         return NO_SESSION;
     }
-    let session = handle.take(alloc);
-    *pages = session.pages();
-    handle.put(session);
+    let kept = handle.take(alloc);
+    *pages = kept.session.pages();
+    handle.put(kept);
     DONE
 }
 
@@ -88,13 +95,13 @@ pub extern "C" fn msgq_session_page(
     if !handle.is_open {
         return NO_SESSION;
     }
-    let mut session = handle.take(alloc);
-    if page >= session.pages() {
-        handle.put(session);
+    let mut kept = handle.take(alloc);
+    if page >= kept.session.pages() {
+        handle.put(kept);
         return NO_PAGE;
     }
-    let given = session.page(page);
-    handle.put(session);
+    let given = kept.session.page(page);
+    handle.put(kept);
     match given {
         Some(bytes) => {
             *into = bytes;
@@ -118,9 +125,9 @@ pub extern "C" fn msgq_session_next_changed(
     if !handle.is_open {
         return NO_SESSION;
     }
-    let session = handle.take(alloc);
-    let told = session.next_changed(from);
-    handle.put(session);
+    let kept = handle.take(alloc);
+    let told = kept.session.next_changed(from);
+    handle.put(kept);
     match told {
         Some(next) => {
             *page = next;
@@ -130,8 +137,8 @@ pub extern "C" fn msgq_session_next_changed(
     }
 }
 
-/// Notes that the pages are saved, for who has written each that has changed: the others are told
-/// as changed once they change again.
+/// Notes that the pages are saved, for who has written each that has changed, and has ended the
+/// journal: pages are told as changed once they change again.
 #[unsafe(no_mangle)]
 pub extern "C" fn msgq_session_note_saved(alloc: Global, handle: &mut Handle) -> u32
     ensures { NotesHandle result handle.old.held.session handle.new.held.session }
@@ -139,10 +146,72 @@ pub extern "C" fn msgq_session_note_saved(alloc: Global, handle: &mut Handle) ->
     if !handle.is_open {
         return NO_SESSION;
     }
-    let mut session = handle.take(alloc);
-    let is_saved = session.note_saved();
-    handle.put(session);
+    let mut kept = handle.take(alloc);
+    let is_saved = kept.end_save();
+    handle.put(kept);
     if is_saved { DONE } else { FAILED }
+}
+
+/// Copies the entries of the calls that may have changed the system since the pages were saved, or
+/// since they were noted last, one behind the other (docs/FORMAT.md, "Calls"), and how many bytes
+/// they have. Where the pages are to be saved instead, that is told.
+#[unsafe(no_mangle)]
+pub extern "C" fn msgq_session_notes(
+    alloc: Global,
+    handle: &mut Handle,
+    into: &mut [u8],
+    count: &mut usize,
+) -> u32
+    ensures { CopiesHandle count.new into.new result
+        handle.old.held.session handle.new.held.session }
+{
+    if !handle.is_open {
+        return NO_SESSION;
+    }
+    let kept = handle.take(alloc);
+    let copied = kept.copy_notes(into);
+    handle.put(kept);
+    match copied {
+        Some(many) => {
+            *count = many;
+            DONE
+        }
+        None => DUE,
+    }
+}
+
+/// These entries stand in the journal.
+#[unsafe(no_mangle)]
+pub extern "C" fn msgq_session_end_notes(alloc: Global, handle: &mut Handle) -> u32
+    ensures { EndsNotes result handle.old.held.session handle.new.held.session }
+{
+    if !handle.is_open {
+        return NO_SESSION;
+    }
+    let mut kept = handle.take(alloc);
+    kept.end_notes();
+    handle.put(kept);
+    DONE
+}
+
+/// Makes the calls again of an addition to the journal of the file, which a server had answered. Where
+/// one of them is not answered as it was, or there is no memory, the session is let go.
+#[unsafe(no_mangle)]
+pub extern "C" fn msgq_session_remake(alloc: Global, handle: &mut Handle, calls: &[u8]) -> u32
+    ensures { RemakesHandle calls.now result handle.old.held.session handle.new.held.session }
+{
+    if !handle.is_open {
+        return NO_SESSION;
+    }
+    let mut kept = handle.take(alloc);
+    match kept.make_all(alloc, calls) {
+        Ok(()) => {
+            handle.put(kept);
+            DONE
+        }
+        Err(Unmade::Foreign) => FOREIGN,
+        Err(Unmade::NoMemory) => NO_MEMORY,
+    }
 }
 
 /// Stops the system: from here on a call that would wait is refused.
@@ -153,9 +222,9 @@ pub extern "C" fn msgq_session_stop(alloc: Global, handle: &mut Handle) -> u32
     if !handle.is_open {
         return NO_SESSION;
     }
-    let mut session = handle.take(alloc);
-    session.stop();
-    handle.put(session);
+    let mut kept = handle.take(alloc);
+    kept.session.stop();
+    handle.put(kept);
     DONE
 }
 
@@ -179,20 +248,42 @@ pub extern "C" fn msgq_session_handle_size() -> usize
     size_of::<Handle>()
 }
 
-/// Puts a session that was opened into its handle.
-fn keep(alloc: Global, handle: &mut Handle, opened: Result<Session, OpenFault>) -> u32
+/// Puts a session that was opened for a caller into its handle.
+fn keep(
+    alloc: Global,
+    handle: &mut Handle,
+    caller: Caller,
+    opened: Result<Session, OpenFault>,
+) -> u32
     requires { IsNone handle.old.held.session }
-    ensures { IsKept opened result handle.new.held.session }
+    ensures { IsKept caller opened result handle.new.held.session }
 {
     match opened {
-        Ok(session) => match Box::new(alloc, session) {
-            Ok(session) => {
-                handle.put(session);
-                DONE
-            }
-            Err(_) => NO_MEMORY,
-        },
+        Ok(session) => put(alloc, handle, caller, session),
         Err(fault) => u32::from(fault.number()),
+    }
+}
+
+/// Puts a session into its handle, where there is memory.
+fn put(alloc: Global, handle: &mut Handle, caller: Caller, session: Session) -> u32
+    requires { IsNone handle.old.held.session }
+    ensures { IsKept caller (Ok session) result handle.new.held.session }
+{
+    let Ok(log) = CallLog::with_room(alloc, NOTED_BYTES) else {
+        return NO_MEMORY;
+    };
+    let kept = Kept {
+        session,
+        caller,
+        log,
+        lacked_room: false,
+    };
+    match Box::new(alloc, kept) {
+        Ok(kept) => {
+            handle.put(kept);
+            DONE
+        }
+        Err(_) => NO_MEMORY,
     }
 }
 

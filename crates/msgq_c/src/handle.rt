@@ -5,7 +5,7 @@ ghost use Rattle.std.specs.Option.{is_some};
 ghost use Rattle.msgq_c.specs.Held.{KeptSession};
 
 use crate::held::Held;
-use session::Session;
+use crate::kept::Kept;
 use std::alloc::Global;
 use std::mem;
 
@@ -20,7 +20,7 @@ pub struct Handle {
 
 impl Handle {
     /// Puts a session into a handle that has none.
-    pub(crate) fn put(&mut self, session: Box<Session>)
+    pub(crate) fn put(&mut self, session: Box<Kept>)
         requires { IsNone self.old.held.session }
         ensures { self.new.held.session ≡ Some session.value }
     {
@@ -31,7 +31,7 @@ impl Handle {
     }
 
     /// Takes the session out.
-    pub(crate) fn take(&mut self, alloc: Global) -> Box<Session>
+    pub(crate) fn take(&mut self, alloc: Global) -> Box<Kept>
         requires { IsSome self.old.held.session }
         ensures session { self.old.held.session ≡ Some result.value }
         ensures none { self.new.held.session ≡ None }

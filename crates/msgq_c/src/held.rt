@@ -5,8 +5,8 @@ ghost use Rattle.msgq_c.specs.Held.{KeptSession, kept_session_coded, owns_kept_s
 
 mod parts;
 
+use crate::kept::Kept;
 use parts::Parts;
-use session::Session;
 use std::alloc::Global;
 use std::marker::Model;
 use std::ptr;
@@ -37,21 +37,21 @@ impl Held {
     }
 
     /// The session of a box.
-    pub fn of(session: Box<Session>) -> Held
+    pub fn of(session: Box<Kept>) -> Held
         ensures { result.session ≡ Some session.value }
     {
         Held::of_parts(Parts::of(session))
     }
 
     /// The box again.
-    pub fn into_box(self) -> Box<Session>
+    pub fn into_box(self) -> Box<Kept>
         requires { IsSome self.session }
         ensures { self.session ≡ Some result.value }
     {
         self.into_parts().into_box()
     }
 
-    fn of_parts(parts: Parts<Session, Global>) -> Held
+    fn of_parts(parts: Parts<Kept, Global>) -> Held
         ensures { result.session ≡ Some parts.value }
     {
         let Parts { ptr, alloc } = parts;
@@ -61,13 +61,13 @@ impl Held {
         }
     }
 
-    fn into_parts(self) -> Parts<Session, Global>
+    fn into_parts(self) -> Parts<Kept, Global>
         requires { IsSome self.session }
         ensures { self.session ≡ Some result.value }
     {
         let Held { ptr, alloc } = self;
         Parts {
-            ptr: ptr as *mut Session,
+            ptr: ptr as *mut Kept,
             alloc,
         }
     }
@@ -77,5 +77,5 @@ impl Held {
 #[expect(dead_code)]
 fn a_session_changes_threads() {
     fn changes_threads<T: Send>() {}
-    changes_threads::<Session>();
+    changes_threads::<Kept>();
 }

@@ -18,8 +18,8 @@ pub(crate) fn serve(
     if !handle.is_open {
         return None;
     }
-    let mut session = handle.take(alloc);
-    let result = session.call(call);
-    handle.put(session);
+    let mut kept = handle.take(alloc);
+    let result = kept.call(call);
+    handle.put(kept);
     Some(result)
 }
