@@ -24,8 +24,8 @@ use page_device::PageDevice;
 use queue_model::Call;
 use std::io::Write;
 
-/// The journal of a run is let go once it has so many entries: so few that the memory of one entry is at
-/// hand for the next.
+/// The journal of a run is let go once it has so many entries: so few that malloc has their memory at
+/// hand for the next ones.
 const LONG_JOURNAL: usize = 12;
 
 /// Runs the lines of a script one after the other, each at its seat, and prints what each is replied.
