@@ -1,5 +1,5 @@
 -- A write in one body that meets a fault of the file is one step of its seat.
-use Rattle.std.proofs.Common.{◌≡◌, refl, sym, ap, ◌∙◌, subst, ℕ, ◌-◌, Bool, true, false, true≢false, inl, List, [], ◌++◌, Option, Some, length, slice_set, slice_index_or, append-nil, arith}
+use Rattle.std.proofs.Common.{◌≡◌, refl, sym, ap, ◌∙◌, subst, ℕ, ◌-◌, Bool, true, false, true≢false, inl, List, [], ◌++◌, Option, Some, None, length, slice_set, slice_index_or, append-nil, arith}
 use Rattle.std.specs.Option.{is_some}
 use Rattle.file_pages.specs.declared.fault.FileFault.{FileFault}
 use Rattle.step_rules.specs.declared.kind.Kind.TheVariants as kinds

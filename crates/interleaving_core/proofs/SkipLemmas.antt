@@ -9,7 +9,7 @@ use Rattle.xsi_calls.specs.CallSteps.{MakesCall}
 use Rattle.xsi_calls.specs.Machine.{is_searching, is_undecided}
 use Rattle.xsi_calls.specs.Words.{AskStep, AsksAtOnce, At, SearchesOnce, Way, WritesAtOnce, at}
 use Rattle.xsi_calls.specs.declared.conclusion.Conclusion.{Conclusion}
-use Rattle.interleaving_core.specs.Words.{CallView, IsSeat, PoolState, RecordKey, conclusion_of}
+use Rattle.interleaving_core.specs.Words.{CallView, IsSeat, PoolState, RecordKey, Table, conclusion_of}
 use Rattle.interleaving_core.specs.Active.{ActiveView, IsDrafted, decided_by}
 use Rattle.interleaving_core.specs.Counting.{AreSoundCounts, CountsState, Notes, NotesSearch, changes_counts}
 use Rattle.interleaving_core.specs.Driving.{Moves}
