@@ -29,8 +29,9 @@ const SEAT: u8 = 1;
 /// The frames that one seat needs.
 const LEAST_FRAMES: usize = 12;
 
-/// The journal of a session is let go once it has so many entries.
-const LONG_JOURNAL: usize = 1_024;
+/// The journal of a session is let go once it has so many entries: so few that malloc has their memory
+/// at hand for the next ones.
+const LONG_JOURNAL: usize = 12;
 
 /// The calls of one caller, one at a time, over the pages of a file in memory.
 #[derive(Drop)]
