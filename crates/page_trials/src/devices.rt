@@ -1,5 +1,5 @@
-//! Digests of another program, devices of which each transfer fails in turn, and
-//! files of the system.
+//! Digests of another program, pages that are tested together, devices of which each transfer fails
+//! in turn, and files of the system.
 
 use digests::{LANES, are_sealed};
 use page_device::{
