@@ -1,4 +1,4 @@
-//! Digests of pages, computed side by side: whether sixteen pages are sealed.
+//! Digests of pages, computed side by side: whether pages are sealed.
 
 #![tactic(auto)]
 

@@ -1,4 +1,4 @@
-//! Whether sixteen pages that follow one another are sealed.
+//! Whether pages that follow one another are sealed.
 
 ghost use Rattle.std.specs.Prelude.{◌≡◌, ℕ, ◌+◌, ◌^◌, ◌<◌, ◌≤◌, ◌↔◌, [], IsTrue, drop, length, slice_index, slice_index_or};
 ghost use Rattle.sha2.specs.Sha256.{digest_bytes, hash_after, initial_hash_256};
@@ -9,20 +9,26 @@ ghost use Rattle.digests.specs.Run.{AreSealed};
 use crate::compression::{compress, initial};
 use crate::row::{Row, WIDTH};
 use crate::words::{BLOCKS, words};
-use page_device::{DIGEST_BYTES, PAYLOAD_BYTES, Page};
+use page_device::{DIGEST_BYTES, PAYLOAD_BYTES, Page, unseal};
 
-/// How many pages are tested together.
+/// Pages of a run that is worth being read before it is tested: so many that take as long, page by
+/// page, as more do.
 pub const LANES: usize = 16;
 
-/// Whether each of sixteen pages, which are numbered from `first` on, is sealed.
+/// Whether each of the pages, which are numbered from `first` on, is sealed.
 pub fn are_sealed(first: u32, pages: &[Page]) -> bool
-    requires lanes { length pages.now ≡ LANES }
-    requires room { first + LANES ≤ 2 ^ 32 }
+    requires { first + length pages.now ≤ 2 ^ 32 }
     ensures { IsTrue result ↔ AreSealed first pages.now }
 {
-    'fours: for four in 0..LANES / WIDTH {
+    let fours = pages.len() / WIDTH;
+    'fours: for four in 0..fours {
         let at = WIDTH * four;
         if !four_are_sealed(first + at as u32, &pages[at..at + WIDTH]) {
+            return false;
+        }
+    }
+    'rest: for i in WIDTH * fours..pages.len() {
+        if unseal(first + i as u32, &pages[i]).is_err() {
             return false;
         }
     }

@@ -1,6 +1,7 @@
 //! Digests of another program, devices of which each transfer fails in turn, and
 //! files of the system.
 
+use digests::{LANES, are_sealed};
 use page_device::{
     DIGEST_BYTES, DeviceFault, FaultyDevice, FileDevice, MemDevice, PAGE_BYTES, PAYLOAD_BYTES,
     PageDevice, SystemFile, seal, unseal,
@@ -42,6 +43,22 @@ fn sealed_pages_have_the_digests_of_another_program(rt: HostRuntime) {
         page[100] ^= 1;
         let changed = unseal(number, &page);
         assert!(rt; changed == Err(DeviceFault::BadDigest), "page {number}");
+    }
+}
+
+#[test]
+fn one_wrong_page_of_sixteen_is_seen(rt: HostRuntime) {
+    let mut pages = [[0; PAGE_BYTES]; LANES];
+    for i in 0..LANES {
+        pages[i] = seal(40 + i as u32, &[i as u8; PAYLOAD_BYTES]);
+    }
+    assert!(rt; are_sealed(40, &pages));
+    assert!(rt; !are_sealed(41, &pages));
+    for i in 0..LANES {
+        pages[i][270 * i] ^= 1;
+        let is_seen = !are_sealed(40, &pages);
+        assert!(rt; is_seen, "page {i}");
+        pages[i][270 * i] ^= 1;
     }
 }
 
