@@ -133,8 +133,8 @@ impl SealedRun {
         self.first = page;
         self.end = read_pages(device, page, end, &mut self.pages);
         self.failed = self.end < end;
-        self.sealed = (self.end - self.first) as usize == LANES
-            && are_sealed(self.first, &self.pages);
+        let count = (self.end - self.first) as usize;
+        self.sealed = are_sealed(self.first, &self.pages[..count]);
         if self.end == page {
             return Err(StructureFault::Device);
         }
