@@ -6,6 +6,7 @@ pub mod EmptyLemmas
 pub mod NewLemmas
 pub mod NewStructure
 pub mod NewLaws
+pub mod SpelledLemmas
 pub mod OpenedSameLemmas
 pub mod StoredLemmas
 pub mod OpenedOpenLemmas

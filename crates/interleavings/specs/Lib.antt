@@ -2,6 +2,8 @@ pub mod Files
 pub mod NewFileLaws
 pub mod Resting
 pub mod OpenedLaws
+pub mod Spelled
+pub mod SpelledLaws
 pub mod SeatWords
 pub mod Beside
 pub mod Apart

@@ -14,6 +14,7 @@ mod playing;
 mod renewing;
 mod running;
 mod seat_laws;
+mod spelled_laws;
 
 pub use concurrent_laws::{
     calls_begin_together, calls_end_together, calls_leave_the_file_at_rest, calls_owe_apart,
@@ -53,4 +54,5 @@ pub use seat_laws::{
     a_seat_sees_what_it_saw, an_id_is_given_out_under_its_name,
     no_other_writes_under_a_calls_names, others_leave_what_a_call_knows,
 };
+pub use spelled_laws::{pages_spell_one_system, the_file_of_a_system_spells_it};
 pub use xsi_calls;
