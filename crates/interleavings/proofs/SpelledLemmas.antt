@@ -1,6 +1,6 @@
 -- The file of a system spells its records and no others, and pages spell one system at most.
 use Rattle.std.proofs.Common.{ℕ, ◌≡◌, ◌≢◌, true, false, List, [], ◌∷◌, map, Option, Some, None, refl, sym, ap, subst, ◌∙◌, arith}
-use Rattle.std.specs.List.{All, Contains, find}
+use Rattle.std.specs.List.{Contains, find}
 use Rattle.std.specs.Option.{option_map}
 use Rattle.std.proofs.lemmas.List.Folds.{flat_map-map}
 use Rattle.bucket_page.specs.Bucket.{Bucket}
@@ -13,7 +13,6 @@ use Rattle.bucket_page.proofs.PageLaws.{spelled_once}
 use Rattle.directory.specs.Links.{Links}
 use Rattle.directory.specs.declared.layout.TheConstants.{LAYOUT, ROOT_PAGE}
 use Rattle.directory.proofs.HeaderLaws.{is_today}
-use Rattle.directory.proofs.MemberLaws.{contains_none}
 use Rattle.file_check.specs.Records.{IsLivePage}
 use Rattle.file_check.specs.Whole.{HasJust, IsFileOf}
 use Rattle.file_check.proofs.RecordLemmas.{live_page}
@@ -33,7 +32,6 @@ use Rattle.record_walk.specs.Systems.{HasSystem}
 use Rattle.record_walk.specs.Words.{key_of_queue}
 use Rattle.record_walk.proofs.OneSystem.{one_system}
 use Rattle.type_chains.specs.Image.{image}
-use Rattle.type_chains.specs.RecordOf.{record_of}
 use Rattle.type_chains.proofs.Cases.{found_id}
 use Rattle.type_chains.proofs.Images.{image_has}
 use Rattle.type_chains.proofs.Members.{contains_head, contains_tail, in_map}

@@ -1,6 +1,6 @@
 -- What the pages of a file mean: from the root page on they spell buckets, and the records of these are just those of
 -- one lawful system. Who reads a file with another program needs no more. docs/FORMAT.md, "Pages", "Records".
-use Rattle.std.specs.Prelude.{ℕ, ◌≡◌, ◌≤◌, ⊤, false, List, [], ◌∷◌}
+use Rattle.std.specs.Prelude.{ℕ, ◌≡◌, ◌≤◌, false, List, [], ◌∷◌}
 use Rattle.std.specs.List.{flat_map}
 use Rattle.page_device.specs.Sealed.{IsSealed, payload_of}
 use Rattle.directory.specs.declared.layout.TheConstants.{ROOT_PAGE}

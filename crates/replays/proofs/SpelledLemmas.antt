@@ -1,15 +1,15 @@
 -- A run on a file, told of what its pages mean.
-use Rattle.std.proofs.Common.{◌≡◌, ◌⊎◌, inl, inr, ℕ, false, true, Bool, IsTrue, List, Option, Some, None}
+use Rattle.std.proofs.Common.{◌⊎◌, inl, inr, ℕ, false, true, Bool, List, Option, Some, None}
 use Rattle.bucket_page.specs.Pseudokeys.{sha_key}
 use Rattle.interleavings.proofs.SpelledLemmas.{spells}
 use Rattle.queue_model.specs.declared.entry.Entry.{Entry}
-use Rattle.msgq_cli.specs.Scripts.{Parts, greatest_seat}
+use Rattle.msgq_cli.specs.Scripts.{Parts}
 use Rattle.msgq_cli.specs.declared.ending.Ending.{Ending}
 use Rattle.msgq_cli.specs.declared.reply.Reply.{Reply}
 use Rattle.interleavings.specs.LoneKernelWords.{State}
 use Rattle.replays.specs.Beside.{RunsAsOne, RunsBeside, RunsBesideBy, RunsScriptOn, is_of_one_seat, origin_on}
 use Rattle.replays.specs.PlainRuns.{IsPlainRun, IsPlainRunBy, RunsFile, RunsPlainly}
-use Rattle.replays.specs.Serves.{EndsWell, RunsOn}
+use Rattle.replays.specs.Serves.{EndsWell}
 use Rattle.replays.specs.Spelled.{EndsSpelled, IsLeftUnopened, IsSpelledJournal, LeavesSpelled, RunsAsOneSpelled, RunsPages, RunsScriptSpelled, RunsSpelled}
 use Rattle.replays.specs.Texts.{Effects, IsUnopened}
 use Rattle.replays.proofs.PlainRunLemmas.{plainly}
