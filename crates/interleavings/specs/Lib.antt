@@ -28,6 +28,7 @@ pub mod Outcomes
 pub mod Moments
 pub mod Playing
 pub mod Laws
+pub mod KeyLaws
 pub mod Rooms
 pub mod Renewing
 pub use Rattle.file_check.specs as file_check
