@@ -43,6 +43,8 @@ pub record IsHeld {K : Type 0} (of_key : K → RecordKey → ℕ) (o : Origin) (
 
 -- what its device has come to since then
 pub record KeepsDevice (o : Origin) (pool : PoolState) (failed : Bool) : Type 0 where
+  -- its file has as many pages as it had
+  pub size : length pool.images ≡ length o.content
   -- one that is spared has the pages that it had
   pub pages : HasFrames o → spared pool ≡ Some o.content
   -- transfers that failed are counted; and of an honest device a step has failed only where one of them did
