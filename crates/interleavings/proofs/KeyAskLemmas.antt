@@ -1,5 +1,6 @@
 -- The names that a call asks for: while an access is under way no key's, and of a Remove that asks its queue's.
-use Rattle.std.proofs.Common.{ℕ, ◌≡◌, refl, sym, ap, ◌∙◌, Bool, true, false, List, [], ◌∷◌, Option, Some, None, ⊤, if◌then◌else◌}
+use Rattle.std.proofs.Common.{ℕ, ◌≡◌, refl, sym, ap, ◌∙◌, Bool, true, false, List, [], ◌∷◌, Option, Some, None, if◌then◌else◌}
+use Rattle.std.specs.Prelude.{⊤}
 use Rattle.std.specs.List.{AllByRecursion, find}
 use Rattle.call_decisions.specs.Anything.{KnowsOf, if_of, of_remove, IsOfKind}
 use Rattle.call_decisions.specs.InquiryWords.{RemoveInquiry}
@@ -11,7 +12,9 @@ use Rattle.queue_model.specs.Rules.{has_id}
 use Rattle.record_file.specs.Accesses.{AccessView, access_turn}
 use Rattle.record_file.specs.BucketAccesses.{ask_in}
 use Rattle.record_file.specs.Deletes.{DeleteView, delete_turn, part}
-use Rattle.record_file.specs.InsertWords.{SecondPlace, Approaching, Look, Hop, Write, Splitting, GiveBackPage, GiveBackDirectory, HasEnded as HasTried}
+use Rattle.record_file.specs.declared.second_place.SecondPlace.{SecondPlace}
+use Rattle.record_file.specs.declared.second_place.SecondPlace.TheVariants.{Approaching, Look, Hop, Write, Splitting, GiveBackPage, GiveBackDirectory}
+use Rattle.record_file.specs.declared.second_place.SecondPlace.TheVariants.{Ended as HasTried}
 use Rattle.record_file.specs.Inserts.{ask_in as insert_ask}
 use Rattle.record_file.specs.Operations.{operation_turn}
 use Rattle.record_file.specs.SecondTries.{ask_at as second_ask}
@@ -23,8 +26,9 @@ use Rattle.record_file.specs.declared.insert.InsertStage.TheVariants.{First, Sec
 use Rattle.record_file.specs.declared.operation.RecordOperation.{RecordOperation}
 use Rattle.record_file.specs.declared.operation.RecordOperation.TheVariants.{Find, Insert, Replace, Delete}
 use Rattle.record_file.specs.split_merge.Facts.{ask_at as merge_ask, merge_turn}
-use Rattle.record_file.specs.split_merge.MergeWords.{ApproachView, MergePlace}
-use Rattle.record_file.specs.split_merge.MergeWords as merges
+use Rattle.record_file.specs.split_merge.MergeWords.{ApproachView}
+use Rattle.record_file.specs.split_merge.declared.merge_place.MergePlace.{MergePlace}
+use Rattle.record_file.specs.split_merge.declared.merge_place.MergePlace.TheVariants as merges
 use Rattle.stale_search.specs.Approaches.{approach_ask_at}
 use Rattle.stale_search.specs.Searches.{ask_at}
 use Rattle.stale_search.specs.declared.place.ApproachPlace.{ApproachPlace}
