@@ -2,14 +2,12 @@
 use Rattle.std.proofs.Common.{ℕ, ◌≡◌, refl, sym, ap, ◌∙◌, Bool, true, false, List, [], ◌∷◌, Option, Some, None, if◌then◌else◌}
 use Rattle.std.specs.Prelude.{⊤}
 use Rattle.std.specs.List.{AllByRecursion, find}
-use Rattle.call_decisions.specs.Anything.{KnowsOf, if_of, of_remove, IsOfKind}
+use Rattle.call_decisions.specs.Anything.{if_of, IsOfKind}
 use Rattle.call_decisions.specs.InquiryWords.{RemoveInquiry}
 use Rattle.call_decisions.specs.Names.{by_phase, names_for}
-use Rattle.page_locks.specs.declared.lock.LockName.TheVariants as names
-use Rattle.queue_model.specs.declared.call.Call.TheVariants.{Remove}
 use Rattle.queue_model.specs.declared.queue.Queue.{Queue}
 use Rattle.queue_model.specs.Rules.{has_id}
-use Rattle.record_file.specs.Accesses.{AccessView, access_turn}
+use Rattle.record_file.specs.Accesses.{AccessView}
 use Rattle.record_file.specs.BucketAccesses.{ask_in}
 use Rattle.record_file.specs.Deletes.{DeleteView, delete_turn, part}
 use Rattle.record_file.specs.declared.second_place.SecondPlace.{SecondPlace}
@@ -44,15 +42,15 @@ use Rattle.xsi_calls.specs.PaymentStages as payments
 use Rattle.xsi_calls.specs.Payments.{payment_turn}
 use Rattle.xsi_calls.specs.ToldNames.{IsKeyOf, OfKey}
 use Rattle.xsi_calls.specs.Undecided.{Trials, its_plan, turn_in, untried}
-use Rattle.xsi_calls.specs.UndecidedWords.{Call, Lock, LockName, Plan, QuestionsView, RecordKey, State, Store}
+use Rattle.xsi_calls.specs.UndecidedWords.{Call, Lock, Plan, QuestionsView, RecordKey, State, Store}
 use Rattle.xsi_calls.specs.Views.{access_next, turn_under, writes_turn}
 use Rattle.xsi_calls.specs.declared.question.Question.{Question}
+use Rattle.xsi_calls.specs.declared.turn.NameTurn.TheVariants.{GiveBack}
 use Rattle.xsi_control.specs.Asking as removes
 use Rattle.xsi_control.specs.Knowing as knowing
 use Rattle.xsi_control.specs.Removing.{names_of}
 use Rattle.xsi_control.specs.declared.stage.Stage as stage
 use Rattle.xsi_control.specs.declared.stage.Stage.TheVariants as stages
-use Rattle.xsi_remove.specs.Sweeps.{sweep_turn}
 use Rattle.xsi_calls.specs.PaymentWords.{Work}
 
 -- where it asks for a key's name, this is so of the key
@@ -155,11 +153,12 @@ module _ (IsSo : ℕ → Type 0) where
   names_ask [] [] all = tt
   names_ask [] (lock ∷ goal) all = all.0
   names_ask (lock ∷ held) [] all = tt
-  names_ask (lock ∷ held) (next ∷ goal) all = by (is_lock next lock)
+  names_ask (lock ∷ held) (next ∷ goal) all = by (is_lock next lock) (names_ask held goal all.1)
     where
-      by : (b : Bool) → AsksKey IsSo (turn_of_names (if b then name_turn held goal else _)).ask
-      by true = names_ask held goal all.1
-      by false = tt
+      by : (b : Bool) → AsksKey IsSo (turn_of_names (name_turn held goal)).ask →
+          AsksKey IsSo (turn_of_names (if b then name_turn held goal else GiveBack)).ask
+      by true more = more
+      by false more = tt
 
   -- ---- a call
 
@@ -182,7 +181,7 @@ module _ (IsSo : ℕ → Type 0) where
       AsksKey IsSo (payment_turn hash p stage s).ask
   payment_asks hash p (payments.Sweeping v) s = sweeping v
     where
-      sweeping : (v : Option Work) → AsksKey IsSo (sweep_turn v s).ask
+      sweeping : (v : Option Work) → AsksKey IsSo (payment_turn hash p (payments.Sweeping v) s).ask
       sweeping None = tt
       sweeping (Some w) = access_asks (Some w.access) s
   payment_asks hash p (payments.Writing w) s = writes_ask hash p w s
