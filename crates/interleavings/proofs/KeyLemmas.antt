@@ -12,8 +12,9 @@ use Rattle.interleavings.proofs.KeyLockLemmas.{takes}
 use Rattle.interleavings.proofs.NameLemmas.{under_way}
 use Rattle.interleavings.specs.Doing.{BeginsWoken, DoesBy, IsAsItStands, turn_of}
 use Rattle.interleavings.specs.KeyLaws.{HoldsKey, RemovesTakeTheirKey}
-use Rattle.interleavings.specs.Laws.{StepsRefineAndDo}
-use Rattle.interleavings.specs.Refining.{Refines}
+use Rattle.interleavings.specs.Laws.{RefinesOn, StepsRefineAndDo}
+use Rattle.interleavings.specs.Refining.{Refines, calls_of}
+use Rattle.interleavings.specs.Together.{AreTogether}
 use Rattle.interleavings.specs.Words.{ActiveView, Call, CallView, KernelState, RecordKey, State, Step, Table, after as journal_after, call_at, store_of}
 use Rattle.queue_model.proofs.JournalLemmas.{after-LeadsAlong}
 use Rattle.queue_model.specs.declared.call.Call.TheVariants.{Remove}
@@ -79,9 +80,11 @@ takes_its_key does hash base seat a did old new id key led sound there removes s
     subst (λ (s : State). HoldsKey old.locks seat key ⊎ IsKeyOf id s key)
     (sym (after-LeadsAlong old.callers old.journal base led.now led.leads)) (by on.does.is)
   where
-    on = does hash base seat a did old new led there sound step
-
+    together : AreTogether hash led.now (calls_of old.seats) old.pool old.locks
     together = (led.together sound).calls
+
+    on : RefinesOn hash base seat a did (led.together sound).calls.change old new
+    on = does hash base seat a did old new led there sound step
 
     made : (x : ActiveView) → x.machine.call ≡ Remove id → (x.machine.stage ≡ Undecided →
         KnowsOf x.machine.call x.machine.undecided.questions.inquiry x.machine.undecided.questions.room led.now) →

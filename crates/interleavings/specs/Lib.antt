@@ -26,6 +26,7 @@ pub mod Doing
 pub mod Ending
 pub mod Outcomes
 pub mod Moments
+pub mod Inserting
 pub mod Playing
 pub mod Laws
 pub mod KeyLaws
