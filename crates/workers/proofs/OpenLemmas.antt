@@ -4,18 +4,20 @@ use Rattle.std.specs.Prelude.{replicate, slice_index_or}
 use Rattle.std.proofs.lemmas.List.{length-map, length-replicate}
 use Rattle.atomic_table.specs.Seated.{TableId}
 use Rattle.page_device.specs.Sealed.{payload_of}
+use Rattle.interleaving_core.proofs.BeginLemmas.{idle_at}
 use Rattle.interleavings.specs.Laws.{OpensRefine}
 use Rattle.interleavings.specs.Moments.{once_if}
 use Rattle.interleavings.specs.Words.{HasSystem, MAX_SEATS}
 use Rattle.workers.specs.Views.{calls_in, newcomer, no_place, part_of, place_at, with_one_more}
 use Rattle.workers.specs.Entries.{seat_of}
 use Rattle.workers.proofs.DeviceLemmas.{all_spared}
+use Rattle.workers.proofs.RoomLemmas.{none_inserting}
 use Rattle.workers.specs.Held.{IsHeld, IsKept, KeepsDevice, places_from}
 use Rattle.workers.specs.Opening.{IsOpenedOn, IsPrepared, PreparedView, dealt_desk, newcomers, origin_of}
 use Rattle.workers.specs.Origins.{Origin}
 use Rattle.workers.specs.Stopping.{IsStopper}
 use Rattle.workers.specs.Told.{IsSeated, Sitter}
-use Rattle.workers.specs.Words.{ActiveView, Call, Caller, Desk, Entry, RefinesFile, IsOpened, KernelState, Place, RecordKey}
+use Rattle.workers.specs.Words.{ActiveView, Call, Caller, Desk, Entry, RefinesFile, IsOpened, KernelState, Place, RecordKey, call_at}
 
 -- ---- a kernel that was just opened
 
@@ -173,6 +175,8 @@ pub kept_at_start : {K : Type 0} (of_key : K → RecordKey → ℕ) (o : Origin)
 kept_at_start of_key o name table many k d p origin is = record {
   held = held_at_start of_key o name table many k d p origin is;
   device = device_at_start of_key o name k p.failed p.size origin;
+  rooms = λ honest. none_inserting _ k (λ seat. ap (λ (seats : List (Option ActiveView)). call_at seats seat) p.seats_are
+      ∙ idle_at (length k.callers) seat);
 }
 
 -- ---- who stops it

@@ -2,6 +2,7 @@
 use Rattle.std.specs.Prelude.{ℕ, suc, ◌≡◌, ◌≤◌, Bool, true, IsTrue, List, [], ◌∷◌, Option, Some, length}
 use Rattle.page_device.specs.Device.{HasRisen}
 use Rattle.buffer_pool.specs.Pool.{PoolState, spared}
+use Rattle.interleavings.specs.Inserting.{AreInserting}
 use Rattle.interleavings.specs.Moments.{once_if}
 use Rattle.workers.specs.Views.{calls_in, part_of}
 use Rattle.workers.specs.Entries.{seat_of}
@@ -56,3 +57,5 @@ pub record IsKept {K : Type 0} (of_key : K → RecordKey → ℕ) (o : Origin) (
     (count : ℕ) : Type 0 where
   pub held : IsHeld of_key o k d count
   pub device : KeepsDevice o k.pool k.failed
+  -- a call that lacks room has something to insert
+  pub rooms : (honest : IsTrue o.honest) → AreInserting (held.led honest).base k
