@@ -1,5 +1,5 @@
 -- A step of a Remove takes no key's name but that of its queue.
-use Rattle.std.proofs.Common.{ℕ, ◌≡◌, ◌⊎◌, inl, inr, refl, sym, ap, ◌∙◌, subst, true, false, List, Option, Some, None}
+use Rattle.std.proofs.Common.{ℕ, ◌≡◌, ◌⊎◌, inl, inr, refl, sym, ap, ◌∙◌, subst, false, Option, Some, None}
 use Rattle.std.proofs.lemmas.Bool.{true≢false}
 use Rattle.std.specs.List.{AllByRecursion}
 use Rattle.call_decisions.specs.Anything.{KnowsOf, of_remove}
@@ -13,18 +13,17 @@ use Rattle.interleavings.proofs.NameLemmas.{under_way}
 use Rattle.interleavings.specs.Doing.{BeginsWoken, DoesBy, IsAsItStands, turn_of}
 use Rattle.interleavings.specs.KeyLaws.{HoldsKey, RemovesTakeTheirKey}
 use Rattle.interleavings.specs.Laws.{RefinesOn, StepsRefineAndDo}
-use Rattle.interleavings.specs.Refining.{Refines, calls_of}
+use Rattle.interleavings.specs.Refining.{calls_of}
 use Rattle.interleavings.specs.Together.{AreTogether}
-use Rattle.interleavings.specs.Words.{ActiveView, Call, CallView, KernelState, RecordKey, State, Step, Table, after as journal_after, call_at, store_of}
+use Rattle.interleavings.specs.Words.{ActiveView, Call, CallView, KernelState, RecordKey, State, Step, Table, store_of}
 use Rattle.queue_model.proofs.JournalLemmas.{after-LeadsAlong}
 use Rattle.queue_model.specs.declared.call.Call.TheVariants.{Remove}
 use Rattle.xsi_calls.specs.Calling.{IsCallingAt}
 use Rattle.xsi_calls.specs.Knowing.{IsUndecidedIn}
-use Rattle.xsi_calls.specs.Machine.{IsNew}
 use Rattle.xsi_calls.specs.Stages.{Stage, Undecided, Paying, Releasing}
 use Rattle.xsi_calls.specs.ToldNames.{IsKeyOf, OfKey}
 use Rattle.xsi_calls.specs.Undecided.{Trials, UndecidedCall}
-use Rattle.xsi_calls.specs.UndecidedWords.{Change, IsFiled, Lock, PoolState, QuestionsView, Records}
+use Rattle.xsi_calls.specs.UndecidedWords.{Change, Lock, PoolState, QuestionsView, Records}
 use Rattle.xsi_inquiry.proofs.AgreeLemmas.{agrees_itself}
 
 -- ---- what a call knows before its Decide

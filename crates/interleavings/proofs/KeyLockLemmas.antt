@@ -1,5 +1,5 @@
 -- What a step does to the names of keys that its seat holds.
-use Rattle.std.proofs.Common.{ℕ, ◌≡◌, ◌⊎◌, inl, inr, refl, sym, ap, ◌∙◌, subst, true, false, ◌++◌, [], ◌∷◌, Option, Some, None, IsSome}
+use Rattle.std.proofs.Common.{ℕ, ◌≡◌, ◌⊎◌, inl, inr, sym, ap, ◌∙◌, subst, ◌++◌, [], ◌∷◌, Option, Some, None, IsSome}
 use Rattle.std.proofs.lemmas.Bool.{cases_Bool, true≢false}
 use Rattle.interleavings.proofs.KeyAskLemmas.{AsksKey}
 use Rattle.xsi_calls.specs.ToldNames.{OfKey}
@@ -68,7 +68,8 @@ module _ (seat key : ℕ) where
     moved_on page kind moves holds =
         let next = names.Page (next_at old.store page) in
         let there = subst Holds (ap locks_of moves.is) holds in
-        let seated = IsSeat-with_row old.locks seat seat (row_of old.locks seat ++ lock_of next kind ∷ []) moves.seated in
+        let seated = IsSeat-with_row old.locks seat seat (row_of old.locks seat ++ lock_of next kind ∷ [])
+        moves.seated in
         by (granted old.locks next kind moves.seated
         (released (with_lock old.locks seat next kind) (names.Page page) seated there))
       where
@@ -117,7 +118,8 @@ module _ (seat key : ℕ) where
       takes hash turn ReadEntry so d holds = inl (kept (ap locks_of d.is) holds)
       takes hash turn Look so d holds = inl (kept (ap locks_of d.reads.is) holds)
       takes hash turn Hop so d holds = inl (hopped (is_of_its_kind hash seat old new turn Hop d) holds)
-      takes hash turn WriteRecord so d holds = inl (kept (ap locks_of (is_of_its_kind hash seat old new turn WriteRecord d).is) holds)
+      takes hash turn WriteRecord so d holds =
+          inl (kept (ap locks_of (is_of_its_kind hash seat old new turn WriteRecord d).is) holds)
       takes hash turn Decide so d holds = inl (kept (ap locks_of d) holds)
       takes hash turn TakePage so d holds = inl (kept (ap locks_of d.0.changes.is) holds)
       takes hash turn CopyDirectory so d holds = inl (kept (ap locks_of d.0.changes.is) holds)

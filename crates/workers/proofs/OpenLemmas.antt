@@ -175,8 +175,8 @@ pub kept_at_start : {K : Type 0} (of_key : K → RecordKey → ℕ) (o : Origin)
 kept_at_start of_key o name table many k d p origin is = record {
   held = held_at_start of_key o name table many k d p origin is;
   device = device_at_start of_key o name k p.failed p.size origin;
-  rooms = λ honest. none_inserting _ k (λ seat. ap (λ (seats : List (Option ActiveView)). call_at seats seat) p.seats_are
-      ∙ idle_at (length k.callers) seat);
+  rooms = λ honest. none_inserting _ k (λ seat.
+      ap (λ (seats : List (Option ActiveView)). call_at seats seat) p.seats_are ∙ idle_at (length k.callers) seat);
 }
 
 -- ---- who stops it
