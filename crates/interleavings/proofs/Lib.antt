@@ -59,6 +59,9 @@ pub mod WaitLemmas
 pub mod RestingLemmas
 pub mod LoneKernelStepLemmas
 pub mod NameLemmas
+pub mod KeyAskLemmas
+pub mod KeyLockLemmas
+pub mod KeyLemmas
 pub mod WaitingLemmas
 pub mod WakeLemmas
 pub mod AddsLemmas

@@ -26,7 +26,8 @@ use Rattle.interleavings.specs.declared.playing.Played.{Played}
 use Rattle.interleavings.proofs.EventLemmas.{places_along}
 use Rattle.interleavings.proofs.RisenLemmas.{risen_along, risen_within}
 use Rattle.interleavings.proofs.FoundedLemmas.{founded_along}
-use Rattle.interleavings.proofs.InsertLemmas.{IsInsertingAt, inserting_along}
+use Rattle.interleavings.proofs.InsertLemmas.{inserting_along}
+use Rattle.interleavings.specs.Inserting.{IsInsertingAt}
 use Rattle.interleavings.proofs.OnWayLemmas.{still_from_none}
 use Rattle.interleavings.proofs.OutcomeLemmas.{come_along, fails_along}
 use Rattle.interleavings.proofs.RunLemmas.{tells_its_part}

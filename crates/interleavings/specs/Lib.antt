@@ -28,8 +28,10 @@ pub mod Doing
 pub mod Ending
 pub mod Outcomes
 pub mod Moments
+pub mod Inserting
 pub mod Playing
 pub mod Laws
+pub mod KeyLaws
 pub mod Rooms
 pub mod Renewing
 pub use Rattle.file_check.specs as file_check

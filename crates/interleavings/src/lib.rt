@@ -6,6 +6,7 @@
 
 mod concurrent_laws;
 mod event;
+mod key_laws;
 mod laws;
 mod lone_kernel_laws;
 mod new_file_laws;
@@ -23,6 +24,7 @@ pub use concurrent_laws::{
 pub use event::{Event, Outcome, are_of_seats};
 pub use file_check;
 pub use interleaving_core;
+pub use key_laws::a_remove_takes_the_key_of_its_queue;
 pub use laws::{
     a_closed_file_opens_on_its_system, a_refining_kernel_answers_as_plain_lists,
     a_refining_kernel_closes_on_its_file, a_search_hops_few_times,
