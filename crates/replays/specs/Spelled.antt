@@ -1,6 +1,6 @@
 -- What a script comes to that is run on a file, down to the bytes of its pages: in the place of what a check tells of them
 -- stands what they mean. docs/SCRIPTS.md, "Runs"; docs/FORMAT.md, "Pages", "Records".
-use Rattle.std.specs.Prelude.{◌≡◌, ◌≢◌, ◌⊎◌, ℕ, true, false, Bool, List, Option, Some, None}
+use Rattle.std.specs.Prelude.{◌≡◌, ◌≢◌, ◌⊎◌, ℕ, true, false, Bool, List, Option, Some, None, length}
 use Rattle.numbers.specs.declared.faults.TheConstants.{DEVICE, FAILED}
 use Rattle.page_device.specs.Device.{HasRisen}
 use Rattle.interleavings.specs.LoneKernelWords.{State, restarted}
@@ -64,6 +64,8 @@ pub record LeavesSpelled (script : Parts) (content : List (List ℕ)) (journal :
   pub plain : IsSpelledJournal script content journal
   pub pages : SpellsSystem left
       (restarted (after (callers_of script.ids (greatest_seat script.lines)) journal plain.base))
+  -- they are as many
+  pub many : length left ≡ length content
 
 -- a script of one seat is run line by line
 abbrev pub RunsAsOneSpelled : (one : Bool) → Parts → (honest : Bool) → Effects → Ending → Type 0
