@@ -33,6 +33,11 @@ pub record IsNotSeated (old new : SessionState) : Type 0 where
   pub same : new ≡ old
   pub busy : IsBetweenCalls old → call_at old.seats SEAT ≢ None
 
+-- a caller sits down, or can't
+abbrev pub Seats : Caller → Bool → (old new : SessionState) → Type 0
+Seats caller true old new = IsReadied old new × (caller_of new ≡ Some caller)
+Seats caller false old new = IsNotSeated old new
+
 -- ---- what it comes to
 
 -- why a call is not answered that does not begin

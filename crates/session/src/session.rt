@@ -5,8 +5,8 @@ ghost use Rattle.bucket_page.specs.Pseudokeys.{sha_key};
 ghost use Rattle.page_device.specs.Device.{HasRisen};
 ghost use Rattle.interleaving_core.specs.Beginning.{MayRefuseUnchecked};
 ghost use Rattle.interleaving_core.specs.Fault.{device_failed};
-ghost use Rattle.session.specs.Making.{MayBeShortened};
-ghost use Rattle.session.specs.Session.{Calls, CallsAs, GivesPage, IsClosed, MakesLent, NotesSave, OnDevice, OpensAny, Seats, Stops, TellsChanges, pages_of, saved_of};
+ghost use Rattle.session.specs.Making.{MayBeShortened, Seats};
+ghost use Rattle.session.specs.Session.{Calls, CallsAs, GivesPage, IsClosed, MakesLent, NotesSave, OnDevice, OpensAny, Stops, TellsChanges, pages_of, saved_of};
 
 use crate::unanswered::{Unanswered, came_of, is_waiting};
 use bucket_page::{KeptKeys, ShaKey};
