@@ -449,18 +449,24 @@ fails_again k was begins.NoMemory cause = absurd (apart k cause.0 was)
 
 goes_lost : (call : Call) (result : Result Answer Unanswered) (first new : SessionState) → Goes call result first new →
     StaysFailed result first new
-goes_lost call result first new (inl away) was = (
-  away.told ∙ fails_again first was away.refusal.1 away.refused.cause,
-  ap (λ (k : SessionState). k.failed) away.refused.same ∙ was,
-)
+goes_lost call result first new (inl away) was = record {
+  told = away.told ∙ fails_again first was away.refusal.1 away.refused.cause;
+  failed = ap (λ (k : SessionState). k.failed) away.refused.same ∙ was;
+  pool = ap (λ (k : SessionState). k.pool) away.refused.same;
+}
 goes_lost call result first new (inr driven) was = absurd (apart first driven.begins.may.sound was)
 
 pub stays_lost : (by : Option Caller) (call : Call) (result : Result Answer Unanswered) (old new : SessionState) →
     Makes by call result old new → StaysFailed result old new
 stays_lost by call result old new (inl made) was =
-    goes_lost call result made.first new made.goes ((behind old made.first made.readied).failed ∙ was)
-stays_lost by call result old new (inr unmade) was =
-    (unmade.told, ap (λ (k : SessionState). k.failed) unmade.unseated.same ∙ was)
+    let same = behind old made.first made.readied in
+    let lost = goes_lost call result made.first new made.goes (same.failed ∙ was) in
+    record { told = lost.told; failed = lost.failed; pool = lost.pool ∙ same.pool }
+stays_lost by call result old new (inr unmade) was = record {
+  told = unmade.told;
+  failed = ap (λ (k : SessionState). k.failed) unmade.unseated.same ∙ was;
+  pool = ap (λ (k : SessionState). k.pool) unmade.unseated.same;
+}
 
 -- ---- what was done before, and the call
 

@@ -166,9 +166,14 @@ Becomes by call s (Err NoRoom) old new = LacksRoom by call s old new
 Becomes by call s (Err NoMemory) old new = Holds s new
 Becomes by call s (Err Failed) old new = HasFailed old new
 
--- once it has failed it stays so, and no call is answered
+-- no call is answered once it has failed, and it stays so, with the same pages
+pub record IsLost (result : Result Answer Unanswered) (old new : SessionState) : Type 0 where
+  pub told : result ≡ Err Failed
+  pub failed : new.failed ≡ true
+  pub pool : new.pool ≡ old.pool
+
 abbrev pub StaysFailed : Result Answer Unanswered → (old new : SessionState) → Type 0
-StaysFailed result old new = old.failed ≡ true → (result ≡ Err Failed) × (new.failed ≡ true)
+StaysFailed result old new = old.failed ≡ true → IsLost result old new
 
 -- what is left of it where it was lent: one that has to wait is as it was
 abbrev pub IsLeft : Call → (left : Call) → Result Answer Unanswered → SessionState → Type 0
