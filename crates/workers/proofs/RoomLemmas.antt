@@ -82,11 +82,6 @@ module _ {K : Type 0} (of_key : K → RecordKey → ℕ) (o : Origin) (seat : �
   told_no_room steps.Waiting step = tt
   told_no_room steps.Idle step = tt
 
--- the last of some steps, of which those before it left its call
-pub told_no_room_later : (o : Origin) (did : Step) (old x : Sitter) → x.place.call ≡ old.place.call →
-    TellsNoRoom o did x.place.call → TellsNoRoom o did old.place.call
-told_no_room_later o did old x same told = subst (TellsNoRoom o did) same told
-
 -- ---- and its caller
 
 -- it is told by the step of a call that is under way
