@@ -1,0 +1,28 @@
+use Rattle.std.proofs.Common.{◌≡◌, sym, ◌∙◌, true, false}
+use Rattle.replays.proofs.ServeLemmas.{ends_failed, ends_kept, ends_unclosed, ends_untold}
+use Rattle.replays.proofs.serving.end_session.Goals as goal
+
+-- a line has failed, and nothing is written
+pub returns-then-has_failed-clause-ends : goal.returns-then-has_failed-clause-ends
+returns-then-has_failed-clause-ends g c = λ was s stands.
+    let failed : c.args.session.failed ≡ true = sym c.has_failed.ensures ∙ c.if-has_failed.true in
+    ends_failed was _ c.args.session _ c.args.is_untold failed c.abandon.ensures.faults s stands
+
+-- the output refused a write
+pub returns-then-is_untold-clause-ends : goal.returns-then-is_untold-clause-ends
+returns-then-is_untold-clause-ends g c = λ was s stands.
+    let fine : c.args.session.failed ≡ false = sym c.has_failed.ensures ∙ c.if-has_failed.false in
+    ends_untold was _ c.args.session _ c.args.is_untold fine c.if-is_untold.true s stands
+
+-- what the session held is in the file
+pub returns-in-Ok-clause-ends : goal.returns-in-Ok-clause-ends
+returns-in-Ok-clause-ends g c = λ was s stands.
+    let fine : c.args.session.failed ≡ false = sym c.has_failed.ensures ∙ c.if-has_failed.false in
+    ends_kept was _ c.args.session _ c.args.is_untold fine c.in-Ok.ensures.ok.file s stands
+
+-- the device has failed at the closing
+pub returns-in-Err-clause-ends : goal.returns-in-Err-clause-ends
+returns-in-Err-clause-ends g c = λ was s stands.
+    let fine : c.args.session.failed ≡ false = sym c.has_failed.ensures ∙ c.if-has_failed.false in
+    ends_unclosed was _ c.args.session _ c.args.is_untold c.number.result c.in-Err.fault fine c.number.ensures
+    c.in-Err.ensures.err.cause s stands
