@@ -4,7 +4,8 @@ use Rattle.page_device.specs.Device.{HasRisen}
 use Rattle.queue_model.specs.Journal.{outcome_for}
 use Rattle.interleavings.proofs.ToldLemmas.{risen_since}
 use Rattle.interleavings.specs.LoneKernelWords.{Answer, Call, Caller, PoolState, State}
-use Rattle.session.specs.Session.{CallsAs, Holds, SessionState, saved_of}
+use Rattle.session.specs.Making.{IsReadied, Makes, SessionState}
+use Rattle.session.specs.Session.{CallsAs, Holds, KeepsFile, saved_of}
 use Rattle.session.specs.declared.unanswered.Unanswered.{Unanswered}
 use Rattle.session.specs.declared.unanswered.Unanswered.TheVariants as why
 use Rattle.msgq_cli.specs.Scripts.{caller_of}
@@ -14,7 +15,7 @@ use Rattle.msgq_cli.specs.declared.line.Line.{Line}
 use Rattle.msgq_cli.specs.declared.line.SeatIds.{SeatIds}
 use Rattle.msgq_cli.specs.declared.reply.Reply.{Reply}
 use Rattle.msgq_cli.specs.declared.reply.Reply.TheVariants as replies
-use Rattle.replays.specs.Taking.{Makes, TakesCallIf, TakesCommand, TakesLines, decided_by, is_full, is_put_off, reply_to}
+use Rattle.replays.specs.Taking.{Asks, TakesCallIf, TakesCommand, TakesLines, decided_by, is_full, is_put_off, reply_to}
 use Rattle.replays.specs.Runs.{IsReady, Stands, stop}
 use Rattle.replays.specs.PlainRuns.{RepliesAlong, RepliesTo}
 use Rattle.replays.proofs.StopLemmas.{never_waits}
@@ -22,6 +23,24 @@ use Rattle.replays.proofs.StopLemmas.{never_waits}
 -- a session has failed or has not
 pub apart : (k : SessionState) → k.failed ≡ false → k.failed ≡ true → ⊥
 apart k sound failed = absurd cc
+
+-- who sits down for a call changes no page
+readied : (old first : SessionState) → IsReadied old first → (first.pool ≡ old.pool) × (first.failed ≡ old.failed)
+readied old first (inl (inl same)) = (ap (λ (k : SessionState). k.pool) same, ap (λ (k : SessionState). k.failed) same)
+readied old first (inl (inr went)) =
+    (ap (λ (k : SessionState). k.pool) went.is, ap (λ (k : SessionState). k.failed) went.is)
+readied old first (inr (caller, sat)) =
+    (ap (λ (k : SessionState). k.pool) sat.is, ap (λ (k : SessionState). k.failed) sat.is)
+
+-- nor does a call that is made once the file has failed
+failed_pool : (by : Option Caller) (call : Call) (result : Result Answer Unanswered) (old new : SessionState) →
+    old.failed ≡ true → Makes by call result old new → new.pool ≡ old.pool
+failed_pool by call result old new failed (inr unmade) = ap (λ (k : SessionState). k.pool) unmade.unseated.same
+failed_pool by call result old new failed (inl made) = elim made.goes [
+  | inl turned ↦
+      ap (λ (k : SessionState). k.pool) turned.refused.same ∙ (readied old made.first made.readied).0
+  | inr driven ↦ absurd (apart made.first driven.begins.may.sound ((readied old made.first made.readied).1 ∙ failed))
+]
 
 -- what a command is replied by the rules, and what the session holds behind it
 pub record GoesBy (c : Caller) (said : Command) (was : ℕ) (s : Option State) (reply : Reply) (new : SessionState)
@@ -40,7 +59,7 @@ module _ (was : ℕ) (c : Caller) (call : Call) where
         GoesBy c (command.Call call) was (Some s) (reply_to result) new
     comes (Ok answer) made over =
         let is = made.becomes ready holds in
-        let since = made.later in record {
+        let since = made.keeps.later in record {
           after = Some is.after;
           replied = (ready, is_ready, is.by_rules);
           stands = record { holds = is.holds; later = omega (arith, later, since) };
@@ -48,14 +67,14 @@ module _ (was : ℕ) (c : Caller) (call : Call) where
     comes (Err why.Waits) made over = absurd (over refl (made.becomes ready holds).0)
     comes (Err why.NoRoom) made over =
         let is = made.becomes ready holds in
-        let since = made.later in record {
+        let since = made.keeps.later in record {
           after = Some ready;
           replied = (ready, is_ready, (inl refl, refl));
           stands = record { holds = is.holds; later = omega (arith, later, since) };
         }
     comes (Err why.NoMemory) made over =
         let is = made.becomes ready holds in
-        let since = made.later in record {
+        let since = made.keeps.later in record {
           after = Some ready;
           replied = (ready, is_ready, (inr (inl refl), refl));
           stands = record { holds = is; later = omega (arith, later, since) };
@@ -74,25 +93,26 @@ module _ (was : ℕ) (c : Caller) (call : Call) where
   lost rest result old new made stands =
       let is = made.lost stands.failed in record {
         after = None;
-        replied = (inl (ap reply_to is.told), refl);
+        replied = (inl (ap reply_to is.0), refl);
         stands = record {
-          failed = is.failed;
-          risen = subst (λ (p : PoolState). HasRisen was p.faults) (sym is.pool) stands.risen;
+          failed = is.1;
+          risen = subst (λ (p : PoolState). HasRisen was p.faults)
+              (sym (failed_pool (Some c) call result old new stands.failed made.made)) stands.risen;
         };
       }
 
-  makes : (result : Result Answer Unanswered) (old new : SessionState) → Makes c call result old new →
+  asks : (result : Result Answer Unanswered) (old new : SessionState) → Asks c call result old new →
       (s : Option State) → Stands was old s → GoesBy c (command.Call call) was s (reply_to result) new
-  makes result old new (inl once) (Some s) stands =
+  asks result old new (inl once) (Some s) stands =
       comes s s (inl refl) once.rest old new stands.holds stands.later result once.made
       (λ off none. true≢false (sym off ∙ once.over))
-  makes result old new (inl once) None stands = lost once.rest result old new once.made stands
-  makes result old new (inr again) None stands =
-      absurd (let told = (again.waits.lost stands.failed).told in cc)
-  makes result old new (inr again) (Some s) stands =
+  asks result old new (inl once) None stands = lost once.rest result old new once.made stands
+  asks result old new (inr again) None stands =
+      absurd (let told = (again.waits.lost stands.failed).0 in cc)
+  asks result old new (inr again) (Some s) stands =
       let put_off = again.waits.becomes s stands.holds in
       let same = again.waits.is_left s stands.holds refl in
-      let since = again.waits.later in
+      let since = again.waits.keeps.later in
       let faults = ap (λ (p : PoolState). p.faults) again.stops.pool in
       let later = stands.later in
       comes s (stop s) (inr (put_off.0, refl)) again.rest again.stopped new (again.stops.stops s put_off.1)
@@ -122,7 +142,7 @@ module _ (was : ℕ) (c : Caller) (call : Call) where
       })
   takes answered reply old new true full away_with None stands = absurd (let failed = stands.failed in cc)
   takes answered reply old new false free (inl replied) s stands =
-      same_goes s reply (reply_to replied.result) new replied.told (makes replied.result old new replied.makes s stands)
+      same_goes s reply (reply_to replied.result) new replied.told (asks replied.result old new replied.asks s stands)
   takes answered reply old new false free (inr uncopied) (Some s) stands =
       same_goes (Some s) reply (replies.Failed 60) new uncopied.told (record {
         after = Some s;
@@ -157,6 +177,11 @@ goes_by was answered c command.Stop reply old new taken None stands = record {
     risen = subst (λ (p : PoolState). HasRisen was p.faults) (sym taken.1.pool) stands.risen;
   };
 }
+
+-- where it holds no system the file has failed
+pub failed_where : (was : ℕ) (k : SessionState) (s : Option State) → s ≡ None → Stands was k s → k.failed ≡ true
+failed_where was k (Some s) none stands = absurd cc
+failed_where was k None none stands = stands.failed
 
 -- ---- lines
 
@@ -193,39 +218,35 @@ pub record KeepsDevice (old new : SessionState) : Type 0 where
   pub saved : saved_of new ≡ saved_of old
 
 keeps : {old mid new : SessionState} → KeepsDevice old mid → KeepsDevice mid new → KeepsDevice old new
-keeps first second =
-    record { honest = second.honest ∙ first.honest; saved = second.saved ∙ first.saved }
+keeps first second = record { honest = second.honest ∙ first.honest; saved = second.saved ∙ first.saved }
 
-kept_pool : (old new : SessionState) → new.pool ≡ old.pool → KeepsDevice old new
-kept_pool old new same = record {
+kept_same : {old new : SessionState} → new.pool ≡ old.pool → KeepsDevice old new
+kept_same same = record {
   honest = ap (λ (p : PoolState). p.honest) same;
   saved = ap (λ (p : PoolState). p.stored) same;
 }
 
-kept_made : (c : Caller) (call : Call) (result : Result Answer Unanswered) (old new : SessionState) →
-    Makes c call result old new → KeepsDevice old new
-kept_made c call result old new (inl once) = record { honest = once.made.honest; saved = once.made.saved }
-kept_made c call result old new (inr again) =
-    keeps (record { honest = again.waits.honest; saved = again.waits.saved })
-    (keeps (kept_pool again.waiting again.stopped again.stops.pool)
-    (record { honest = again.made.honest; saved = again.made.saved }))
+kept_file : {old new : SessionState} → KeepsFile old new → KeepsDevice old new
+kept_file file = record { honest = file.honest; saved = file.saved }
 
 kept_call : (c : Caller) (call : Call) (reply : Reply) (old new : SessionState) (full : Bool) →
     TakesCallIf full c call reply old new → KeepsDevice old new
-kept_call c call reply old new true taken = kept_pool old new (ap (λ (k : SessionState). k.pool) taken.1)
-kept_call c call reply old new false (inl replied) = kept_made c call replied.result old new replied.makes
-kept_call c call reply old new false (inr uncopied) =
-    kept_pool old new (ap (λ (k : SessionState). k.pool) uncopied.same)
+kept_call c call reply old new true taken = kept_same (ap (λ (k : SessionState). k.pool) taken.1)
+kept_call c call reply old new false (inl replied) = elim replied.asks [
+  | inl once ↦ kept_file once.made.keeps
+  | inr again ↦ keeps (kept_file again.waits.keeps) (keeps (kept_same again.stops.pool) (kept_file again.made.keeps))
+]
+kept_call c call reply old new false (inr uncopied) = kept_same (ap (λ (k : SessionState). k.pool) uncopied.same)
 
 kept_line : (answered : ℕ) (c : Caller) (said : Command) (reply : Reply) (old new : SessionState) →
     TakesCommand answered c said reply old new → KeepsDevice old new
 kept_line answered c (command.Call call) reply old new taken =
     kept_call c call reply old new (is_full answered old) taken
-kept_line answered c command.Stop reply old new taken = kept_pool old new taken.1.pool
+kept_line answered c command.Stop reply old new taken = kept_same taken.1.pool
 
 pub kept_along : (ids : List SeatIds) (answered : ℕ) (lines : List Line) (told : List Reply)
     (old new : SessionState) → TakesLines ids answered lines told old new → KeepsDevice old new
-kept_along ids answered [] [] old new same = kept_pool old new (ap (λ (k : SessionState). k.pool) same)
+kept_along ids answered [] [] old new same = kept_same (ap (λ (k : SessionState). k.pool) same)
 kept_along ids answered [] (r ∷ rs) old new taken = absurd taken
 kept_along ids answered (l ∷ ls) [] old new taken = absurd taken
 kept_along ids answered (l ∷ ls) (r ∷ rs) old new (next, first, rest) =

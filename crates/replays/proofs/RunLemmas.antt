@@ -1,7 +1,7 @@
 -- The lines of a script run one after the other.
 use Rattle.std.proofs.Common.{◌≡◌, Bool, true, false, ℕ, ◌+◌, List, [], ◌∷◌, ◌++◌, if◌then◌else◌, refl, sym, ap, ◌∙◌, subst, append_assoc, append-nil, ◌||◌, length, arith}
 use Rattle.std.specs.List.{list_any}
-use Rattle.session.specs.Session.{SessionState}
+use Rattle.session.specs.Making.{SessionState}
 use Rattle.msgq_cli.specs.Answers.{reply_text}
 use Rattle.msgq_cli.specs.Outputs.{OutputState, Prints}
 use Rattle.msgq_cli.specs.Runs.{ending_of, is_fault, printed}

@@ -16,7 +16,8 @@ use Rattle.file_walk.specs.declared.fault.StructureFault.TheVariants as structur
 use Rattle.interleavings.proofs.ToldLemmas.{risen_since}
 use Rattle.interleavings.proofs.of_file_check.Today.{file_has_no_fault}
 use Rattle.interleavings.specs.Files.{no_queues}
-use Rattle.session.specs.Session.{Holds, OpensOn, SessionState}
+use Rattle.session.specs.Making.{SessionState}
+use Rattle.session.specs.Session.{ClosesOn, Holds, OpensAny}
 use Rattle.msgq_cli.specs.record_file.Files.{IsNewFile, MayNotFormat}
 use Rattle.msgq_cli.specs.file_check.declared.fault.CheckFault.TheVariants.{Structure}
 use Rattle.msgq_cli.specs.file_check.Whole.{IsFileOf}
@@ -30,7 +31,7 @@ use Rattle.msgq_cli.specs.declared.script.ScriptError.TheVariants as scripts
 use Rattle.replays.specs.Replays.{EndsWith}
 use Rattle.replays.specs.Texts.{Effects}
 use Rattle.replays.specs.Runs.{EndsWell, Stands}
-use Rattle.replays.specs.PlainRuns.{RepliesAlong, RunsFile}
+use Rattle.replays.specs.PlainRuns.{RepliesAlong, RunsFile, RunsPlainly}
 use Rattle.replays.specs.Serves.{IsRunNew, IsRunOn, RunsOn, RunsScriptOn, RunsTextOn}
 use Rattle.replays.specs.declared.serving.TheConstants.{MEMORY_PAGES}
 use Rattle.replays.proofs.CallLemmas.{apart}
@@ -53,10 +54,10 @@ no_memory device.NoMemory may failed = refl
 
 -- a session that has not failed holds a system, which its file has once that is written
 module _ (was faults : ℕ) (k : SessionState) (left : List (List ℕ)) (untold : Bool) where
-  pub ends_kept : k.failed ≡ false → ((s : State) → Holds s k → IsFileOf sha_key left (restarted s)) →
+  pub ends_kept : k.failed ≡ false → ((s : State) → Holds s k → ClosesOn s k None left faults) →
       (s : Option State) → Stands was k s → EndsWell s left untold was faults None
   ends_kept sound file None stands = absurd (apart k sound stands.failed)
-  ends_kept sound file (Some s) stands = inl (record { sound = refl; file = λ _. file s stands.holds })
+  ends_kept sound file (Some s) stands = inl (record { sound = refl; file = λ _. (file s stands.holds).0 })
 
   -- it is let go, since the output refused a write
   pub ends_untold : k.failed ≡ false → untold ≡ true → (s : Option State) → Stands was k s →
@@ -72,13 +73,13 @@ module _ (was faults : ℕ) (k : SessionState) (left : List (List ℕ)) (untold 
   ends_failed failed same (Some s) stands = absurd (apart k stands.holds.sound failed)
 
   -- the device has failed at the closing
-  pub ends_unclosed : (number : ℕ) (fault : CloseFault) → k.failed ≡ false → number ≡ close_number_of fault →
-      ((s : State) → Holds s k → (fault ≡ closes.Device) × HasRisen k.pool.faults faults) →
-      (s : Option State) → Stands was k s → EndsWell s left untold was faults (Some number)
-  ends_unclosed number fault sound is cause None stands = absurd (apart k sound stands.failed)
-  ends_unclosed number fault sound is cause (Some s) stands =
-      let its = cause s stands.holds in
-      inr (record { told = ap Some (is ∙ ap close_number_of its.0); risen = risen_since stands.later its.1 })
+  pub ends_unclosed : (fault : CloseFault) → k.failed ≡ false →
+      ((s : State) → Holds s k → ClosesOn s k (Some fault) left faults) →
+      (s : Option State) → Stands was k s → EndsWell s left untold was faults (Some (close_number_of fault))
+  ends_unclosed fault sound closed None stands = absurd (apart k sound stands.failed)
+  ends_unclosed closes.Device sound closed (Some s) stands =
+      inr (record { told = refl; risen = risen_since stands.later (closed s stands.holds) })
+  ends_unclosed closes.Failed sound closed (Some s) stands = absurd (closed s stands.holds)
 
 -- ---- a text
 
@@ -97,6 +98,12 @@ pub runs_script : (text : List ℕ) (honest : Bool) (c : Effects) (ending : Endi
     script_of text ≡ Ok script → RunsOn script honest c ending → RunsTextOn text honest c ending
 runs_script text honest c ending script reads runs =
     inl (subst (λ (r : Result Parts ℕ). RunsScriptOn r honest c ending) (sym reads) runs)
+
+-- in plain words
+pub plainly : (script : Parts) (honest : Bool) (c : Effects) (ending : Ending) → RunsOn script honest c ending →
+    RunsPlainly script honest c ending
+plainly script honest c ending (inl run) = inl run.run
+plainly script honest c ending (inr unopened) = inr unopened
 
 -- ---- a new file in memory
 
@@ -128,8 +135,8 @@ module _ (content : List (List ℕ)) (file : IsFileOf sha_key content no_queues)
         content = content;
         file = new;
         first = r.first;
-        opened = subst (λ (p : List (List ℕ)). OpensOn sitter p true 0 r.first) its
-            (subst (λ (n : ℕ). OpensOn sitter c.content true n r.first) none_before r.opened);
+        opened = subst (λ (p : List (List ℕ)). OpensAny sitter p true 0 r.first) its
+            (subst (λ (n : ℕ). OpensAny sitter c.content true n r.first) none_before r.opened);
         last = r.last;
         run = record {
           replies = r.run.replies;

@@ -4,7 +4,8 @@ use Rattle.numbers.specs.declared.faults.TheConstants.{DEVICE, FAILED, NO_MEMORY
 use Rattle.page_device.specs.Device.{HasRisen}
 use Rattle.bucket_page.specs.Pseudokeys.{sha_key}
 use Rattle.interleavings.specs.LoneKernelWords.{Call, Caller, State, outcome, restarted}
-use Rattle.session.specs.Session.{Holds, SessionState}
+use Rattle.session.specs.Making.{SessionState}
+use Rattle.session.specs.Session.{Holds}
 use Rattle.msgq_cli.specs.Outputs.{OutputState, Prints}
 use Rattle.msgq_cli.specs.Runs.{ending_of, printed}
 use Rattle.msgq_cli.specs.Scripts.{Parts}

@@ -3,7 +3,8 @@ use Rattle.std.specs.Prelude.{◌≡◌, ◌⊎◌, ℕ, true, Bool, List, Optio
 use Rattle.numbers.specs.declared.faults.TheConstants.{DEVICE, NO_MEMORY}
 use Rattle.interleavings.specs.Files.{no_queues}
 use Rattle.interleavings.specs.LoneKernelWords.{State}
-use Rattle.session.specs.Session.{OpensOn, SessionState}
+use Rattle.session.specs.Making.{SessionState}
+use Rattle.session.specs.Session.{OpensAny}
 use Rattle.msgq_cli.specs.Outputs.{OutputState}
 use Rattle.msgq_cli.specs.Refusals.{AreKnownAs, IsFaultAlone}
 use Rattle.msgq_cli.specs.Scripts.{Parts, caller_of, greatest_seat, script_of}
@@ -24,7 +25,7 @@ pub record IsRunOn (script : Parts) (honest : Bool) (c : Effects) (ending : Endi
   -- what that comes to
   pub run : IsPlainRun script honest c ending
   pub first : SessionState
-  pub opened : OpensOn (caller_of (greatest_seat script.lines) script.ids) c.content honest c.was first
+  pub opened : OpensAny (caller_of (greatest_seat script.lines) script.ids) c.content honest c.was first
   pub last : SessionState
   pub takes : TakesLines script.ids 0 script.lines run.replies first last
   -- where a line failed nothing was written
@@ -50,7 +51,7 @@ pub record IsRunNew (script : Parts) (old new : OutputState) (ending : Ending) :
   pub content : List (List ℕ)
   pub file : IsNewFile MEMORY_PAGES content
   pub first : SessionState
-  pub opened : OpensOn (caller_of (greatest_seat script.lines) script.ids) content true 0 first
+  pub opened : OpensAny (caller_of (greatest_seat script.lines) script.ids) content true 0 first
   pub last : SessionState
   pub run : IsRun script first last old new ending
   pub after : State

@@ -3,7 +3,8 @@ use Rattle.std.specs.Prelude.{ℕ, ◌≡◌, ◌⊎◌, ◌+◌, nat_le, Bool, 
 use Rattle.numbers.specs.declared.faults.TheConstants.{FAILED, NO_MEMORY, NO_ROOM, SESSION_FULL}
 use Rattle.interleavings.specs.LoneKernelWords.{Answer, Call, Caller}
 use Rattle.interleavings.specs.interleaving_core.declared.kernel.TheConstants.{MAX_DECIDED}
-use Rattle.session.specs.Session.{CallsAs, SessionState, Stops}
+use Rattle.session.specs.Making.{SessionState}
+use Rattle.session.specs.Session.{CallsAs, Stops}
 use Rattle.session.specs.declared.unanswered.Unanswered.{Unanswered}
 use Rattle.session.specs.declared.unanswered.Unanswered.TheVariants as why
 use Rattle.msgq_cli.specs.Scripts.{caller_of}
@@ -51,8 +52,8 @@ pub record IsMadeAgain (c : Caller) (call : Call) (result : Result Answer Unansw
   pub rest : Call
   pub made : CallsAs c left rest result stopped new
 
-abbrev pub Makes : Caller → Call → Result Answer Unanswered → (old new : SessionState) → Type 0
-Makes c call result old new = IsMadeAtOnce c call result old new ⊎ IsMadeAgain c call result old new
+abbrev pub Asks : Caller → Call → Result Answer Unanswered → (old new : SessionState) → Type 0
+Asks c call result old new = IsMadeAtOnce c call result old new ⊎ IsMadeAgain c call result old new
 
 -- ---- a line is taken
 
@@ -69,7 +70,7 @@ is_full answered k = nat_le MAX_DECIDED answered && not k.failed
 -- a call is made, and replied what it came to
 pub record IsReplied (c : Caller) (call : Call) (reply : Reply) (old new : SessionState) : Type 0 where
   pub result : Result Answer Unanswered
-  pub makes : Makes c call result old new
+  pub asks : Asks c call result old new
   pub told : reply ≡ reply_to result
 
 -- there is no memory for it

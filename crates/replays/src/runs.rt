@@ -2,7 +2,7 @@
 
 ghost use Rattle.std.specs.Prelude.{◌≡◌, ◌≤◌};
 ghost use Rattle.replays.specs.Runs.{IsRun};
-ghost use Rattle.replays.specs.Taking.{Makes, TakesCallIf, TakesCommand, decided_by, is_full, is_put_off, reply_to};
+ghost use Rattle.replays.specs.Taking.{Asks, TakesCallIf, TakesCommand, decided_by, is_full, is_put_off, reply_to};
 
 use interleavings::interleaving_core::MAX_DECIDED;
 use msgq_cli::{Command, Ending, Output, Reply, Script};
@@ -74,17 +74,17 @@ fn call_as<D: PageDevice + Drop>(
     let Ok(mut copy) = call.try_copy() else {
         return Reply::Failed(faults::NO_MEMORY);
     };
-    reply_to(make(session, caller, &mut copy))
+    reply_to(ask(session, caller, &mut copy))
 }
 
 /// What a call of a caller comes to. Where it has to wait the system is stopped, and it is made
 /// again.
-fn make<D: PageDevice + Drop>(
+fn ask<D: PageDevice + Drop>(
     session: &mut Session<D>,
     caller: Caller,
     call: &mut Call,
 ) -> Result<Answer, Unanswered>
-    ensures { Makes caller call.old result session.old session.new }
+    ensures { Asks caller call.old result session.old session.new }
 {
     let told = session.call_as(caller, call);
     if !is_put_off(&told) {

@@ -18,11 +18,11 @@ returns-then-is_untold-clause-ends g c = λ was s stands.
 pub returns-in-Ok-clause-ends : goal.returns-in-Ok-clause-ends
 returns-in-Ok-clause-ends g c = λ was s stands.
     let fine : c.args.session.failed ≡ false = sym c.has_failed.ensures ∙ c.if-has_failed.false in
-    ends_kept was _ c.args.session _ c.args.is_untold fine c.in-Ok.ensures.ok.file s stands
+    ends_kept was _ c.args.session _ c.args.is_untold fine c.in-Ok.ensures.ends s stands
 
 -- the device has failed at the closing
 pub returns-in-Err-clause-ends : goal.returns-in-Err-clause-ends
 returns-in-Err-clause-ends g c = λ was s stands.
     let fine : c.args.session.failed ≡ false = sym c.has_failed.ensures ∙ c.if-has_failed.false in
-    ends_unclosed was _ c.args.session _ c.args.is_untold c.number.result c.in-Err.fault fine c.number.ensures
-    c.in-Err.ensures.err.cause s stands
+    rw c.number.ensures (ends_unclosed was _ c.args.session _ c.args.is_untold c.in-Err.fault fine
+    c.in-Err.ensures.ends s stands)
