@@ -24,6 +24,14 @@ use Rattle.replays.proofs.StopLemmas.{never_waits}
 pub apart : (k : SessionState) → k.failed ≡ false → k.failed ≡ true → ⊥
 apart k sound failed = absurd cc
 
+-- a call that is put off waits
+pub put_off_waits : (told : Result Answer Unanswered) → is_put_off told ≡ true → told ≡ Err why.Waits
+put_off_waits (Ok answer) is = absurd cc
+put_off_waits (Err why.Waits) is = refl
+put_off_waits (Err why.NoRoom) is = absurd cc
+put_off_waits (Err why.NoMemory) is = absurd cc
+put_off_waits (Err why.Failed) is = absurd cc
+
 -- who sits down for a call changes no page
 readied : (old first : SessionState) → IsReadied old first → (first.pool ≡ old.pool) × (first.failed ≡ old.failed)
 readied old first (inl (inl same)) = (ap (λ (k : SessionState). k.pool) same, ap (λ (k : SessionState). k.failed) same)

@@ -57,8 +57,7 @@ fn reply<D: PageDevice + Drop>(
     }
 }
 
-/// What a call of a caller is replied, where so many calls of the run were answered. A failure of
-/// the file is told before it is that they are too many.
+/// What a call of a caller is replied, where so many calls of the run were answered.
 fn call_as<D: PageDevice + Drop>(
     session: &mut Session<D>,
     caller: Caller,
@@ -68,13 +67,21 @@ fn call_as<D: PageDevice + Drop>(
     ensures { TakesCallIf (is_full answered session.old) caller call.now result
         session.old session.new }
 {
-    if answered >= MAX_DECIDED && !session.has_failed() {
+    if is_full(session, answered) {
         return Reply::Failed(faults::SESSION_FULL);
     }
     let Ok(mut copy) = call.try_copy() else {
         return Reply::Failed(faults::NO_MEMORY);
     };
     reply_to(ask(session, caller, &mut copy))
+}
+
+/// Whether so many calls of a run were answered that it may have no more. A failure of the file is
+/// told first, by the session.
+fn is_full<D: PageDevice + Drop>(session: &Session<D>, answered: usize) -> bool
+    ensures { result ≡ is_full answered session.now }
+{
+    answered >= MAX_DECIDED && !session.has_failed()
 }
 
 /// What a call of a caller comes to. Where it has to wait the system is stopped, and it is made
