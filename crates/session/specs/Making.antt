@@ -1,12 +1,12 @@
 -- How a call of a session is made, whatever the device gives. docs/STEPS.md, "Calls".
-use Rattle.std.specs.Prelude.{ℕ, ◌≡◌, ◌≢◌, ◌⊎◌, ◌×◌, Bool, true, false, Option, Some, None, Result, Ok, Err}
+use Rattle.std.specs.Prelude.{◌≡◌, ◌⊎◌, Bool, true, false, Option, Some, None, Result, Ok, Err}
 use Rattle.bucket_page.specs.Pseudokeys.{sha_key}
 use Rattle.bucket_page.specs.declared.pseudokey.ShaKey.{ShaKey}
-use Rattle.interleaving_core.specs.Renewing.{IsBetweenCalls, IsRenewed, IsReseated, Withdraws}
+use Rattle.interleaving_core.specs.Renewing.{IsRenewed, IsReseated, KeepsCaller, Withdraws}
 use Rattle.interleaving_core.specs.declared.fault.BeginFault.TheVariants as begins
 use Rattle.interleaving_core.specs.declared.fault.StepFault.TheVariants as faults
 use Rattle.interleaving_core.specs.declared.step.Step.TheVariants as steps
-use Rattle.interleavings.specs.LoneKernelWords.{Answer, BeginFault, Call, Caller, HasCall, IsDriven, IsRefused, KernelState, Step, call_at, caller_at}
+use Rattle.interleavings.specs.LoneKernelWords.{Answer, BeginFault, Call, Caller, HasCall, IsDriven, IsRefused, KernelState, Step, caller_at}
 use Rattle.session.specs.declared.session.TheConstants.{SEAT}
 use Rattle.session.specs.declared.unanswered.Unanswered.{Unanswered}
 use Rattle.session.specs.declared.unanswered.Unanswered.TheVariants.{Waits, NoRoom, NoMemory, Failed}
@@ -28,15 +28,11 @@ MayBeShortened old new = (new ≡ old) ⊎ IsRenewed old.journal old new
 abbrev pub IsReadied : (old new : SessionState) → Type 0
 IsReadied old new = MayBeShortened old new ⊎ ((caller : Caller) × IsReseated SEAT caller old new)
 
--- nobody can sit down where a call is under way or the session has failed
-pub record IsNotSeated (old new : SessionState) : Type 0 where
-  pub same : new ≡ old
-  pub busy : IsBetweenCalls old → call_at old.seats SEAT ≢ None
-
 -- a caller sits down, or can't
 abbrev pub Seats : Caller → Bool → (old new : SessionState) → Type 0
 Seats caller true old new = IsReadied old new × (caller_of new ≡ Some caller)
-Seats caller false old new = IsNotSeated old new
+-- since a call is under way, or the session has failed
+Seats caller false old new = KeepsCaller SEAT old new
 
 -- ---- what it comes to
 
@@ -105,7 +101,7 @@ pub record IsMade (by : Option Caller) (call : Call) (result : Result Answer Una
 
 -- or it can't be
 pub record IsUnmade (result : Result Answer Unanswered) (old new : SessionState) : Type 0 where
-  pub unseated : IsNotSeated old new
+  pub unseated : KeepsCaller SEAT old new
   pub told : result ≡ Err Failed
 
 abbrev pub Makes : Option Caller → Call → Result Answer Unanswered → (old new : SessionState) → Type 0

@@ -1,6 +1,6 @@
 -- A session over the pages of a device: the system that it holds, and what its calls are answered.
 -- docs/QUEUES.md, "Calls"; docs/FORMAT.md, "Pages".
-use Rattle.std.specs.Prelude.{ℕ, ◌≡◌, ◌≢◌, ◌⊎◌, ◌×◌, ◌*◌, ◌/◌, ◌%◌, ◌<◌, ◌≤◌, Bool, true, false, IsTrue, List, Option, Some, None, Result, Ok, Err, drop, length, slice_index_or, take}
+use Rattle.std.specs.Prelude.{ℕ, ◌≡◌, ◌≢◌, ◌⊎◌, ◌*◌, ◌/◌, ◌%◌, ◌<◌, ◌≤◌, Bool, true, false, IsTrue, List, Option, Some, None, Result, Ok, Err, drop, length, slice_index_or, take}
 use Rattle.bucket_page.specs.Pseudokeys.{sha_key}
 use Rattle.page_device.specs.Device.{HasRisen}
 use Rattle.page_device.specs.declared.fault.DeviceFault.{DeviceFault}
@@ -23,7 +23,7 @@ use Rattle.interleavings.specs.Lone.{RestsOver}
 use Rattle.interleavings.specs.LoneKernelLaws.{LacksInPages}
 use Rattle.interleavings.specs.LoneKernelWords.{Answer, Call, Caller, HasCall, IsFileOf, IsSeat, State, restarted}
 pub use Rattle.session.specs.Making.{SessionState, caller_of}
-use Rattle.session.specs.Making.{Makes}
+use Rattle.session.specs.Making.{Goes, Makes}
 use Rattle.session.specs.declared.session.TheConstants.{SEAT}
 use Rattle.session.specs.declared.unanswered.Unanswered.{Unanswered}
 use Rattle.session.specs.declared.unanswered.Unanswered.TheVariants.{Waits, NoRoom, NoMemory, Failed}
@@ -166,15 +166,28 @@ Becomes by call s (Err NoRoom) old new = LacksRoom by call s old new
 Becomes by call s (Err NoMemory) old new = Holds s new
 Becomes by call s (Err Failed) old new = HasFailed old new
 
--- once it has failed it stays so, and no call is answered
+-- no call is answered once it has failed, and it stays so, with the same pages
+pub record IsLost (result : Result Answer Unanswered) (old new : SessionState) : Type 0 where
+  pub told : result ≡ Err Failed
+  pub failed : new.failed ≡ true
+  pub pool : new.pool ≡ old.pool
+
 abbrev pub StaysFailed : Result Answer Unanswered → (old new : SessionState) → Type 0
-StaysFailed result old new = old.failed ≡ true → (result ≡ Err Failed) × (new.failed ≡ true)
+StaysFailed result old new = old.failed ≡ true → IsLost result old new
 
 -- what is left of it where it was lent: one that has to wait is as it was
 abbrev pub IsLeft : Call → (left : Call) → Result Answer Unanswered → SessionState → Type 0
 IsLeft call left result old = (s : State) → Holds s old → result ≡ Err Waits → left ≡ call
 
--- a call that is lent is made for somebody
+-- whoever sits there makes a call that is lent
+pub record MakesLent (call left : Call) (result : Result Answer Unanswered) (old new : SessionState) : Type 0 where
+  pub becomes : (s : State) → Holds s old → Becomes (caller_of old) call s result old new
+  pub is_left : IsLeft call left result old
+  pub keeps : KeepsFile old new
+  pub goes : Goes call result old new
+  pub caller : caller_of new ≡ caller_of old
+
+-- it is made for somebody
 pub record CallsLent (by : Option Caller) (call left : Call) (result : Result Answer Unanswered)
     (old new : SessionState) : Type 0 where
   -- from a system that is held it is answered by the rules
@@ -185,11 +198,6 @@ pub record CallsLent (by : Option Caller) (call left : Call) (result : Result An
   pub lost : StaysFailed result old new
   pub made : Makes by call result old new
 
--- for who sits there, and who sits on
-pub record MakesLent (call left : Call) (result : Result Answer Unanswered) (old new : SessionState) : Type 0 where
-  pub calls : CallsLent (caller_of old) call left result old new
-  pub caller : caller_of new ≡ caller_of old
-
 -- for this caller, whose the session is from here on
 abbrev pub CallsAs : Caller → (call left : Call) → Result Answer Unanswered → (old new : SessionState) → Type 0
 CallsAs caller call left result old new = CallsLent (Some caller) call left result old new
@@ -197,7 +205,8 @@ CallsAs caller call left result old new = CallsLent (Some caller) call left resu
 -- or for whose it was
 pub record Calls (call : Call) (result : Result Answer Unanswered) (old new : SessionState) : Type 0 where
   pub left : Call
-  pub makes : MakesLent call left result old new
+  pub calls : CallsLent (caller_of old) call left result old new
+  pub caller : caller_of new ≡ caller_of old
 
 -- it is stopped: from here on a call that would wait is refused
 pub record Stops (old new : SessionState) : Type 0 where

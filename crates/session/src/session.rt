@@ -1,6 +1,6 @@
 //! A session, and what is asked of it.
 
-ghost use Rattle.std.specs.Prelude.{◌≡◌, ◌≢◌, ◌×◌, ◌<◌, IfErr, IfOk, IsTrue, length};
+ghost use Rattle.std.specs.Prelude.{◌≡◌, ◌≢◌, ◌<◌, IfErr, IfOk, IsTrue, length};
 ghost use Rattle.bucket_page.specs.Pseudokeys.{sha_key};
 ghost use Rattle.page_device.specs.Device.{HasRisen};
 ghost use Rattle.interleaving_core.specs.Beginning.{MayRefuseUnchecked};

@@ -6,4 +6,4 @@ pub returns-in_ok-type_entry-in-4 : goal.returns-in_ok-type_entry-in-4
 returns-in_ok-type_entry-in-4 c = typed c.args.queue.now _ c.in_ok-type_entry-in-4.ensures
 
 pub returns-in_ok-place-in-5 : goal.returns-in_ok-place-in-5
-returns-in_ok-place-in-5 c = sent c.args.queue.now _ c.message_entry.ensures
+returns-in_ok-place-in-5 c = sent c.args.queue.now _ c.message_entry.ensures.stands
