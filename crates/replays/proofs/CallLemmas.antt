@@ -1,10 +1,11 @@
 -- What the lines that a session takes come to, by the rules.
-use Rattle.std.proofs.Common.{◌≡◌, refl, sym, ap, ◌∙◌, subst, Bool, true, false, true≢false, ℕ, ◌+◌, ◌≤◌, inl, inr, List, [], ◌∷◌, Option, Some, None, Result, Ok, Err, arith}
+use Rattle.std.proofs.Common.{◌≡◌, refl, sym, ap, ◌∙◌, subst, Bool, true, false, true≢false, ◌&&◌, not, nat_le, ℕ, ◌+◌, ◌≤◌, inl, inr, List, [], ◌∷◌, Option, Some, None, Result, Ok, Err, arith}
 use Rattle.page_device.specs.Device.{HasRisen}
 use Rattle.queue_model.specs.Journal.{outcome_for}
 use Rattle.interleavings.proofs.ToldLemmas.{risen_since}
 use Rattle.interleavings.specs.LoneKernelWords.{Answer, Call, Caller, PoolState, State}
-use Rattle.session.specs.Making.{IsReadied, Makes, SessionState}
+use Rattle.interleavings.specs.interleaving_core.declared.kernel.TheConstants.{MAX_DECIDED}
+use Rattle.session.specs.Making.{SessionState}
 use Rattle.session.specs.Session.{CallsAs, Holds, KeepsFile, saved_of}
 use Rattle.session.specs.declared.unanswered.Unanswered.{Unanswered}
 use Rattle.session.specs.declared.unanswered.Unanswered.TheVariants as why
@@ -32,23 +33,11 @@ put_off_waits (Err why.NoRoom) is = absurd cc
 put_off_waits (Err why.NoMemory) is = absurd cc
 put_off_waits (Err why.Failed) is = absurd cc
 
--- who sits down for a call changes no page
-readied : (old first : SessionState) → IsReadied old first → (first.pool ≡ old.pool) × (first.failed ≡ old.failed)
-readied old first (inl (inl same)) = (ap (λ (k : SessionState). k.pool) same, ap (λ (k : SessionState). k.failed) same)
-readied old first (inl (inr went)) =
-    (ap (λ (k : SessionState). k.pool) went.is, ap (λ (k : SessionState). k.failed) went.is)
-readied old first (inr (caller, sat)) =
-    (ap (λ (k : SessionState). k.pool) sat.is, ap (λ (k : SessionState). k.failed) sat.is)
-
--- nor does a call that is made once the file has failed
-failed_pool : (by : Option Caller) (call : Call) (result : Result Answer Unanswered) (old new : SessionState) →
-    old.failed ≡ true → Makes by call result old new → new.pool ≡ old.pool
-failed_pool by call result old new failed (inr unmade) = ap (λ (k : SessionState). k.pool) unmade.unseated.same
-failed_pool by call result old new failed (inl made) = elim made.goes [
-  | inl turned ↦
-      ap (λ (k : SessionState). k.pool) turned.refused.same ∙ (readied old made.first made.readied).0
-  | inr driven ↦ absurd (apart made.first driven.begins.may.sound ((readied old made.first made.readied).1 ∙ failed))
-]
+-- a run of a file that has failed is not told that it is full
+full_sound : (many failed : Bool) → (many && not failed) ≡ true → failed ≡ true → ⊥
+full_sound true true is has = true≢false (sym is)
+full_sound true false is has = true≢false (sym has)
+full_sound false failed is has = true≢false (sym is)
 
 -- what a command is replied by the rules, and what the session holds behind it
 pub record GoesBy (c : Caller) (said : Command) (was : ℕ) (s : Option State) (reply : Reply) (new : SessionState)
@@ -101,11 +90,10 @@ module _ (was : ℕ) (c : Caller) (call : Call) where
   lost rest result old new made stands =
       let is = made.lost stands.failed in record {
         after = None;
-        replied = (inl (ap reply_to is.0), refl);
+        replied = (inl (ap reply_to is.told), refl);
         stands = record {
-          failed = is.1;
-          risen = subst (λ (p : PoolState). HasRisen was p.faults)
-              (sym (failed_pool (Some c) call result old new stands.failed made.made)) stands.risen;
+          failed = is.failed;
+          risen = subst (λ (p : PoolState). HasRisen was p.faults) (sym is.pool) stands.risen;
         };
       }
 
@@ -116,7 +104,7 @@ module _ (was : ℕ) (c : Caller) (call : Call) where
       (λ off none. true≢false (sym off ∙ once.over))
   asks result old new (inl once) None stands = lost once.rest result old new once.made stands
   asks result old new (inr again) None stands =
-      absurd (let told = (again.waits.lost stands.failed).0 in cc)
+      absurd (let told = (again.waits.lost stands.failed).told in cc)
   asks result old new (inr again) (Some s) stands =
       let put_off = again.waits.becomes s stands.holds in
       let same = again.waits.is_left s stands.holds refl in
@@ -148,7 +136,8 @@ module _ (was : ℕ) (c : Caller) (call : Call) where
         replied = (s, inl refl, (inr (inr refl), refl));
         stands = away old new away_with.1 (Some s) stands;
       })
-  takes answered reply old new true full away_with None stands = absurd (let failed = stands.failed in cc)
+  takes answered reply old new true full away_with None stands = 
+      absurd (full_sound (nat_le MAX_DECIDED answered) old.failed full stands.failed)
   takes answered reply old new false free (inl replied) s stands =
       same_goes s reply (reply_to replied.result) new replied.told (asks replied.result old new replied.asks s stands)
   takes answered reply old new false free (inr uncopied) (Some s) stands =
@@ -212,10 +201,10 @@ go_along was ids answered [] (r ∷ rs) old new taken s stands = absurd taken
 go_along was ids answered (l ∷ ls) [] old new taken s stands = absurd taken
 go_along was ids answered (l ∷ ls) (r ∷ rs) old new (next, first, rest) s stands =
     let now = goes_by was answered (caller_of l.seat ids) l.command r old next first s stands in
-    let then = go_along was ids (answered + decided_by r) ls rs next new rest now.after now.stands in record {
-      after = then.after;
-      replied = (now.after, now.replied, then.replied);
-      stands = then.stands;
+    let behind = go_along was ids (answered + decided_by r) ls rs next new rest now.after now.stands in record {
+      after = behind.after;
+      replied = (now.after, now.replied, behind.replied);
+      stands = behind.stands;
     }
 
 -- ---- whatever the device gives
@@ -225,11 +214,11 @@ pub record KeepsDevice (old new : SessionState) : Type 0 where
   pub honest : new.pool.honest ≡ old.pool.honest
   pub saved : saved_of new ≡ saved_of old
 
-keeps : {old mid new : SessionState} → KeepsDevice old mid → KeepsDevice mid new → KeepsDevice old new
-keeps first second = record { honest = second.honest ∙ first.honest; saved = second.saved ∙ first.saved }
+keeps : (old mid new : SessionState) → KeepsDevice old mid → KeepsDevice mid new → KeepsDevice old new
+keeps old mid new first second = record { honest = second.honest ∙ first.honest; saved = second.saved ∙ first.saved }
 
-kept_same : {old new : SessionState} → new.pool ≡ old.pool → KeepsDevice old new
-kept_same same = record {
+kept_same : (old new : SessionState) → new.pool ≡ old.pool → KeepsDevice old new
+kept_same old new same = record {
   honest = ap (λ (p : PoolState). p.honest) same;
   saved = ap (λ (p : PoolState). p.stored) same;
 }
@@ -239,24 +228,27 @@ kept_file file = record { honest = file.honest; saved = file.saved }
 
 kept_call : (c : Caller) (call : Call) (reply : Reply) (old new : SessionState) (full : Bool) →
     TakesCallIf full c call reply old new → KeepsDevice old new
-kept_call c call reply old new true taken = kept_same (ap (λ (k : SessionState). k.pool) taken.1)
+kept_call c call reply old new true taken = kept_same old new (ap (λ (k : SessionState). k.pool) taken.1)
 kept_call c call reply old new false (inl replied) = elim replied.asks [
   | inl once ↦ kept_file once.made.keeps
-  | inr again ↦ keeps (kept_file again.waits.keeps) (keeps (kept_same again.stops.pool) (kept_file again.made.keeps))
+  | inr again ↦
+      keeps old again.waiting new (kept_file again.waits.keeps)
+      (keeps again.waiting again.stopped new (kept_same again.waiting again.stopped again.stops.pool)
+      (kept_file again.made.keeps))
 ]
-kept_call c call reply old new false (inr uncopied) = kept_same (ap (λ (k : SessionState). k.pool) uncopied.same)
+kept_call c call reply old new false (inr uncopied) = kept_same old new (ap (λ (k : SessionState). k.pool) uncopied.same)
 
 kept_line : (answered : ℕ) (c : Caller) (said : Command) (reply : Reply) (old new : SessionState) →
     TakesCommand answered c said reply old new → KeepsDevice old new
 kept_line answered c (command.Call call) reply old new taken =
     kept_call c call reply old new (is_full answered old) taken
-kept_line answered c command.Stop reply old new taken = kept_same taken.1.pool
+kept_line answered c command.Stop reply old new taken = kept_same old new taken.1.pool
 
 pub kept_along : (ids : List SeatIds) (answered : ℕ) (lines : List Line) (told : List Reply)
     (old new : SessionState) → TakesLines ids answered lines told old new → KeepsDevice old new
-kept_along ids answered [] [] old new same = kept_same (ap (λ (k : SessionState). k.pool) same)
+kept_along ids answered [] [] old new same = kept_same old new (ap (λ (k : SessionState). k.pool) same)
 kept_along ids answered [] (r ∷ rs) old new taken = absurd taken
 kept_along ids answered (l ∷ ls) [] old new taken = absurd taken
 kept_along ids answered (l ∷ ls) (r ∷ rs) old new (next, first, rest) =
-    keeps (kept_line answered (caller_of l.seat ids) l.command r old next first)
+    keeps old next new (kept_line answered (caller_of l.seat ids) l.command r old next first)
     (kept_along ids (answered + decided_by r) ls rs next new rest)

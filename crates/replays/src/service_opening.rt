@@ -10,7 +10,6 @@ ghost use Rattle.replays.specs.Replays.{callers_of};
 ghost use Rattle.replays.specs.Beside.{is_of_one_seat};
 ghost use Rattle.replays.specs.Desks.{AreFresh, IsPlanOf, IsPreparedFor};
 
-
 use crate::seat_lines::SeatLines;
 use bucket_page::{KeptKeys, ShaKey};
 use msgq_cli::Script;

@@ -11,6 +11,7 @@ use crate::ending::{Ran, tell_end};
 use crate::opening::leave_refused;
 use crate::runs::run_lines;
 use interleavings::a_new_file_has_no_queues;
+use interleavings::interleaving_core::Failure;
 use msgq_cli::record_file::format;
 use msgq_cli::{
     Ending, Output, Script, Stage, complain_of, fail, read_script, read_text, refuse, unread,
@@ -148,15 +149,15 @@ pub fn run_on<D: PageDevice + Drop, W: Write + Drop>(
         }) result.ending }
     ensures same { D.is_honest result.device ≡ D.is_honest device }
 {
-    let caller = script.caller(script.greatest_seat());
-    let mut session = match Session::on(alloc, device, caller) {
+    let seat = script.greatest_seat();
+    let mut session = match Session::on(alloc, device, script.caller(seat)) {
         Ok(session) => session,
         Err((device, fault)) => return Ran::unrun(device, leave_refused(fault, output)),
     };
     let so_far = run_lines(script, &mut session, output);
     output.flush();
     let is_untold = output.has_refused();
-    let failure = session.failure();
+    let failure = session.failure().map(|failure| Failure { seat, ..failure });
     let (device, fault) = end_session(session, is_untold);
     let ending = tell_end(fault, so_far, output);
     Ran {

@@ -4,7 +4,6 @@ ghost use Rattle.std.specs.Prelude.{◌≡◌, ◌∷◌, ◌++◌, [], IfOk, Is
 ghost use Rattle.queue_model.specs.declared.entry.Entry.TheVariants.{Decided};
 ghost use Rattle.workers.specs.Told.{IsSameSeat, SeesFull};
 
-
 use page_device::PageDevice;
 use queue_model::{Answer, Call};
 use session::FileKeys;

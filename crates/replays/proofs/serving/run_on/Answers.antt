@@ -50,7 +50,7 @@ returns-clause-served g c =
         before = λ away. c.end_session-device.ensures.unwritten (inl away) ∙ still;
       };
       first = first;
-      opened = rw c.greatest_seat.ensures at (rw c.caller-caller.ensures at on);
+      opened = rw c.greatest_seat-seat.ensures at (rw c.caller.ensures at on);
       last = last;
       takes = ran.takes;
       before = λ failed. c.end_session-device.ensures.unwritten (inr failed) ∙ still;
