@@ -3,11 +3,11 @@
 ghost use Rattle.std.specs.Prelude.{◌≡◌};
 ghost use Rattle.command_runs.specs.Faults.{call_number_of, exit_of, number_of, of_asking};
 
-use session::{CloseFault, OpenFault, Unanswered};
 use numbers::faults;
 use numbers::faults::NoMemory;
 use queue_commands::{AskError, ExitStatus};
 use queue_model::Errno;
+use session::{CloseFault, OpenFault, Unanswered};
 use std::io;
 use thiserror::Error;
 
@@ -21,7 +21,7 @@ pub enum CommandError {
     #[error("{}", .0.name())]
     Refused(Errno),
     /// One of its calls was not answered.
-    #[error("{0}")]
+    #[error("a call failed: {0}")]
     Unanswered(Unanswered),
     /// There was no memory for a body or for the text that is printed.
     #[error("out of memory")]

@@ -169,11 +169,7 @@ fn ask_file(
 }
 
 /// Asks a command in a session, and closes its file.
-fn ask_session(
-    alloc: Global,
-    session: Session,
-    request: &Request,
-) -> Result<Asked, CommandError>
+fn ask_session(alloc: Global, session: Session, request: &Request) -> Result<Asked, CommandError>
     ensures { (c : Caller) (content : Pages) → Opens c content session →
         AsksFrom c request.now content result }
 {

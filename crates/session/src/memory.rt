@@ -22,7 +22,11 @@ impl Session<MemDevice> {
     /// The first thing that is wrong with it; `PastEnd` where the bytes are no whole pages, and
     /// `BadHeader` where they are more pages than a file has. A fault of no memory where there is
     /// none.
-    pub fn open(alloc: Global, bytes: &[u8], caller: Caller) -> Result<Session<MemDevice>, OpenFault>
+    pub fn open(
+        alloc: Global,
+        bytes: &[u8],
+        caller: Caller,
+    ) -> Result<Session<MemDevice>, OpenFault>
         ensures ok { IfOk result
             (Opens caller (pages_in (length bytes.now / PAGE_BYTES) bytes.now)) }
         ensures refused { IfErr result (MayNotOpenBytes bytes.now) }
@@ -35,7 +39,11 @@ impl Session<MemDevice> {
     /// # Errors
     ///
     /// A fault of no memory alone.
-    pub fn create(alloc: Global, pages: u32, caller: Caller) -> Result<Session<MemDevice>, OpenFault>
+    pub fn create(
+        alloc: Global,
+        pages: u32,
+        caller: Caller,
+    ) -> Result<Session<MemDevice>, OpenFault>
         requires { CanHavePages pages }
         ensures ok { IfOk result (OpensNew caller pages) }
         ensures refused { IfErr result (λ fault. open_number_of fault ≡ NO_MEMORY) }

@@ -14,6 +14,6 @@ returns-then-not-seat c =
 pub returns : goal.returns
 returns c =
     let seated = subst (λ (done : Bool). Seats c.args.caller done c.args.self.now c.seat.new.self) c.if-not-seat.false
-        c.seat.ensures in
+    c.seat.ensures in
     finished (Some c.args.caller) c.args.call.now _ c.make.result c.args.self.now c.seat.new.self c.make.new.self
     seated.0 seated.1 c.make.ensures
