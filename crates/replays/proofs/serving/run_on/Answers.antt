@@ -79,3 +79,12 @@ returns-clause-plain g c = plainly _ _ _ _ (returns-clause-served g c)
 
 pub returns-in-Err-clause-plain : goal.returns-in-Err-clause-plain
 returns-in-Err-clause-plain g c = plainly _ _ _ _ (returns-in-Err-clause-served g c)
+
+-- ---- the device is as honest as it was
+
+pub returns-clause-same : goal.returns-clause-same
+returns-clause-same g c =
+    let ran = c.run_lines-so_far.ensures in
+    let kept = kept_along c.args.script.now.ids 0 c.args.script.now.lines ran.replies c.in-Ok.session
+    c.run_lines-so_far.new.session ran.takes in
+    c.end_session-device.ensures.same ∙ kept.honest ∙ c.in-Ok.ensures.ok.honest_is
