@@ -77,10 +77,10 @@ reseated caller old new went = subst (IsBehind old) (sym went.is) (record {
 unchanged : (k : SessionState) → IsBehind k k
 unchanged k = record { holds = λ s is. is; pool = refl; locks = refl; failed = refl }
 
-pub behind : (old first : SessionState) → IsReadied old first → IsBehind old first
-behind old first (inl (inl same)) = subst (IsBehind old) (sym same) (unchanged old)
-behind old first (inl (inr went)) = renewed old.journal old first went
-behind old first (inr (caller, went)) = reseated caller old first went
+pub made_ready : (old first : SessionState) → IsReadied old first → IsBehind old first
+made_ready old first (inl (inl same)) = subst (IsBehind old) (sym same) (unchanged old)
+made_ready old first (inl (inr went)) = renewed old.journal old first went
+made_ready old first (inr (caller, went)) = reseated caller old first went
 
 pub sits_on : (old first : SessionState) → MayBeShortened old first → caller_of first ≡ caller_of old
 sits_on old first (inl same) = ap (λ (k : SessionState). caller_of k) same
@@ -459,7 +459,7 @@ goes_lost call result first new (inr driven) was = absurd (apart first driven.be
 pub stays_lost : (by : Option Caller) (call : Call) (result : Result Answer Unanswered) (old new : SessionState) →
     Makes by call result old new → StaysFailed result old new
 stays_lost by call result old new (inl made) was =
-    let same = behind old made.first made.readied in
+    let same = made_ready old made.first made.readied in
     let lost = goes_lost call result made.first new made.goes (same.failed ∙ was) in
     record { told = lost.told; failed = lost.failed; pool = lost.pool ∙ same.pool }
 stays_lost by call result old new (inr unmade) was = record {
@@ -473,7 +473,7 @@ stays_lost by call result old new (inr unmade) was = record {
 module _ (by : Option Caller) (call left : Call) (result : Result Answer Unanswered) (old first new : SessionState)
     (readied : IsReadied old first) (sits : caller_of first ≡ by) (makes : MakesLent call left result first new) where
   same : IsBehind old first
-  same = behind old first readied
+  same = made_ready old first readied
 
   made : Makes by call result old new
   made = inl (record { first = first; readied = readied; sits = sits; goes = makes.goes })
@@ -527,7 +527,7 @@ stopped_as old new stop false was =
 pub keeps_seat_stop : (old new : SessionState) → IsStopped old new → KeepsSeat old new
 keeps_seat_stop old new stop =
     let as_was = stopped_as old new stop old.stopped refl in
-    same_seat old new as_was.0 as_was.1.0 as_was.1.1.0
+    same_seat old new as_was.0 as_was.1 as_was.2
 
 pub is_stopped : StopsAKernel ShaKey → (old new : SessionState) → IsStopped old new → Stops old new
 is_stopped stops old new stop =
@@ -535,7 +535,7 @@ is_stopped stops old new stop =
     record {
       stops = λ s holds. stops sha_key s old new holds stop;
       caller = ap (λ (cs : List Caller). caller_at cs 1) as_was.0;
-      pool = as_was.1.1.0;
-      failed = as_was.1.1.1;
+      pool = as_was.2;
+      failed = as_was.3;
       stopped = stop;
     }

@@ -1,6 +1,6 @@
 -- A session over the pages of a device: the system that it holds, and what its calls are answered.
 -- docs/QUEUES.md, "Calls"; docs/FORMAT.md, "Pages".
-use Rattle.std.specs.Prelude.{ℕ, ◌≡◌, ◌≢◌, ◌⊎◌, ◌*◌, ◌/◌, ◌%◌, ◌<◌, ◌≤◌, Bool, true, false, IsTrue, List, Option, Some, None, Result, Ok, Err, drop, length, slice_index_or, take}
+use Rattle.std.specs.Prelude.{ℕ, ◌≡◌, ◌≢◌, ◌⊎◌, ◌*◌, ◌/◌, ◌%◌, ◌<◌, ◌≤◌, Bool, true, false, IsTrue, List, [], Option, Some, None, Result, Ok, Err, drop, length, slice_index_or, take}
 use Rattle.bucket_page.specs.Pseudokeys.{sha_key}
 use Rattle.page_device.specs.Device.{HasRisen}
 use Rattle.page_device.specs.declared.fault.DeviceFault.{DeviceFault}

@@ -7,6 +7,7 @@ use Rattle.session.specs.Session.{saved_of}
 use Rattle.replays.specs.Replays.{EndsWith}
 use Rattle.replays.proofs.CallLemmas.{failed_where, go_along, kept_along}
 use Rattle.replays.proofs.ServeLemmas.{plainly}
+use Rattle.replays.proofs.SpelledLemmas.{spelled}
 use Rattle.replays.proofs.serving.run_on.Goals as goal
 
 -- the session that was opened holds the file's system
@@ -79,6 +80,12 @@ returns-clause-plain g c = plainly _ _ _ _ (returns-clause-served g c)
 
 pub returns-in-Err-clause-plain : goal.returns-in-Err-clause-plain
 returns-in-Err-clause-plain g c = plainly _ _ _ _ (returns-in-Err-clause-served g c)
+
+pub returns-clause-spelled : goal.returns-clause-spelled
+returns-clause-spelled g c = spelled _ _ _ _ (returns-clause-plain g c)
+
+pub returns-in-Err-clause-spelled : goal.returns-in-Err-clause-spelled
+returns-in-Err-clause-spelled g c = spelled _ _ _ _ (returns-in-Err-clause-plain g c)
 
 -- ---- the device is as honest as it was
 

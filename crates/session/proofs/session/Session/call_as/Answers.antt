@@ -6,13 +6,13 @@ use Rattle.session.proofs.session.Session.call_as.Goals as goal
 
 -- it holds no system
 pub returns-then-not-seat : goal.returns-then-not-seat
-returns-then-not-seat c =
+returns-then-not-seat g c =
     unseated_calls c.args.caller c.args.call.now _ c.args.self.now c.seat.new.self
     (subst (λ (done : Bool). Seats c.args.caller done c.args.self.now c.seat.new.self) c.if-not-seat.true
     c.seat.ensures)
 
 pub returns : goal.returns
-returns c =
+returns g c =
     let seated = subst (λ (done : Bool). Seats c.args.caller done c.args.self.now c.seat.new.self) c.if-not-seat.false
     c.seat.ensures in
     finished (Some c.args.caller) c.args.call.now _ c.make.result c.args.self.now c.seat.new.self c.make.new.self

@@ -1,7 +1,7 @@
 use Rattle.std.proofs.Common.{refl}
 use Rattle.session.proofs.PageLemmas.{made, new_opened}
 use Rattle.session.proofs.RefusalLemmas.{new_refused}
-use Rattle.session.proofs.memory.Session.create.Goals as goal
+use Rattle.session.proofs.memory.Session+MemDevice.create.Goals as goal
 
 pub returns-clause-ok : goal.returns-clause-ok
 returns-clause-ok c =
