@@ -136,7 +136,7 @@ module _ (was : ℕ) (c : Caller) (call : Call) where
         replied = (s, inl refl, (inr (inr refl), refl));
         stands = away old new away_with.1 (Some s) stands;
       })
-  takes answered reply old new true full away_with None stands = 
+  takes answered reply old new true full away_with None stands =
       absurd (full_sound (nat_le MAX_DECIDED answered) old.failed full stands.failed)
   takes answered reply old new false free (inl replied) s stands =
       same_goes s reply (reply_to replied.result) new replied.told (asks replied.result old new replied.asks s stands)

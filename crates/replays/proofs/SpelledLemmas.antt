@@ -9,7 +9,7 @@ use Rattle.msgq_cli.specs.declared.reply.Reply.{Reply}
 use Rattle.interleavings.specs.LoneKernelWords.{State}
 use Rattle.replays.specs.Beside.{RunsAsOne, RunsBeside, RunsBesideBy, RunsScriptOn, is_of_one_seat, origin_on}
 use Rattle.replays.specs.PlainRuns.{IsPlainRun, IsPlainRunBy, RunsFile, RunsPlainly}
-use Rattle.replays.specs.Serves.{EndsWell}
+use Rattle.replays.specs.Runs.{EndsWell}
 use Rattle.replays.specs.Spelled.{EndsSpelled, IsLeftUnopened, IsSpelledJournal, LeavesSpelled, RunsAsOneSpelled, RunsPages, RunsScriptSpelled, RunsSpelled}
 use Rattle.replays.specs.Texts.{Effects, IsUnopened}
 use Rattle.replays.proofs.ServeLemmas.{plainly}
