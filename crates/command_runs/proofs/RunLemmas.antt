@@ -1,6 +1,5 @@
 -- A command asked of a file in memory, and its end on the device.
 use Rattle.std.proofs.Common.{◌≡◌, ◌∙◌, ℕ, ◌≤◌, inl, inr, Bool, List, length, Option, Some, None, unwrap_or, Result, Ok, Err, IfOk, refl, sym, ap, subst}
-use Rattle.page_device.specs.Device.{HasRisen}
 use Rattle.page_device.proofs.CopyLemmas.{risen-since}
 use Rattle.bucket_page.specs.Pseudokeys.{sha_key}
 use Rattle.interleavings.specs.LoneKernelWords.{Caller, IsFileOf, State, restarted}

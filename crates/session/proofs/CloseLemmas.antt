@@ -1,5 +1,5 @@
 -- A session is closed, or let go.
-use Rattle.std.proofs.Common.{ℕ, suc, ◌≡◌, ◌↔◌, ◌∙◌, refl, sym, ap, Bool, true, false, List, [], ◌∷◌, Option, None, Some, Result, Ok, Err, IsTrue, length, slice_index_or, arith}
+use Rattle.std.proofs.Common.{ℕ, suc, ◌≡◌, ◌↔◌, ◌∙◌, refl, sym, ap, Bool, true, false, List, [], ◌∷◌, Option, None, Some, IsTrue, length, slice_index_or, arith}
 use Rattle.std.specs.List.{list_any}
 use Rattle.std.proofs.lemmas.List.{length-map}
 use Rattle.page_device.specs.Sealed.{payload_of}
@@ -10,7 +10,7 @@ use Rattle.interleaving_core.specs.declared.fault.CloseFault.{CloseFault}
 use Rattle.interleaving_core.specs.declared.fault.CloseFault.TheVariants as closes
 use Rattle.interleavings.specs.LoneKernelLaws.{ClosesAKernel}
 use Rattle.interleavings.specs.LoneKernelWords.{ActiveView, IsFlushedTo, State}
-use Rattle.session.specs.Session.{ClosesOn, Holds, IsClosed, SessionState, pages_of, saved_of}
+use Rattle.session.specs.Session.{ClosesOn, Holds, IsClosed, SessionState, saved_of}
 
 apart : (k : SessionState) → k.failed ≡ false → k.failed ≡ true → ⊥
 apart k sound failed = absurd cc

@@ -1,10 +1,9 @@
 -- Another caller sits at the seat of a session, and a call is made for it.
-use Rattle.std.proofs.Common.{◌≡◌, ◌∙◌, refl, sym, subst, inl, inr, Bool, true, false, Option, Some, Result, Err, arith}
+use Rattle.std.proofs.Common.{◌≡◌, ◌∙◌, refl, sym, subst, inl, inr, Bool, true, false, Some, Err, arith}
 use Rattle.interleaving_core.specs.Renewing.{KeepsCaller, Reseats}
-use Rattle.interleavings.specs.LoneKernelWords.{Answer, Call, Caller, State}
+use Rattle.interleavings.specs.LoneKernelWords.{Call, Caller, State}
 use Rattle.session.specs.Making.{Makes, MayBeShortened, Seats, SessionState, caller_of}
 use Rattle.session.specs.Session.{CallsAs, Holds, IsSession, KeepsFile}
-use Rattle.session.specs.declared.unanswered.Unanswered.{Unanswered}
 use Rattle.session.specs.declared.unanswered.Unanswered.TheVariants.{Failed}
 use Rattle.session.proofs.PageLemmas.{is_between}
 use Rattle.session.proofs.SessionLemmas.{sits_on, stays_lost}

@@ -5,19 +5,23 @@ use Rattle.session.proofs.session.Session.close.Goals as goal
 
 pub returns-in-Ok : goal.returns-in-Ok
 returns-in-Ok g c =
-    closed_well c.a_kernel_at_rest_closes_on_its_file.ensures c.args.self _ _ _ _ c.in-Ok.ensures.ok
-    c.in-Ok.ensures.failed c.in-Ok.ensures.device
+    rw (← c.self.view_is) (closed_well c.a_kernel_at_rest_closes_on_its_file.ensures c.self.inside.kernel _ _ _ _
+    c.in-Ok.ensures.ok c.in-Ok.ensures.failed c.in-Ok.ensures.device)
 
 -- a transfer failed, now or before
 pub returns-in-Err-Fault : goal.returns-in-Err-Fault
 returns-in-Err-Fault g c =
-    closed_badly c.args.self c.in-Err-Fault.fault _ _ _ _ c.in-Err-Fault.ensures.failed c.in-Err-Fault.ensures.device
+    let failed = rw c.in-Err-Fault.field-0-is at c.in-Err-Fault.ensures.failed in
+    let device = rw c.in-Err-Fault.field-0-is at c.in-Err-Fault.ensures.device in
+    let released = rw c.in-Err-Fault.field-0-is at device in
+    rw (← c.self.view_is) (closed_badly c.self.inside.kernel c.in-Err-Fault.fault _ _ _ _ failed released)
 
 -- a call is left
 pub returns-in-Err-Busy : goal.returns-in-Err-Busy
 returns-in-Err-Busy g c =
-    let same = c.in-Err-Busy.ensures.back in
-    left_busy c.args.self _ _ _ _ (c.in-Err-Busy.ensures.busy.0 refl)
+    let busy = rw c.in-Err-Busy.field-0-is at c.in-Err-Busy.ensures.busy in
+    let same = rw c.in-Err-Busy.field-0-is at c.in-Err-Busy.ensures.back in
+    rw (← c.self.view_is) (left_busy c.self.inside.kernel _ _ _ _ (busy.0 refl)
     (c.abandon.ensures.content ∙ ap (λ (k : SessionState). k.pool.stored) same)
     (c.abandon.ensures.honest ∙ ap (λ (k : SessionState). k.pool.honest) same)
-    (c.abandon.ensures.faults ∙ ap (λ (k : SessionState). k.pool.faults) same)
+    (c.abandon.ensures.faults ∙ ap (λ (k : SessionState). k.pool.faults) same))
