@@ -58,7 +58,7 @@ module _ (script : Parts) (honest : Bool) (c : Effects) (ending : Ending) where
 
   -- ---- a thread a seat
 
-  journal_spelled : (journal : List Entry) → IsJournalOf (origin_on script honest c) journal →
+  abbrev journal_spelled : (journal : List Entry) → IsJournalOf (origin_on script honest c) journal →
       IsSpelledJournal script c.content journal
   journal_spelled journal is = record {
     base = is.base;
