@@ -170,6 +170,7 @@ pub fn run_on<D: PageDevice + Drop, W: Write + Drop>(
     let so_far = run_lines(script, &mut session, output);
     output.flush();
     let is_untold = output.has_refused();
+    // a session has a seat of its own, which is that of the lines where they are of one
     let failure = session.failure().map(|failure| Failure { seat, ..failure });
     let (device, fault) = end_session(session, is_untold);
     let ending = tell_end(fault, so_far, output);
