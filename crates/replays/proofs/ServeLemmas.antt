@@ -1,11 +1,11 @@
 -- Files opened, run on and closed.
-use Rattle.std.proofs.Common.{◌≡◌, ◌≢◌, ◌⊎◌, inl, inr, Bool, true, false, true≢false, List, ℕ, ◌≤◌, refl, sym, ap, ◌∙◌, subst, Option, Some, None, Result, Ok, Err, arith}
+use Rattle.std.proofs.Common.{◌≡◌, ◌≢◌, ◌⊎◌, inl, inr, Bool, true, false, true≢false, List, ℕ, refl, sym, ◌∙◌, subst, Option, Some, None, Result, Ok, Err, arith}
 use Rattle.page_device.specs.Device.{HasRisen}
 use Rattle.page_device.specs.Fault.{number_of}
 use Rattle.page_device.specs.declared.fault.DeviceFault.{DeviceFault}
 use Rattle.page_device.specs.declared.fault.DeviceFault.TheVariants as device
 use Rattle.bucket_page.specs.Pseudokeys.{sha_key}
-use Rattle.interleavings.specs.LoneKernelWords.{Caller, State, restarted}
+use Rattle.interleavings.specs.LoneKernelWords.{Caller, State}
 use Rattle.interleavings.specs.interleaving_core.Beginning.{MayRefuseUnchecked}
 use Rattle.interleavings.specs.interleaving_core.Fault.{close_number_of, device_failed, open_number_of}
 use Rattle.interleavings.specs.interleaving_core.declared.fault.CloseFault.{CloseFault}

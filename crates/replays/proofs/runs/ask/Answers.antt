@@ -1,4 +1,4 @@
-use Rattle.std.proofs.Common.{◌≡◌, sym, subst, inl, inr, Result}
+use Rattle.std.proofs.Common.{sym, subst, inl, inr, Result}
 use Rattle.interleavings.specs.LoneKernelWords.{Answer}
 use Rattle.session.specs.Session.{CallsAs}
 use Rattle.session.specs.declared.unanswered.Unanswered.{Unanswered}

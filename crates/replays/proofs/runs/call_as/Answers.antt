@@ -1,4 +1,4 @@
-use Rattle.std.proofs.Common.{◌≡◌, refl, sym, subst, inl, inr, Bool}
+use Rattle.std.proofs.Common.{refl, subst, inl, inr, Bool}
 use Rattle.interleavings.specs.LoneKernelWords.{Call}
 use Rattle.msgq_cli.specs.declared.reply.Reply.TheVariants as replies
 use Rattle.replays.specs.Taking.{Asks, TakesCallIf}

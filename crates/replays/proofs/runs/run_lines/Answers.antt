@@ -1,7 +1,6 @@
-use Rattle.std.proofs.Common.{rules, ◌≡◌, ◌<◌, ◌++◌, ◌∷◌, [], length, take, take_all, get_or, ◌+◌, ap, sym, subst, ◌∙◌, arith}
+use Rattle.std.proofs.Common.{rules, ◌≡◌, ◌<◌, ◌++◌, ◌∷◌, [], length, take, take_all, get_or, ◌+◌, ap, subst, ◌∙◌, arith}
 use Rattle.std.proofs.lemmas.List.{take_more}
 use Rattle.interleavings.specs.LoneKernelWords.{Caller}
-use Rattle.msgq_cli.specs.Scripts.{caller_of}
 use Rattle.replays.specs.Taking.{TakesCommand}
 use Rattle.replays.proofs.RunLemmas.{HasRun-start, HasRun-push}
 use Rattle.replays.proofs.runs.run_lines.Goals as goal

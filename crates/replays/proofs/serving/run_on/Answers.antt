@@ -1,9 +1,8 @@
-use Rattle.std.proofs.Common.{◌≡◌, [], sym, ap, ◌∙◌, subst, inl, inr, append-nil, Bool, IsTrue, Some}
+use Rattle.std.proofs.Common.{[], sym, ◌∙◌, subst, inl, inr, append-nil, Bool, IsTrue, Some}
 use Rattle.msgq_cli.specs.Outputs.{Prints}
 use Rattle.msgq_cli.specs.Runs.{printed}
 use Rattle.msgq_cli.specs.declared.ending.Ending.{Ending}
 use Rattle.msgq_cli.proofs.OutputLemmas.{Prints-then}
-use Rattle.session.specs.Session.{saved_of}
 use Rattle.replays.specs.Replays.{EndsWith}
 use Rattle.replays.proofs.CallLemmas.{failed_where, go_along, kept_along}
 use Rattle.replays.proofs.ServeLemmas.{plainly}
