@@ -5,3 +5,4 @@ pub mod SessionLemmas
 pub mod SeatLemmas
 pub mod PageLemmas
 pub mod SaveLemmas
+pub mod CloseLemmas
