@@ -68,7 +68,6 @@ module _ (script : Parts) (honest : Bool) (c : Effects) (ending : Ending) where
 
   leaves_spelled : (journal : List Entry) → LeavesFile (origin_on script honest c) journal c.left →
       LeavesSpelled script c.content journal c.left
-  unfolding journal_spelled
   leaves_spelled journal leaves = record {
     plain = journal_spelled journal leaves.plain;
     pages = spells sha_key c.left _ leaves.left;
