@@ -11,9 +11,7 @@ use Rattle.interleaving_core.specs.declared.fault.CloseFault.TheVariants as clos
 use Rattle.interleavings.specs.LoneKernelLaws.{ClosesAKernel}
 use Rattle.interleavings.specs.LoneKernelWords.{ActiveView, IsFlushedTo, State}
 use Rattle.session.specs.Session.{ClosesOn, Holds, IsClosed, SessionState, saved_of}
-
-apart : (k : SessionState) → k.failed ≡ false → k.failed ≡ true → ⊥
-apart k sound failed = absurd cc
+use Rattle.session.proofs.KeepLemmas.{apart}
 
 -- ---- it is written
 

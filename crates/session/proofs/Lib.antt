@@ -1,6 +1,8 @@
 pub mod FaultLemmas
 pub mod LoadLemmas
 pub mod RefusalLemmas
+pub mod KeepLemmas
+pub mod BeforeLemmas
 pub mod SessionLemmas
 pub mod SeatLemmas
 pub mod PageLemmas

@@ -28,7 +28,7 @@ use Rattle.interleaving_core.specs.xsi_calls.Words.{world}
 use Rattle.interleavings.specs.LoneKernelLaws.{ClosesAKernel, OpensAKernel}
 use Rattle.interleavings.specs.LoneKernelWords.{Caller, IsFileAtRest, IsFileOf, IsFlushedTo, State, caller_at}
 use Rattle.session.specs.Session.{AreItsPages, GivesPage, HasFailed, Holds, IsSession, Opens, OpensAny, OpensNew, PageBecomes, PagesAreTheFile, SessionState, caller_of, pages_of, saved_of}
-use Rattle.session.proofs.SessionLemmas.{KeepsSeat, same_caller, same_saved}
+use Rattle.session.proofs.KeepLemmas.{KeepsSeat, same_caller, same_saved}
 
 -- ---- it is opened
 

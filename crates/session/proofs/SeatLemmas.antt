@@ -6,7 +6,7 @@ use Rattle.session.specs.Making.{Makes, MayBeShortened, Seats, SessionState, cal
 use Rattle.session.specs.Session.{CallsAs, Holds, IsSession, KeepsFile}
 use Rattle.session.specs.declared.unanswered.Unanswered.TheVariants.{Failed}
 use Rattle.session.proofs.PageLemmas.{is_between}
-use Rattle.session.proofs.SessionLemmas.{sits_on, stays_lost}
+use Rattle.session.proofs.BeforeLemmas.{sits_on, stays_lost}
 
 -- ---- it sits there
 

@@ -92,12 +92,12 @@ abbrev pub Goes : Call → Result Answer Unanswered → (old new : SessionState)
 Goes call result old new = IsTurnedAway call result old new ⊎ IsDrivenTo call result old new
 
 -- it is made for this caller
-pub record IsMade (by : Option Caller) (call : Call) (result : Result Answer Unanswered) (old new : SessionState) : Type 0
-  where
-    pub first : SessionState
-    pub readied : IsReadied old first
-    pub sits : caller_of first ≡ by
-    pub goes : Goes call result first new
+pub record IsMade (by : Option Caller) (call : Call) (result : Result Answer Unanswered) (old new : SessionState)
+    : Type 0 where
+  pub first : SessionState
+  pub readied : IsReadied old first
+  pub sits : caller_of first ≡ by
+  pub goes : Goes call result first new
 
 -- or it can't be
 pub record IsUnmade (result : Result Answer Unanswered) (old new : SessionState) : Type 0 where

@@ -1,4 +1,4 @@
-use Rattle.session.proofs.SessionLemmas.{shortened_calls}
+use Rattle.session.proofs.BeforeLemmas.{shortened_calls}
 use Rattle.session.proofs.session.Session.call.Goals as goal
 
 pub returns : goal.returns

@@ -1,7 +1,7 @@
 use Rattle.std.proofs.Common.{subst, Bool, Some}
 use Rattle.session.specs.Making.{Seats}
 use Rattle.session.proofs.SeatLemmas.{unseated_calls}
-use Rattle.session.proofs.SessionLemmas.{finished}
+use Rattle.session.proofs.BeforeLemmas.{finished}
 use Rattle.session.proofs.session.Session.call_as.Goals as goal
 
 -- it holds no system

@@ -1,5 +1,6 @@
 use Rattle.std.proofs.Common.{rules, ◌≡◌, ◌∙◌, sym}
-use Rattle.session.proofs.SessionLemmas.{driven_session, is_refused, of_lent, told_else, told_none, told_waiting, withdrawn_session}
+use Rattle.session.proofs.KeepLemmas.{driven_session, withdrawn_session}
+use Rattle.session.proofs.SessionLemmas.{is_refused, of_lent, told_else, told_none, told_waiting}
 use Rattle.session.proofs.session.Session.make.Goals as goal
 
 -- it does not begin

@@ -1,7 +1,7 @@
 use Rattle.std.proofs.Common.{◌<◌, sym, subst}
 use Rattle.session.specs.Session.{SessionState, pages_of}
 use Rattle.session.proofs.PageLemmas.{is_given, none_given, page_kept}
-use Rattle.session.proofs.SessionLemmas.{still_session}
+use Rattle.session.proofs.KeepLemmas.{still_session}
 use Rattle.session.proofs.session.Session.page.Goals as goal
 
 -- it is not between calls, and so holds no system

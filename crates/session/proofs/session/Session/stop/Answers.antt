@@ -1,4 +1,4 @@
-use Rattle.session.proofs.SessionLemmas.{is_stopped}
+use Rattle.session.proofs.KeepLemmas.{is_stopped}
 use Rattle.session.proofs.session.Session.stop.Goals as goal
 
 pub returns : goal.returns
