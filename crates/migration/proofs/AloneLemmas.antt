@@ -1,5 +1,5 @@
 -- The row of the one seat, which holds the lock of a record.
-use Rattle.std.proofs.Common.{◌≡◌, ◌≢◌, ◌==◌, ℕ, zero, suc, Bool, true, false, List, [], ◌∷◌, if◌then◌else◌, Option, Some, None, refl, sym, ap, subst, ◌∙◌, arith}
+use Rattle.std.proofs.Common.{◌≡◌, ◌≢◌, ◌==◌, ℕ, zero, suc, Bool, true, false, List, [], ◌∷◌, if◌then◌else◌, Option, Some, None, IsSome, refl, sym, ap, subst, ◌∙◌, arith}
 use Rattle.bucket_page.specs.declared.record_key.RecordKey.{RecordKey}
 use Rattle.directory.proofs.MemberLaws.{contains_none}
 use Rattle.file_pages.specs.Files.{store_of}
@@ -71,7 +71,9 @@ module _ (key : RecordKey) (locks : Table) (is : locks ≡ lock_on key ∷ []) w
   no_writer seat = ap may_write (held_not seat Directory (bare_lock key).directory)
 
   not_held : (seat page : ℕ) → IsHeld locks seat (Page page) → ⊥
-  not_held seat page holds = let none = held_not seat (Page page) ((bare_lock key).pages page) in absurd (rw none at holds)
+  not_held seat page holds =
+      let there : IsSome {T = LockKind} None = subst IsSome (held_not seat (Page page) ((bare_lock key).pages page)) holds
+      in absurd cc
 
   pub quiet_world : (hash : RecordKey → ℕ) (images : List (List ℕ)) → IsSoundFile hash (store_of images) Quiet →
       IsLawful locks → IsSoundWorld hash (world images locks Quiet)

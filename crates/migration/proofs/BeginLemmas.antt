@@ -3,6 +3,7 @@ use Rattle.std.proofs.Common.{◌≡◌, ℕ, true, false, List, [], ◌∷◌, 
 use Rattle.bucket_page.specs.declared.record_key.RecordKey.{RecordKey}
 use Rattle.buffer_pool.specs.Pool.{PoolState}
 use Rattle.file_pages.specs.Files.{store_of}
+use Rattle.numbers.specs.Numbers.{four}
 use Rattle.page_locks.specs.Locks.{without}
 use Rattle.page_locks.proofs.NameLemmas.{is_same-itself}
 use Rattle.queue_records.specs.Keys.{guard_of}
@@ -41,6 +42,7 @@ pub begun_replace : (hash : RecordKey → ℕ) (counter : Counter) (k : ℕ) (a 
     a ≡ begun (ToWrite (Replace (records.Counter counter))) k → Serves (ToWrite (Replace (records.Counter counter))) a →
     k ≡ hash counter_key → IsAtRest hash pool → HasCounter pool →
     IsBegun hash (ToWrite (Replace (records.Counter counter))) (Some (records.Counter new_counter)) a pool
+unfolding four
 begun_replace hash counter k a pool is serves keyed rest stands =
     subst (λ (x : AccessView). IsBegun hash (ToWrite (Replace (records.Counter counter)))
     (Some (records.Counter new_counter)) x pool) (sym is) (record {

@@ -1,5 +1,5 @@
 -- A new file that is opened holds the Counter alone.
-use Rattle.std.proofs.Common.{◌≡◌, ◌≢◌, ℕ, Bool, IsTrue, List, length, inl, inr, Option, Some, None, refl, sym, ap, ◌∙◌, arith}
+use Rattle.std.proofs.Common.{◌≡◌, ◌≢◌, ℕ, Bool, IsTrue, List, length, inl, inr, Option, Some, None, refl, sym, ap, subst, ◌∙◌, arith}
 use Rattle.std.specs.Option.{option_map}
 use Rattle.std.proofs.lemmas.List.{length-map}
 use Rattle.bucket_page.specs.declared.record_key.RecordKey.{RecordKey}
@@ -16,6 +16,7 @@ use Rattle.type_chains.specs.RecordOf.{record_of}
 use Rattle.type_chains.proofs.Images.{image_agrees}
 use Rattle.type_chains.proofs.Members.{head_or_tail}
 use Rattle.migration.specs.Filling.{IsNew, MayNotFill, MayNotWrite}
+use Rattle.migration.specs.Rooms.{IsToldOfNew}
 use Rattle.migration.specs.declared.fault.MakingFault.{MakingFault}
 use Rattle.migration.specs.declared.fault.MakingFault.TheVariants as makings
 
@@ -37,3 +38,13 @@ told_wrong hash pages s makings.NoRoom is = absurd is
 told_wrong hash pages s makings.NoMemory is = tt
 told_wrong hash pages s (makings.Wrong fault) is = tt
 told_wrong hash pages s makings.Failed is = absurd is
+
+-- of a system of which this is known
+pub known_told : (hash : RecordKey → ℕ) (pages : ℕ) (Known : State → Type 0) (s : State) → Known s →
+    (fault : MakingFault) → MayNotFill hash pages s fault → IsToldOfNew hash pages Known fault
+known_told hash pages Known s known (makings.Device fault) is = tt
+known_told hash pages Known s known (makings.Pool fault) is = tt
+known_told hash pages Known s known makings.NoRoom is = (is.0, subst Known (sym is.1.0) known, is.1.1)
+known_told hash pages Known s known makings.NoMemory is = tt
+known_told hash pages Known s known (makings.Wrong fault) is = tt
+known_told hash pages Known s known makings.Failed is = absurd is

@@ -68,7 +68,7 @@ module _ (hash : RecordKey → ℕ) (p : Purpose) (old : PoolState) where
     found = found;
     stands = b.stands;
     allows = b.allows;
-    others = λ other else. refl;
+    others = λ other apart. refl;
     lacks = λ r is full. absurd (true≢false (sym full ∙ b.room));
   }
 
@@ -129,11 +129,11 @@ module _ (hash : RecordKey → ℕ) (p : Purpose) (old : PoolState) where
               (sym step.aim.key) told.stands
 
           others : HoldsElse (aimed_at p) old.images pool'.images
-          others other else =
+          others other apart =
               others_hold hash 1 did (world pool.images locks u.change) (world pool'.images locks' made.after)
               u.sees.sound fine a.operation a.bytes made.does other
-              (not_same (access_key a) other (λ same. else (sym u.serves.key ∙ same)))
-              ∙ u.others other else
+              (not_same (access_key a) other (λ same. apart (sym u.serves.key ∙ same)))
+              ∙ u.others other apart
 
           lacked : (r : Record) → p ≡ ToInsert r → has_no_room a' ≡ true → (full : Bool) → has_no_room a ≡ full →
               Lacked hash r old
@@ -169,9 +169,9 @@ module _ (hash : RecordKey → ℕ) (p : Purpose) (old : PoolState) where
 
       pub blocked_by_none : (other : ℕ) → did ≡ Blocked other → locks ≡ access_locks a (lock_on key) ∷ [] → ⊥
       blocked_by_none other is alone =
-          let does : TurnsAt hash (access_turn a (store_of pool.images)) (Blocked other) 1
+          let does : TurnsAt {F = FileFault} hash (access_turn a (store_of pool.images)) (Blocked other) 1
           (world pool.images locks u.change) (world pool'.images locks' made.after) =
-          subst (λ (d : Progress FileFault). TurnsAt hash (access_turn a (store_of pool.images)) d 1
+          subst (λ (d : Progress FileFault). TurnsAt {F = FileFault} hash (access_turn a (store_of pool.images)) d 1
           (world pool.images locks u.change) (world pool'.images locks' made.after)) is made.does in
           not_in_way (access_locks a (lock_on key)) (world pool.images locks u.change) alone
           (access_turn a (store_of pool.images)).ask other does.0

@@ -1,5 +1,5 @@
 -- The seat holds what the access says, the device stays as honest, and on an honest one the access is under way.
-use Rattle.std.proofs.Common.{◌≡◌, ◌≤◌, ◌+◌, ◌-◌, ◌×◌, Option}
+use Rattle.std.proofs.Common.{◌≡◌, ◌≤◌, ◌+◌, ◌-◌, Option}
 use Rattle.file_pages.specs.Files.{store_of}
 use Rattle.queue_records.specs.declared.record.Record.{Record}
 use Rattle.record_file.specs.Accesses.{access_key, access_left, access_locks}
