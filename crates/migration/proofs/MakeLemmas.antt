@@ -1,10 +1,15 @@
 -- A new file that is opened holds the Counter alone.
-use Rattle.std.proofs.Common.{◌≡◌, ◌≢◌, ℕ, Bool, IsTrue, List, length, inl, inr, Option, Some, None, refl, sym, ap, subst, ◌∙◌, arith}
+use Rattle.std.proofs.Common.{◌≡◌, ◌≢◌, ℕ, Bool, IsTrue, List, [], length, inl, inr, Option, Some, None, Result, Ok, IfOk, refl, sym, ap, subst, ◌∙◌, arith}
+use Rattle.std.specs.Prelude.{◌⊎◌}
 use Rattle.std.specs.Option.{option_map}
 use Rattle.std.proofs.lemmas.List.{length-map}
 use Rattle.bucket_page.specs.declared.record_key.RecordKey.{RecordKey}
 use Rattle.buffer_pool.specs.Pool.{PoolState, opened, payloads_of}
 use Rattle.directory.proofs.MemberLaws.{contains_none}
+use Rattle.interleavings.specs.Files.{no_queues}
+use Rattle.interleavings.specs.Resting.{IsFileAtRest}
+use Rattle.interleavings.proofs.NewLaws.{new_has_no_queues}
+use Rattle.interleavings.proofs.OpenedOpenLemmas.{opens_at_rest}
 use Rattle.page_device.specs.Sealed.{payload_of}
 use Rattle.queue_model.specs.Lawful.{IsLawful}
 use Rattle.queue_model.specs.State.{State}
@@ -16,13 +21,39 @@ use Rattle.type_chains.specs.RecordOf.{record_of}
 use Rattle.type_chains.proofs.Images.{image_agrees}
 use Rattle.type_chains.proofs.Members.{head_or_tail}
 use Rattle.migration.specs.Filling.{IsNew, MayNotFill, MayNotWrite}
+use Rattle.migration.specs.Gathering.{MayNotRescue}
+use Rattle.migration.specs.Rescues.{IsFoundIn, IsRescuedFrom, IsToldOfSalvage, IsWhole}
 use Rattle.migration.specs.Rooms.{IsToldOfNew}
+use Rattle.migration.specs.declared.salvaged.Rescue.{Rescue}
+use Rattle.migration.specs.declared.salvage_fault.SalvageFault.{SalvageFault}
+use Rattle.migration.specs.declared.salvage_fault.SalvageFault.TheVariants as salvages
 use Rattle.migration.specs.declared.fault.MakingFault.{MakingFault}
 use Rattle.migration.specs.declared.fault.MakingFault.TheVariants as makings
 
+-- the system without queues has no record but the Counter
+none_elsewhere : IsLawful no_queues → (key : RecordKey) → counter_key ≢ key → record_of no_queues key ≡ None
+none_elsewhere lawful key other = by (record_of no_queues key) refl
+  where
+    by : (found : Option Record) → record_of no_queues key ≡ found → found ≡ None
+    by None is = refl
+    by (Some r) is =
+        let both = (image_agrees no_queues lawful key r).0 is in
+        elim (head_or_tail (records.Counter new_counter) r [] both.0) [
+          | inl first ↦ absurd (other (ap key_of first ∙ both.1))
+          | inr none ↦ absurd (contains_none r none)
+        ]
+
 pub new_file : (hash : RecordKey → ℕ) (pages : ℕ) (content : List (List ℕ)) (frames faults : ℕ) (honest synced : Bool) →
     IsNewFile pages content → IsTrue honest → IsNew hash (opened frames content honest synced faults)
-new_file hash pages content frames faults honest synced it true_to_it = ?
+new_file hash pages content frames faults honest synced it true_to_it =
+    let rest = (opens_at_rest hash content no_queues frames 1 faults honest synced
+    (new_has_no_queues hash pages content it).file true_to_it (omega arith) (omega arith)).rest in
+    record {
+      rest = record { honest = rest.honest; file = rest.file; sound = rest.sound.file };
+      counter = record { holds = rest.holds counter_key; spelled = rest.spelled counter_key };
+      none = λ key other. rest.holds key
+          ∙ ap (option_map value_of) (none_elsewhere rest.filed.lawful key other);
+    }
 
 -- it has as many pages
 pub as_many_images : (pages : ℕ) (content : List (List ℕ)) → IsNewFile pages content →
@@ -44,7 +75,32 @@ pub known_told : (hash : RecordKey → ℕ) (pages : ℕ) (Known : State → Typ
     (fault : MakingFault) → MayNotFill hash pages s fault → IsToldOfNew hash pages Known fault
 known_told hash pages Known s known (makings.Device fault) is = tt
 known_told hash pages Known s known (makings.Pool fault) is = tt
-known_told hash pages Known s known makings.NoRoom is = (is.0, subst Known (sym is.1.0) known, is.1.1)
+known_told hash pages Known s known makings.NoRoom is = (is.0, subst Known (sym is.1) known, is.2)
 known_told hash pages Known s known makings.NoMemory is = tt
 known_told hash pages Known s known (makings.Wrong fault) is = tt
 known_told hash pages Known s known makings.Failed is = absurd is
+
+-- ---- what was salvaged
+
+-- what is put into a new file is what was found
+pub found_in : (hash : RecordKey → ℕ) (content : List (List ℕ)) (Honest Failed : Type 0) (rescue : Rescue)
+    (found : Result Rescue SalvageFault) → found ≡ Ok rescue → (Honest → IsRescuedFrom hash content Failed found) →
+    IsFoundIn hash content Honest Failed rescue.system
+found_in hash content Honest Failed rescue found is told honest t file =
+    by (subst (λ (r : Result Rescue SalvageFault). IfOk r (λ x. IsWhole t x ⊎ Failed)) is
+    ((told honest).whole t file))
+  where
+    by : IsWhole t rescue ⊎ Failed → (rescue.system ≡ t) ⊎ Failed
+    by (inl whole) = inl whole.system
+    by (inr failed) = inr failed
+
+-- of a new file nothing is told before it is made
+pub told_of_old : (hash : RecordKey → ℕ) (pages : ℕ) (Found : State → Type 0) (Failed : Type 0) (fault : SalvageFault) →
+    MayNotRescue Failed fault → IsToldOfSalvage hash pages Found fault
+told_of_old hash pages Found Failed salvages.Device is = tt
+told_of_old hash pages Found Failed salvages.NoPage is = tt
+told_of_old hash pages Found Failed salvages.Unread is = tt
+told_of_old hash pages Found Failed salvages.BadVersion is = tt
+told_of_old hash pages Found Failed salvages.NoMemory is = tt
+told_of_old hash pages Found Failed salvages.Unlawful is = tt
+told_of_old hash pages Found Failed (salvages.New fault) is = absurd is

@@ -1,6 +1,6 @@
 -- The records of a queue, and of all queues of a system, are put into a file one after the other.
-use Rattle.std.proofs.Common.{◌≡◌, ◌≢◌, ◌<◌, ◌≤◌, ◌+◌, ◌*◌, ℕ, suc, Bool, true, false, List, length, inl, inr, Option, Some, None, refl, sym, ap, subst, ◌∙◌, arith}
-use Rattle.std.specs.Prelude.{◌⊎◌, slice_index_or}
+use Rattle.std.proofs.Common.{◌≡◌, ◌≢◌, ◌<◌, ◌≤◌, ◌+◌, ◌*◌, ℕ, suc, Bool, true, false, List, [], length, map, inl, inr, Option, Some, None, Result, Ok, Err, IfErr, refl, sym, ap, subst, ◌∙◌, arith}
+use Rattle.std.specs.Prelude.{◌⊎◌, OnOk, option_to_list, slice_index_or}
 use Rattle.std.specs.List.{Contains}
 use Rattle.std.proofs.lemmas.List.{get_or_default}
 use Rattle.std.proofs.lemmas.Option.{none-some}
@@ -17,22 +17,39 @@ use Rattle.queue_records.specs.Spelling.{counter_key, key_of}
 use Rattle.queue_records.specs.declared.counter.Counter.{Counter}
 use Rattle.queue_records.specs.declared.record.Record.{Record}
 use Rattle.queue_records.specs.declared.record.Record.TheVariants as records
+use Rattle.type_chains.specs.Entries.{key_entry}
 use Rattle.type_chains.specs.Image.{image, queue_records}
+use Rattle.type_chains.proofs.Members.{contains_head}
 use Rattle.type_chains.proofs.Owners.{tells_queue}
 use Rattle.type_chains.proofs.Unique.{pairs_unmap}
 use Rattle.migration.specs.Filling.{HoldsOnly, IsFilling, IsNew, IsOpen, IsPart, LacksQueue, MayNotFill, MayNotPut, MayNotWrite, Puts, held_in, turn_of}
 use Rattle.migration.specs.Rooms.{IsOfSystem}
 use Rattle.migration.specs.declared.fault.MakingFault.{MakingFault}
 use Rattle.migration.specs.declared.fault.MakingFault.TheVariants as makings
-use Rattle.migration.proofs.PartLemmas.{held_still, not_counter, not_itself, of_image, part_still, ranged, told_still}
+use Rattle.migration.proofs.PartLemmas.{held_still, keyed_in, not_counter, not_itself, of_image, part_still, ranged, told_still}
+
+-- what is so of an answer, or of a fault
+
+pub on_ok : {T E A B : Type 0} (r : Result T E) → (A → B) → OnOk r A → OnOk r B
+on_ok (Ok value) f x = f x
+on_ok (Err fault) f x = tt
+
+pub if_err : {T E : Type 0} {A B : E → Type 0} (r : Result T E) → ((e : E) → A e → B e) → IfErr r A → IfErr r B
+if_err (Ok value) f x = tt
+if_err (Err fault) f x = f fault x
 
 -- ---- one queue
 
+pub key_there : (q : Queue) (k : ℕ) → q.key ≡ Some k → Contains (queue_records q) (records.Key (key_entry k q))
+key_there q k has = keyed_in q (records.Key (key_entry k q))
+    (subst (λ (o : Option ℕ). Contains (map (λ (k : ℕ). records.Key (key_entry k q)) (option_to_list o))
+    (records.Key (key_entry k q))) (sym has) (contains_head (records.Key (key_entry k q)) []))
+
 pub begun_filling : (hash : RecordKey → ℕ) (s : State) (q : Queue) (pool : PoolState) → IsOpen hash s q pool →
     (turn : ℕ) → IsFilling hash s q turn pool pool
-begun_filling hash s q pool open turn = record {
-  part = open.part;
-  lacks = λ r has later. open.lacks r has;
+begun_filling hash s q pool free turn = record {
+  part = free.part;
+  lacks = λ r has later. free.lacks r has;
   others = λ r its not. refl;
 }
 
@@ -93,7 +110,7 @@ first_message hash s q start pool f = record { turn = 2; filling = f; before = �
 
 pub next_message : (hash : RecordKey → ℕ) (s : State) (q : Queue) (place : ℕ) (start pool : PoolState) (m : Message) →
     IsLawfulQueue q → m ≡ slice_index_or q.messages place m → place < length q.messages → (serial : ℕ) →
-    serial ≡ m.serial → IsFilling hash s q (suc (3 + 2 * serial)) start pool → IsUpTo hash s q (suc place) start pool
+    serial ≡ m.serial → IsFilling hash s q (suc (3 + 2 * serial)) start pool → IsUpTo hash s q (place + 1) start pool
 next_message hash s q place start pool m lawful at inside serial same f = record {
   turn = suc (3 + 2 * serial);
   filling = f;
@@ -139,7 +156,7 @@ module _ (hash : RecordKey → ℕ) (s : State) (lawful : IsLawful s) where
       lacks = subst (λ (x : Queue). LacksQueue x old) (sym at) (u.lacks place q (omega arith) inside);
     }
 
-    pub next_queue : (new : PoolState) → HoldsOnly hash s q old new → IsUpToQueue hash s (suc place) new
+    pub next_queue : (new : PoolState) → HoldsOnly hash s q old new → IsUpToQueue hash s (place + 1) new
     next_queue new holds = record {
       part = holds.part;
       lacks = λ n d from within r has.
@@ -149,7 +166,7 @@ module _ (hash : RecordKey → ℕ) (s : State) (lawful : IsLawful s) where
           ∙ u.lacks n d (omega (arith, from)) within r has;
     }
       where
-        apart : (n : ℕ) (d : Queue) → suc place ≤ n → n < length s.queues → (r : Record) →
+        apart : (n : ℕ) (d : Queue) → place + 1 ≤ n → n < length s.queues → (r : Record) →
             Contains (queue_records (slice_index_or s.queues n d)) r → Contains (queue_records q) r → ⊥
         apart n d from within r has its =
             let other : Queue = slice_index_or s.queues n d in
