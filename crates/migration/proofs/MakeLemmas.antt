@@ -1,5 +1,5 @@
 -- A new file that is opened holds the Counter alone.
-use Rattle.std.proofs.Common.{◌≡◌, ◌≢◌, ℕ, Bool, IsTrue, List, [], length, inl, inr, Option, Some, None, Result, Ok, IfOk, refl, sym, ap, subst, ◌∙◌, arith}
+use Rattle.std.proofs.Common.{◌≡◌, ◌≢◌, ℕ, Bool, IsTrue, List, [], length, inl, inr, Option, Some, None, Result, Ok, Err, IfOk, IfErr, refl, sym, ap, subst, ◌∙◌, arith}
 use Rattle.std.specs.Prelude.{◌⊎◌}
 use Rattle.std.specs.Option.{option_map}
 use Rattle.std.proofs.lemmas.List.{length-map}
@@ -69,6 +69,14 @@ told_wrong hash pages s makings.NoRoom is = absurd is
 told_wrong hash pages s makings.NoMemory is = tt
 told_wrong hash pages s (makings.Wrong fault) is = tt
 told_wrong hash pages s makings.Failed is = absurd is
+
+-- what is so of the fault that is told, and of what is answered
+
+pub err_told : {T E : Type 0} {P : E → Type 0} (r : Result T E) (fault : E) → r ≡ Err fault → IfErr r P → P fault
+err_told {T} {E} {P} r fault is x = subst (λ (y : Result T E). IfErr y P) is x
+
+pub ok_told : {T E : Type 0} {P : T → Type 0} (r : Result T E) (value : T) → r ≡ Ok value → IfOk r P → P value
+ok_told {T} {E} {P} r value is x = subst (λ (y : Result T E). IfOk y P) is x
 
 -- of a system of which this is known
 pub known_told : (hash : RecordKey → ℕ) (pages : ℕ) (Known : State → Type 0) (s : State) → Known s →

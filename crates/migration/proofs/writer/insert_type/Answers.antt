@@ -1,11 +1,11 @@
 -- The Type comes before the first message of it.
-use Rattle.std.proofs.Common.{◌≡◌, ◌≤◌, ◌+◌, ◌*◌, ℕ, Option, IfSome, length, refl, subst, arith}
+use Rattle.std.proofs.Common.{◌≡◌, ◌≤◌, ◌+◌, ◌*◌, suc, Option, IfSome, length, refl, subst, arith}
 use Rattle.std.specs.List.{Contains}
 use Rattle.queue_records.specs.declared.record.Record.{Record}
 use Rattle.queue_records.specs.declared.record.Record.TheVariants as records
 use Rattle.queue_records.specs.declared.type_entry.TypeEntry.{TypeEntry}
-use Rattle.type_chains.specs.Image.{queue_records, type_records}
-use Rattle.migration.specs.Filling.{Puts}
+use Rattle.type_chains.specs.Image.{type_records}
+use Rattle.migration.specs.Filling.{Puts, turn_of}
 use Rattle.migration.proofs.PartLemmas.{typed_in}
 use Rattle.migration.proofs.QueueLemmas.{if_err, in_range, later_filling, next_open, next_put, next_told, on_ok}
 use Rattle.migration.proofs.writer.insert_type.Goals as goal
@@ -36,7 +36,7 @@ returns-clause-put g c = λ s q turn start x.
     let turns : turn ≤ 2 + 2 * e.first = omega (arith, before, same) in
     on_ok c.insert.result
     (λ (puts : Puts hash r old c.insert.new.pool).
-    later_filling hash s q (3 + 2 * e.first) (3 + 2 * c.args.serial) start c.insert.new.pool (omega (arith, same))
+    later_filling hash s q (suc (turn_of r)) (3 + 2 * c.args.serial) start c.insert.new.pool (omega (arith, same))
     (next_put hash s x.lawful q x.stands r has turn start old turns x.filling c.insert.new.pool puts))
     (c.insert.ensures.put x.filling.part.rest
     (next_open hash s x.lawful q x.stands r has turn start old turns x.filling))
