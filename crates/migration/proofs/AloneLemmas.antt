@@ -72,8 +72,9 @@ module _ (key : RecordKey) (locks : Table) (is : locks ≡ lock_on key ∷ []) w
 
   not_held : (seat page : ℕ) → IsHeld locks seat (Page page) → ⊥
   not_held seat page holds =
-      let there : IsSome {T = LockKind} None = subst IsSome (held_not seat (Page page) ((bare_lock key).pages page)) holds
-      in absurd cc
+      let none = held_not seat (Page page) ((bare_lock key).pages page) in
+      let there : IsSome {T = LockKind} None = subst IsSome none holds in
+      absurd cc
 
   pub quiet_world : (hash : RecordKey → ℕ) (images : List (List ℕ)) → IsSoundFile hash (store_of images) Quiet →
       IsLawful locks → IsSoundWorld hash (world images locks Quiet)

@@ -21,12 +21,10 @@ use Rattle.type_chains.specs.RecordOf.{record_of}
 use Rattle.type_chains.proofs.Images.{image_agrees}
 use Rattle.type_chains.proofs.Members.{head_or_tail}
 use Rattle.migration.specs.Filling.{IsNew, MayNotFill, MayNotWrite}
-use Rattle.migration.specs.Gathering.{MayNotRescue}
-use Rattle.migration.specs.Rescues.{IsFoundIn, IsRescuedFrom, IsToldOfSalvage, IsWhole}
+use Rattle.migration.specs.Rescues.{IsFoundIn, IsRescuedFrom, IsWhole}
 use Rattle.migration.specs.Rooms.{IsToldOfNew}
 use Rattle.migration.specs.declared.salvaged.Rescue.{Rescue}
 use Rattle.migration.specs.declared.salvage_fault.SalvageFault.{SalvageFault}
-use Rattle.migration.specs.declared.salvage_fault.SalvageFault.TheVariants as salvages
 use Rattle.migration.specs.declared.fault.MakingFault.{MakingFault}
 use Rattle.migration.specs.declared.fault.MakingFault.TheVariants as makings
 
@@ -72,11 +70,11 @@ told_wrong hash pages s makings.Failed is = absurd is
 
 -- what is so of the fault that is told, and of what is answered
 
-pub err_told : {T E : Type 0} {P : E → Type 0} (r : Result T E) (fault : E) → r ≡ Err fault → IfErr r P → P fault
-err_told {T} {E} {P} r fault is x = subst (λ (y : Result T E). IfErr y P) is x
+pub err_told : {T E : Type 0} (P : E → Type 0) (r : Result T E) (fault : E) → r ≡ Err fault → IfErr r P → P fault
+err_told {T} {E} P r fault is x = subst (λ (y : Result T E). IfErr y P) is x
 
-pub ok_told : {T E : Type 0} {P : T → Type 0} (r : Result T E) (value : T) → r ≡ Ok value → IfOk r P → P value
-ok_told {T} {E} {P} r value is x = subst (λ (y : Result T E). IfOk y P) is x
+pub ok_told : {T E : Type 0} (P : T → Type 0) (r : Result T E) (value : T) → r ≡ Ok value → IfOk r P → P value
+ok_told {T} {E} P r value is x = subst (λ (y : Result T E). IfOk y P) is x
 
 -- of a system of which this is known
 pub known_told : (hash : RecordKey → ℕ) (pages : ℕ) (Known : State → Type 0) (s : State) → Known s →
@@ -101,14 +99,3 @@ found_in hash content Honest Failed rescue found is told honest t file =
     by : IsWhole t rescue ⊎ Failed → (rescue.system ≡ t) ⊎ Failed
     by (inl whole) = inl whole.system
     by (inr failed) = inr failed
-
--- of a new file nothing is told before it is made
-pub told_of_old : (hash : RecordKey → ℕ) (pages : ℕ) (Found : State → Type 0) (Failed : Type 0) (fault : SalvageFault) →
-    MayNotRescue Failed fault → IsToldOfSalvage hash pages Found fault
-told_of_old hash pages Found Failed salvages.Device is = tt
-told_of_old hash pages Found Failed salvages.NoPage is = tt
-told_of_old hash pages Found Failed salvages.Unread is = tt
-told_of_old hash pages Found Failed salvages.BadVersion is = tt
-told_of_old hash pages Found Failed salvages.NoMemory is = tt
-told_of_old hash pages Found Failed salvages.Unlawful is = tt
-told_of_old hash pages Found Failed (salvages.New fault) is = absurd is

@@ -74,28 +74,28 @@ module _ (hash : RecordKey → ℕ) (s : State) (lawful : IsLawful s) (q : Queue
   in_range = ranged s lawful r its
 
   module _ (turn : ℕ) (start old : PoolState) (before : turn ≤ turn_of r) (f : IsFilling hash s q turn start old)
-      where
-    pub next_open : held_in old (key_of r) ≡ None
-    next_open = f.lacks r has before
+    where
+      pub next_open : held_in old (key_of r) ≡ None
+      next_open = f.lacks r has before
 
-    pub next_put : (new : PoolState) → Puts hash r old new → IsFilling hash s q (suc (turn_of r)) start new
-    next_put new puts = record {
-      part = part_still s lawful hash r old new its (not_counter q r has) f.part puts;
-      lacks = λ other there later.
-          held_still s lawful hash r old new its (not_counter q r has) f.part puts other
-          (of_image s lawful q other stands there)
-          (λ same. let turns = ap turn_of same in absurd (omega (arith, turns, later)))
-          ∙ f.lacks other there (omega (arith, before, later));
-      others = λ other there not.
-          held_still s lawful hash r old new its (not_counter q r has) f.part puts other there
-          (λ same. not (subst (Contains (queue_records q)) same has))
-          ∙ f.others other there not;
-    }
+      pub next_put : (new : PoolState) → Puts hash r old new → IsFilling hash s q (suc (turn_of r)) start new
+      next_put new puts = record {
+        part = part_still s lawful hash r old new its (not_counter q r has) f.part puts;
+        lacks = λ other there later.
+            held_still s lawful hash r old new its (not_counter q r has) f.part puts other
+            (of_image s lawful q other stands there)
+            (λ same. let turns = ap turn_of same in absurd (omega (arith, turns, later)))
+            ∙ f.lacks other there (omega (arith, before, later));
+        others = λ other there not.
+            held_still s lawful hash r old new its (not_counter q r has) f.part puts other there
+            (λ same. not (subst (Contains (queue_records q)) same has))
+            ∙ f.others other there not;
+      }
 
-    pub next_told : (pages : ℕ) → length old.images ≡ pages → (fault : MakingFault) → MayNotPut hash r old fault →
-        MayNotFill hash pages s fault
-    next_told pages as_many fault told = subst (λ n. MayNotFill hash n s fault) as_many
-        (told_still s lawful hash r old old its (not_counter q r has) f.part fault told)
+      pub next_told : (pages : ℕ) → length old.images ≡ pages → (fault : MakingFault) → MayNotPut hash r old fault →
+          MayNotFill hash pages s fault
+      next_told pages as_many fault told = subst (λ n. MayNotFill hash n s fault) as_many
+          (told_still s lawful hash r old old its (not_counter q r has) f.part fault told)
 
 -- up to the message at a place
 pub record IsUpTo (hash : RecordKey → ℕ) (s : State) (q : Queue) (place : ℕ) (start pool : PoolState) : Type 0 where
@@ -135,7 +135,8 @@ module _ (hash : RecordKey → ℕ) (s : State) (lawful : IsLawful s) where
     lacks = λ n d from within r has. new.none (key_of r) (not_counter (slice_index_or s.queues n d) r has);
   }
     where
-      just : (key : RecordKey) (value : List ℕ) → held_in pool key ≡ Some value → (counter_key ≡ key) ⊎ IsOfSystem s key value
+      just : (key : RecordKey) (value : List ℕ) → held_in pool key ≡ Some value →
+          (counter_key ≡ key) ⊎ IsOfSystem s key value
       just key value at = by (is_same counter_key key) refl
         where
           by : (same : Bool) → is_same counter_key key ≡ same → (counter_key ≡ key) ⊎ IsOfSystem s key value

@@ -96,11 +96,13 @@ module _ (hash : RecordKey → ℕ) (p : Purpose) (old : PoolState) where
       allows = u.allows;
     }
 
-    pub nears : NearsOrSpares did (access_left a (store_of pool.images)) (access_left a' (store_of pool'.images)) pool pool'
+    pub nears : NearsOrSpares did (access_left a (store_of pool.images)) (access_left a' (store_of pool'.images)) pool
+        pool'
     nears = step.progress p u.found u.change faces
 
     module _ (fine : is_fault did ≡ false) where
-      pub made : Step hash 1 (access_turn a (store_of pool.images)) did (access_facts a') pool pool' locks locks' u.change
+      pub made : Step hash 1 (access_turn a (store_of pool.images)) did (access_facts a') pool pool' locks locks'
+          u.change
       made = step.step p u.found u.change faces fine
 
       told : TellsOf hash 1 did p u.found a a' (world pool.images locks u.change) (world pool'.images locks' u.change)
@@ -160,8 +162,8 @@ module _ (hash : RecordKey → ℕ) (p : Purpose) (old : PoolState) where
               serves = subst (λ (q : Purpose). Serves q a) is u.serves
 
               none : HasNoRoom hash (pair (key_of r) (value_of r)) (world pool'.images locks' u.change)
-              none = subst (λ (k : RecordKey). HasNoRoom hash (pair k (value_of r)) (world pool'.images locks' u.change))
-                  serves.key
+              none = subst (λ (k : RecordKey). HasNoRoom hash (pair k (value_of r))
+                  (world pool'.images locks' u.change)) serves.key
                   (subst (λ (bytes : List ℕ). HasNoRoom hash (pair (access_key a) bytes)
                   (world pool'.images locks' u.change)) serves.value (told.lacks was now))
 
@@ -176,8 +178,8 @@ module _ (hash : RecordKey → ℕ) (p : Purpose) (old : PoolState) where
           not_in_way (access_locks a (lock_on key)) (world pool.images locks u.change) alone
           (access_turn a (store_of pool.images)).ask other does.0
 
-  pub ends : (a : AccessView) (pool : PoolState) (locks : Table) (key : RecordKey) → IsUnderWay hash p old a pool locks →
-      locks ≡ lock_on key ∷ [] → IsLeft hash p old a pool
+  pub ends : (a : AccessView) (pool : PoolState) (locks : Table) (key : RecordKey) →
+      IsUnderWay hash p old a pool locks → locks ≡ lock_on key ∷ [] → IsLeft hash p old a pool
   ends a pool locks key u is = record {
     rest = record {
       honest = u.sees.honest;

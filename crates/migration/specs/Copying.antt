@@ -19,8 +19,8 @@ pub record IsCopied (l : Layout) (hash : RecordKey → ℕ) (pages : ℕ) (old n
   pub older : IsFileIn l hash old s
   pub made : IsMadeOf hash pages new s
 
--- what is told of the old file is the first thing that is wrong with it, unless the machine lacked something; and of the
--- new one that a record of the system has no room, where it is so
+-- what is told of the old file is the first thing that is wrong with it, unless the machine lacked something; and of
+-- the new one that a record of the system has no room, where it is so
 abbrev pub IsToldOfCopy : Layout → (RecordKey → ℕ) → ℕ → List (List ℕ) → (Older Newer : Type 0) → CopyFault → Type 0
 IsToldOfCopy l hash pages old Older Newer (faults.Old fault) = Older → IsToldIn l hash old fault
 IsToldOfCopy l hash pages old Older Newer (faults.New fault) =

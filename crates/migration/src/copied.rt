@@ -43,8 +43,8 @@ pub fn copy<O: PageDevice, N: PageDevice, K: PseudoKey + Drop>(
     ensures ok { IsTrue (O.is_honest old) → IsTrue (N.is_honest target.device) →
         IfOk result.found (IsCopied layout.now
         (K.of_key keys) target.pages (O.content old) (N.content result.new)) }
-    // The old file is refused for the first thing that is wrong with it, and the new one for want of
-    // room only where a record has none.
+    // The old file is refused for the first thing that is wrong with it, and the new one for want
+    // of room only where a record has none.
     ensures err { IfErr result.found (IsToldOfCopy layout.now (K.of_key keys) target.pages
         (O.content old) (IsTrue (O.is_honest old)) (IsTrue (N.is_honest target.device))) }
     ensures same { O.content result.old ≡ O.content old }

@@ -1,6 +1,7 @@
 -- Of a file of which nothing came the new device was not touched.
 use Rattle.std.proofs.Common.{IsTrue}
 use Rattle.page_device.specs.Device.{HasRisen}
+use Rattle.migration.specs.Filling.{MayNotFill}
 use Rattle.migration.specs.Rescues.{IsFoundIn}
 use Rattle.migration.proofs.MakeLemmas.{err_told, found_in, known_told}
 use Rattle.migration.proofs.RescueLemmas.{cause_old, rescued_still}
@@ -25,4 +26,5 @@ returns-in-Err-made-clause-ok g c = λ honest.
     (found_in hash content Honest Failed c.in-Ok.rescue c.find_rescue-old.result.found c.in-Ok.is
     c.find_rescue-old.ensures.rescued)
     c.in-Err-made.fault
-    (err_told c.make-new.result.made c.in-Err-made.fault c.in-Err-made.is (c.make-new.ensures.told honest))
+    (err_told (MayNotFill hash c.args.target.pages c.in-Ok.rescue.system) c.make-new.result.made c.in-Err-made.fault
+    c.in-Err-made.is (c.make-new.ensures.told honest))

@@ -54,10 +54,9 @@ loop-moves-preserved g c =
       goes = λ p found b.
           let at = c.loop-moves.invariant.goes p found b in
           let less = nears (g.K.PseudoKey.of_key c.args.keys.now) p c.args.pool.now c.loop-moves.access c.step.new.self
-          c.loop-moves.pool c.step.new.pool c.loop-moves.locks c.step.new.locks _ key at.0 c.loop-moves.invariant.key row
-          c.in-Moved.ensures in
-          let few = at.1 in
-          (
+          c.loop-moves.pool c.step.new.pool c.loop-moves.locks c.step.new.locks _ key at.0 c.loop-moves.invariant.key
+          row c.in-Moved.ensures in
+          let few = at.1 in (
             goes_on (g.K.PseudoKey.of_key c.args.keys.now) p c.args.pool.now c.loop-moves.access c.step.new.self
                 c.loop-moves.pool c.step.new.pool c.loop-moves.locks c.step.new.locks _ key at.0
                 c.loop-moves.invariant.key row c.in-Moved.ensures refl as_many,

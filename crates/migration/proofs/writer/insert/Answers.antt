@@ -10,7 +10,8 @@ use Rattle.migration.proofs.BeginLemmas.{begun_insert, puts_it, told_put}
 use Rattle.migration.proofs.writer.insert.Goals as goal
 
 pub carry_out-requires-clause-begun : goal.carry_out-requires-clause-begun
-carry_out-requires-clause-begun g c = λ before. ap (λ (a : AccessView). access_locks a before) c.insert-access.ensures.value
+carry_out-requires-clause-begun g c = λ before.
+    ap (λ (a : AccessView). access_locks a before) c.insert-access.ensures.value
 
 pub carry_out-requires-clause-name : goal.carry_out-requires-clause-name
 carry_out-requires-clause-name g c =
@@ -33,7 +34,8 @@ returns-then-has_no_room-clause-told g c = λ range rest none.
     let key = c.of.ensures ∙ ap (λ (key : RecordKey). g.K.PseudoKey.of_key c.args.keys.now key) c.key.ensures in
     (c.in_ok-carry_out.ensures.put (ToInsert c.args.record.now) None
     (begun_insert (g.K.PseudoKey.of_key c.args.keys.now) c.args.record.now _ _ _ c.insert-access.ensures.value
-    c.insert-access.ensures.serves key rest none)).lacks c.args.record.now refl (sym c.has_no_room.ensures.full ∙ c.if-has_no_room.true)
+    c.insert-access.ensures.serves key rest none)).lacks c.args.record.now refl
+    (sym c.has_no_room.ensures.full ∙ c.if-has_no_room.true)
 
 pub returns-clause-put : goal.returns-clause-put
 returns-clause-put g c = λ rest none.

@@ -7,7 +7,8 @@ use Rattle.migration.proofs.BeginLemmas.{begun_replace}
 use Rattle.migration.proofs.writer.replace.Goals as goal
 
 pub carry_out-requires-clause-begun : goal.carry_out-requires-clause-begun
-carry_out-requires-clause-begun g c = λ before. ap (λ (a : AccessView). access_locks a before) c.write-access.ensures.value
+carry_out-requires-clause-begun g c = λ before.
+    ap (λ (a : AccessView). access_locks a before) c.write-access.ensures.value
 
 pub carry_out-requires-clause-name : goal.carry_out-requires-clause-name
 carry_out-requires-clause-name g c = sym (ap (λ (a : AccessView). guard_of (access_key a)) c.write-access.ensures.value)

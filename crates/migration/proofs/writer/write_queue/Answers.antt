@@ -102,8 +102,8 @@ returns-in_err-insert-2-clause-told g c = λ s lawful stands free.
     ap (λ (e : MessageEntry). e.serial) (c.message_entry.ensures.which m)
     ∙ ap (λ (x : Message). x.serial) (sym c.get-message.ensures) in
     let turns : 3 + 2 * m.serial ≤ 3 + 2 * c.message_entry.result.serial = omega (arith, same) in
-    handed_on c.from_residual-in_err-insert-2.result c.in_err-insert-2.field-0.0 c.from_residual-in_err-insert-2.ensures.1
-    (λ x. IfErr x (MayNotFill hash (length start.images) s))
+    handed_on c.from_residual-in_err-insert-2.result c.in_err-insert-2.field-0.0
+    c.from_residual-in_err-insert-2.ensures.1 (λ x. IfErr x (MayNotFill hash (length start.images) s))
     (next_told hash s lawful q stands r has (3 + 2 * m.serial) start old turns f (length start.images)
     (c.in_ok-insert_type.ensures.kept.keeps.as_many ∙ c.loop-place.invariant.keeps.as_many) c.in_err-insert-2.field-0.0
     (c.in_err-insert-2.ensures.told (in_range hash s lawful q stands r has) f.part.rest
@@ -125,7 +125,8 @@ loop-place-preserved g c = record {
       let end = c.len-place-end.ensures in
       let before : u.turn ≤ 2 + 2 * m.serial = subst (λ (x : Message). u.turn ≤ 2 + 2 * x.serial)
       (sym c.get-message.ensures) (u.before c.loop-place.place m (omega arith) (omega (arith, test, end))) in
-      let f : IsFilling hash s q (3 + 2 * m.serial) start old = c.in_ok-insert_type.ensures.put s q u.turn start (record {
+      let f : IsFilling hash s q (3 + 2 * m.serial) start old =
+      c.in_ok-insert_type.ensures.put s q u.turn start (record {
         lawful = lawful;
         stands = stands;
         its = c.type_entry-first.ensures.stands;
