@@ -1,5 +1,5 @@
 -- An access of the one seat as it begins, and what an insert comes to.
-use Rattle.std.proofs.Common.{◌≡◌, ℕ, true, false, List, [], ◌∷◌, Option, Some, None, refl, sym, ap, subst, ◌∙◌, if◌then◌else◌, Bool}
+use Rattle.std.proofs.Common.{◌≡◌, ℕ, [], Some, None, refl, sym, subst}
 use Rattle.bucket_page.specs.declared.record_key.RecordKey.{RecordKey}
 use Rattle.buffer_pool.specs.Pool.{PoolState}
 use Rattle.file_pages.specs.Files.{store_of}
@@ -11,11 +11,11 @@ use Rattle.queue_records.specs.Spelling.{counter_key, key_of}
 use Rattle.queue_records.specs.declared.counter.Counter.{Counter}
 use Rattle.queue_records.specs.declared.record.Record.{Record}
 use Rattle.queue_records.specs.declared.record.Record.TheVariants as records
-use Rattle.record_file.specs.Accesses.{AccessView, Serves, begun, has_no_room}
+use Rattle.record_file.specs.Accesses.{AccessView, Serves, begun}
 use Rattle.record_file.specs.Files.{new_counter}
 use Rattle.record_file.specs.Purposes.{ToInsert, ToWrite}
 use Rattle.xsi_inquiry.specs.declared.write.Write.TheVariants.{Replace}
-use Rattle.migration.specs.Filling.{HasCounter, IsAtRest, IsBegun, IsLeft, Lacked, MayNotPut, MayNotWrite, Puts, held_in, lock_on}
+use Rattle.migration.specs.Filling.{HasCounter, IsAtRest, IsBegun, IsLeft, MayNotPut, MayNotWrite, Puts, held_in, lock_on}
 use Rattle.migration.specs.declared.fault.MakingFault.{MakingFault}
 use Rattle.migration.specs.declared.fault.MakingFault.TheVariants as makings
 use Rattle.migration.proofs.UnderWayLemmas.{own_value}

@@ -4,10 +4,9 @@ use Rattle.std.specs.Prelude.{◌⊎◌}
 use Rattle.std.specs.Option.{option_map}
 use Rattle.std.proofs.lemmas.List.{length-map}
 use Rattle.bucket_page.specs.declared.record_key.RecordKey.{RecordKey}
-use Rattle.buffer_pool.specs.Pool.{PoolState, opened, payloads_of}
+use Rattle.buffer_pool.specs.Pool.{opened, payloads_of}
 use Rattle.directory.proofs.MemberLaws.{contains_none}
 use Rattle.interleavings.specs.Files.{no_queues}
-use Rattle.interleavings.specs.Resting.{IsFileAtRest}
 use Rattle.interleavings.proofs.NewLaws.{new_has_no_queues}
 use Rattle.interleavings.proofs.OpenedOpenLemmas.{opens_at_rest}
 use Rattle.page_device.specs.Sealed.{payload_of}

@@ -1,5 +1,5 @@
 -- Records of a system that are put into a file one after the other.
-use Rattle.std.proofs.Common.{◌≡◌, ◌≢◌, ◌<◌, ◌≤◌, ◌+◌, ℕ, Bool, true, false, List, [], length, inl, inr, Option, Some, None, refl, sym, ap, subst, ◌∙◌, arith}
+use Rattle.std.proofs.Common.{◌≡◌, ◌≢◌, ℕ, Bool, true, false, List, length, inl, inr, Some, refl, sym, ap, subst, ◌∙◌, arith}
 use Rattle.std.specs.Prelude.{◌⊎◌, ℤ, ◌++◌, option_to_list}
 use Rattle.std.proofs.lemmas.Bool.Decides.{nat_tests}
 use Rattle.std.proofs.lemmas.List.Elements.{Contains-append_cases, Contains-append_left, Contains-append_right}
@@ -17,7 +17,6 @@ use Rattle.queue_records.specs.Range.{IsInRange}
 use Rattle.queue_records.specs.Spelling.{counter_key, key_of, value_of}
 use Rattle.queue_records.specs.declared.record.Record.{Record}
 use Rattle.queue_records.specs.declared.record.Record.TheVariants as records
-use Rattle.record_file.specs.Purposes.{StandsAt}
 use Rattle.queue_model.specs.declared.message.Message.{Message}
 use Rattle.type_chains.specs.Entries.{counter_of, key_entry, message_entry, queue_entry, type_entry}
 use Rattle.type_chains.specs.Image.{image, key_records, message_records, queue_records, type_records}
@@ -26,7 +25,7 @@ use Rattle.type_chains.specs.RecordOf.{record_of}
 use Rattle.type_chains.proofs.Images.{image_has}
 use Rattle.type_chains.proofs.Limits.{in_range}
 use Rattle.type_chains.proofs.Members.{contains_head, contains_tail, from_map, head_or_tail, in_flat_map}
-use Rattle.migration.specs.Filling.{HasCounter, HoldsElse, HoldsOnly, IsOpen, IsPart, Lacked, LacksQueue, MayNotFill, MayNotPut, Puts, held_in}
+use Rattle.migration.specs.Filling.{HoldsElse, IsPart, Lacked, MayNotFill, MayNotPut, Puts, held_in}
 use Rattle.migration.specs.Rooms.{IsOfSystem, LacksRoomFor}
 use Rattle.migration.specs.declared.fault.MakingFault.{MakingFault}
 use Rattle.migration.specs.declared.fault.MakingFault.TheVariants as makings

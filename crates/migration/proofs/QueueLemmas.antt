@@ -1,5 +1,5 @@
 -- The records of a queue, and of all queues of a system, are put into a file one after the other.
-use Rattle.std.proofs.Common.{◌≡◌, ◌≢◌, ◌<◌, ◌≤◌, ◌+◌, ◌*◌, ℕ, suc, Bool, true, false, List, [], length, map, inl, inr, Option, Some, None, Result, Ok, Err, IfErr, refl, sym, ap, subst, ◌∙◌, arith}
+use Rattle.std.proofs.Common.{◌≡◌, ◌<◌, ◌≤◌, ◌+◌, ◌*◌, ℕ, suc, Bool, true, false, List, [], length, map, inl, Option, Some, None, Result, Ok, Err, IfErr, refl, sym, ap, subst, ◌∙◌, arith}
 use Rattle.std.specs.Prelude.{◌⊎◌, OnOk, option_to_list, slice_index_or}
 use Rattle.std.specs.List.{Contains}
 use Rattle.std.proofs.lemmas.List.{get_or_default}
@@ -14,7 +14,6 @@ use Rattle.queue_model.specs.declared.message.Message.{Message}
 use Rattle.queue_model.specs.declared.queue.Queue.{Queue}
 use Rattle.queue_records.specs.Range.{IsInRange}
 use Rattle.queue_records.specs.Spelling.{counter_key, key_of}
-use Rattle.queue_records.specs.declared.counter.Counter.{Counter}
 use Rattle.queue_records.specs.declared.record.Record.{Record}
 use Rattle.queue_records.specs.declared.record.Record.TheVariants as records
 use Rattle.type_chains.specs.Entries.{key_entry}
@@ -22,10 +21,9 @@ use Rattle.type_chains.specs.Image.{image, queue_records}
 use Rattle.type_chains.proofs.Members.{contains_head}
 use Rattle.type_chains.proofs.Owners.{tells_queue}
 use Rattle.type_chains.proofs.Unique.{pairs_unmap}
-use Rattle.migration.specs.Filling.{HoldsOnly, IsFilling, IsNew, IsOpen, IsPart, LacksQueue, MayNotFill, MayNotPut, MayNotWrite, Puts, held_in, turn_of}
+use Rattle.migration.specs.Filling.{HoldsOnly, IsFilling, IsNew, IsOpen, IsPart, LacksQueue, MayNotFill, MayNotPut, Puts, held_in, turn_of}
 use Rattle.migration.specs.Rooms.{IsOfSystem}
 use Rattle.migration.specs.declared.fault.MakingFault.{MakingFault}
-use Rattle.migration.specs.declared.fault.MakingFault.TheVariants as makings
 use Rattle.migration.proofs.PartLemmas.{held_still, keyed_in, not_counter, not_itself, of_image, part_still, ranged, told_still}
 
 -- what is so of an answer, or of a fault

@@ -1,5 +1,5 @@
 -- An access of the one seat, from its beginning to its end, on an honest device.
-use Rattle.std.proofs.Common.{◌≡◌, ◌≢◌, ◌<◌, ◌≤◌, ℕ, Bool, true, false, IsTrue, List, [], ◌∷◌, length, if◌then◌else◌, Option, Some, None, refl, sym, ap, subst, ◌∙◌, arith}
+use Rattle.std.proofs.Common.{◌≡◌, ◌≢◌, ◌≤◌, ℕ, Bool, true, false, IsTrue, List, [], ◌∷◌, length, if◌then◌else◌, Option, Some, None, refl, sym, ap, subst, ◌∙◌}
 use Rattle.std.specs.Option.{option_map}
 use Rattle.std.proofs.lemmas.Bool.{true≢false}
 use Rattle.bucket_page.specs.Keys.{is_same}
@@ -21,7 +21,7 @@ use Rattle.queue_records.specs.Keys.{guard_of}
 use Rattle.queue_records.specs.Spelling.{key_of, value_of}
 use Rattle.queue_records.specs.declared.record.Record.{Record}
 use Rattle.record_file.specs.AccessSteps.{Faces, MakesAccess, TellsOf}
-use Rattle.record_file.specs.AccessWords.{Blocked, HasNoRoom, Known, Moved, NearsOrSpares, Progress, Step, World, is_fault, world}
+use Rattle.record_file.specs.AccessWords.{Blocked, HasNoRoom, Known, NearsOrSpares, Progress, Step, is_fault, world}
 use Rattle.record_file.specs.Accesses.{AccessView, Allows, AllowsInsert, Serves, access_facts, access_key, access_left, access_locks, access_turn, has_no_room}
 use Rattle.record_file.specs.Lengths.{MOST_STEPS}
 use Rattle.record_file.specs.Purposes.{Purpose, ToInsert, StandsAt, aimed_at, left_by}

@@ -1,5 +1,5 @@
 -- The seat's row follows the access, which holds nothing once it has ended. No step of an honest device fails.
-use Rattle.std.proofs.Common.{◌≡◌, ◌≤◌, ◌+◌, List, [], ◌∷◌, refl, sym, ap, ◌∙◌, arith, subst}
+use Rattle.std.proofs.Common.{◌≡◌, List, [], ◌∷◌, refl, sym, ap, ◌∙◌, arith, subst}
 use Rattle.page_locks.specs.declared.lock.Lock.{Lock}
 use Rattle.record_file.specs.Accesses.{AccessView, access_key, access_locks}
 use Rattle.record_file.proofs.OperationLemmas.{ended_free}

@@ -1,5 +1,5 @@
 -- The Key is the first record of its queue.
-use Rattle.std.proofs.Common.{ℕ, length, refl, arith}
+use Rattle.std.proofs.Common.{length, refl, arith}
 use Rattle.queue_records.specs.declared.record.Record.{Record}
 use Rattle.queue_records.specs.declared.record.Record.TheVariants as records
 use Rattle.migration.proofs.QueueLemmas.{begun_filling, if_err, in_range, key_there, next_open, next_put, next_told, on_ok}

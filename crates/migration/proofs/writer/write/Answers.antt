@@ -1,5 +1,5 @@
 -- The records of all queues are put, and then the Counter is replaced.
-use Rattle.std.proofs.Common.{◌≤◌, ◌<◌, ◌+◌, ℕ, IfErr, length, refl, ap, subst, ◌∙◌, arith, rules}
+use Rattle.std.proofs.Common.{IfErr, length, refl, subst, arith, rules}
 use Rattle.buffer_pool.proofs.TransferLemmas.{handed_on}
 use Rattle.migration.specs.Filling.{MayNotFill}
 use Rattle.migration.proofs.KeepingLemmas.{keeps_on}
