@@ -58,7 +58,9 @@ returns-in-Ok-prepare-clause-ran g c =
 -- ---- told of what pages mean
 
 pub returns-in_default-clause-spelled : goal.returns-in_default-clause-spelled
-returns-in_default-clause-spelled g c = script_spelled _ _ _ _ (returns-in_default-clause-ran g c)
+returns-in_default-clause-spelled g c =
+    script_spelled c.args.script.now (g.D.PageDevice.is_honest c.args.device) _ _ (returns-in_default-clause-ran g c)
 
 pub returns-in-Ok-prepare-clause-spelled : goal.returns-in-Ok-prepare-clause-spelled
-returns-in-Ok-prepare-clause-spelled g c = script_spelled _ _ _ _ (returns-in-Ok-prepare-clause-ran g c)
+returns-in-Ok-prepare-clause-spelled g c =
+    script_spelled c.args.script.now (g.D.PageDevice.is_honest c.args.device) _ _ (returns-in-Ok-prepare-clause-ran g c)
