@@ -1,0 +1,3 @@
+pub mod Acts
+pub mod Saving
+pub use Rattle.safe_device.specs as safe_device

@@ -1,0 +1,12 @@
+//! The transfers of a save, one after another: who makes them asks for the next one, and tells how it
+//! went.
+
+#![tactic(auto)]
+
+mod over;
+mod save;
+mod unsaved;
+
+pub use over::save_over;
+pub use save::{Act, Place, Save, SaveFault};
+pub use unsaved::Unsaved;
