@@ -1,11 +1,11 @@
 //! A save made over a file and its journal.
-ghost use Rattle.std.specs.Prelude.{◌≡◌, ℕ, List, IsTrue, OnOk, IsErrOf};
+ghost use Rattle.std.specs.Prelude.{◌≡◌, ℕ, List, IsTrue, OnOk};
 ghost use Rattle.safe_device.specs.Crash.{Elapses, LeavesOnly};
 ghost use Rattle.safe_device.specs.Left.{alone};
 ghost use Rattle.safe_device.specs.Safe.{IsEither, committed};
 ghost use Rattle.pair_transfers.specs.Acts.{Makes};
 ghost use Rattle.pair_transfers.specs.declared.save.Act.TheVariants.{Guard};
-ghost use Rattle.pair_transfers.specs.Saving.{IsReady, IsSaved};
+ghost use Rattle.pair_transfers.specs.Saving.{HasSaved, IsReady};
 
 use crate::save::{Act, Save, SaveFault};
 use crate::unsaved::Unsaved;
@@ -21,20 +21,24 @@ const MOST_ACTS: u32 = 2 * MAX_PAGES + 6;
 ///
 /// # Errors
 ///
-/// A transfer failed, or the pages can't be told. The file is to be opened anew.
-pub fn save_over<P: PagePair, S: Unsaved>(pair: &mut P, pages: &mut S) -> Result<(), SaveFault>
+/// A transfer failed, the pages can't be told, or there is no memory. The file is to be opened anew.
+pub fn save_over<P: PagePair, S: Unsaved>(
+    save: &mut Save,
+    pair: &mut P,
+    pages: &mut S,
+) -> Result<(), SaveFault>
     requires { IsTrue P.is_honest →
         IsReady P.file P.journal P.may_leave (S.saved pages.old) pair.old }
     ensures saved { IsTrue P.is_honest → OnOk result ((content : List (List ℕ)) →
-        S.wants pages.old content → IsSaved P.file P.journal P.may_leave content pair.new) }
-    ensures noted { OnOk result ((content : List (List ℕ)) →
-        S.wants pages.old content → (S.saved pages.new ≡ content) × S.wants pages.new content) }
+        S.wants pages.old content →
+        HasSaved P.file P.journal P.may_leave S.saved S.wants content pair.new pages.new) }
     ensures any_moment { IsTrue P.is_honest → (content : List (List ℕ)) →
         S.wants pages.old content → LeavesOnly P.moment P.left_since pair.old pair.new
         (IsEither (committed P.file P.journal pair.old) (alone content)) }
-    ensures unsaved { IsErrOf result SaveFault.Device → S.saved pages.new ≡ S.saved pages.old }
 {
-    let mut save = Save::new(pair.calls() > 0);
+    let _ = pair.pages();
+    let calls = pair.calls();
+    save.begin(calls > 0);
     for _ in 0..MOST_ACTS {
         let Some(act) = save.next(pages)? else {
             return Ok(());

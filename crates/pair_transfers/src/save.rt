@@ -1,10 +1,12 @@
 //! A save, act by act.
-ghost use Rattle.std.specs.Prelude.{◌≡◌, ℕ, Bool, List, true, false, IfOk, OnOk, OnErr, IsTrue, IsFalse};
-ghost use Rattle.pair_transfers.specs.Saving.{Ends, IsNext, behind};
-ghost use Rattle.pair_transfers.specs.declared.save.Place.TheVariants.{Failed, Guarding, Writing};
+ghost use Rattle.std.specs.Prelude.{◌≡◌, ℕ, Bool, List, false, true, IfOk, OnOk, OnErr};
+ghost use Rattle.pair_transfers.specs.Saving.{Ends, IsNext, IsNextImage, IsNextPage, advanced, begun, one_more};
+ghost use Rattle.pair_transfers.specs.declared.save.Place.TheVariants.{Failed, Saved as Over};
 
 use crate::unsaved::Unsaved;
 use safe_device::page_device::Page;
+use std::alloc::{AllocError, Global};
+use std::marker::Model;
 use thiserror::Error;
 
 /// What is done of a save.
@@ -29,15 +31,15 @@ pub enum Act {
 pub enum Place {
     /// Each page before this one that has changed has its image in the journal.
     Guarding(u32),
-    /// Each page before this one is written.
-    Writing(u32),
+    /// So many of these pages are written.
+    Writing(usize),
     /// All pages outlast a crash.
     Written,
     /// The journal is ended.
     Ended,
     /// The save is done.
     Saved,
-    /// A transfer has failed. The file is to be opened anew.
+    /// It is not made. The file is to be opened anew.
     Failed,
 }
 
@@ -51,56 +53,64 @@ pub enum SaveFault {
     /// The pages can't be told.
     #[error("the pages can't be told")]
     Pages,
-}
-
-impl Act {
-    /// Where the save has come to once that is done.
-    fn behind(&self) -> Place
-        ensures { result ≡ behind self.now }
-    {
-        match self {
-            Act::Guard(page) => Place::Guarding(page.saturating_add(1)),
-            Act::SyncImages => Place::Writing(0),
-            Act::Write(page, _) => Place::Writing(page.saturating_add(1)),
-            Act::SyncFile => Place::Written,
-            Act::End => Place::Ended,
-            Act::SyncEnd => Place::Saved,
-        }
-    }
+    /// There is no memory.
+    #[error("out of memory")]
+    NoMemory,
 }
 
 /// A save of pages that are in memory to a file with a journal.
-#[derive(Clone, Copy, Debug, Drop)]
+#[derive(Drop)]
 pub struct Save {
-    /// Where it has come to.
-    pub place: Place,
-    /// Whether calls stand in the journal, which it ends.
-    pub has_calls: bool,
+    place: Place,
+    has_calls: bool,
+    /// The pages that have an image in the journal.
+    guarded: Vec<u32>,
+}
+
+impl Model for Save {
+    ghost use Rattle.pair_transfers.specs.Saving.{SaveState};
+
+    ghost Value = { SaveState };
+
+    ghost view = { λ s. record {
+      place = s.place;
+      has_calls = s.has_calls;
+      guarded = s.guarded.items;
+    } };
 }
 
 impl Save {
-    /// One of which nothing is done yet.
-    pub fn new(has_calls: bool) -> Save
-        ensures { result ≡ record { place = Guarding 0; has_calls = has_calls } }
+    /// None is under way. There is room for so many pages, so that a save of as many never lacks any.
+    pub fn with_room(alloc: Global, pages: usize) -> Result<Save, AllocError>
+        ensures { IfOk result (λ save. save.place ≡ Over) }
     {
-        Save {
-            place: Place::Guarding(0),
-            has_calls,
-        }
+        Ok(Save {
+            place: Place::Saved,
+            has_calls: false,
+            guarded: Vec::with_capacity(alloc, pages)?,
+        })
+    }
+
+    /// A save of which nothing is done yet. Where calls stand in the journal it ends them.
+    pub fn begin(&mut self, has_calls: bool)
+        ensures { self.new ≡ begun has_calls }
+    {
+        self.place = Place::Guarding(0);
+        self.has_calls = has_calls;
+        self.guarded.clear();
     }
 
     /// What is to be done next; none where all is done.
     pub fn next<S: Unsaved>(&self, pages: &mut S) -> Result<Option<Act>, SaveFault>
-        ensures next { IfOk result (λ next. (content : List (List ℕ)) →
-            S.wants pages.old content →
-            IsNext self.now.place self.now.has_calls next (S.saved pages.old) content) }
+        ensures next { IfOk result (λ act. (content : List (List ℕ)) → S.wants pages.old content →
+            IsNext self.now act (S.saved pages.old) content) }
         ensures kept { OnOk result ((content : List (List ℕ)) → S.wants pages.old content →
             S.wants pages.new content) }
         ensures saved { S.saved pages.new ≡ S.saved pages.old }
     {
         match self.place {
             Place::Guarding(from) => Ok(self.next_image(pages, from)),
-            Place::Writing(from) => next_page(pages, from),
+            Place::Writing(written) => self.next_page(pages, written),
             Place::Written => Ok(Some(Act::End)),
             Place::Ended => Ok(Some(Act::SyncEnd)),
             Place::Saved => Ok(None),
@@ -112,15 +122,38 @@ impl Save {
     /// all is done.
     fn next_image<S: Unsaved>(&self, pages: &S, from: u32) -> Option<Act>
         ensures { (content : List (List ℕ)) → S.wants pages.now content →
-            IsNext (Guarding from) self.now.has_calls result (S.saved pages.now) content }
+            IsNextImage from self.now result (S.saved pages.now) content }
     {
         if let Some(page) = pages.next_changed(from) {
             return Some(Act::Guard(page));
         }
-        if from == 0 && !self.has_calls {
+        if self.guarded.is_empty() && !self.has_calls {
             return None;
         }
         Some(Act::SyncImages)
+    }
+
+    /// The next page that is guarded is written.
+    fn next_page<S: Unsaved>(
+        &self,
+        pages: &mut S,
+        written: usize,
+    ) -> Result<Option<Act>, SaveFault>
+        ensures next { IfOk result (λ act. (content : List (List ℕ)) → S.wants pages.old content →
+            IsNextPage written self.now act content) }
+        ensures kept { OnOk result ((content : List (List ℕ)) → S.wants pages.old content →
+            S.wants pages.new content) }
+        ensures saved { S.saved pages.new ≡ S.saved pages.old }
+    {
+        let many = self.guarded.len();
+        if written >= many {
+            return Ok(Some(Act::SyncFile));
+        }
+        let page = self.guarded[written];
+        let Some(bytes) = pages.page(page) else {
+            return Err(SaveFault::Pages);
+        };
+        Ok(Some(Act::Write(page, bytes)))
     }
 
     /// An act was done, or has failed. Behind the last one the pages are noted as saved.
@@ -130,37 +163,50 @@ impl Save {
         act: &Act,
         is_done: bool,
     ) -> Result<(), SaveFault>
-        ensures place { OnOk result (self.new ≡ record self.old { place = behind act.now }) }
+        ensures advanced { OnOk result (self.new ≡ advanced act.now self.old) }
         ensures done { OnOk result (is_done ≡ true) }
-        ensures failed { OnErr result (self.new ≡ record self.old { place = Failed }) }
+        ensures failed { OnErr result (self.new.place ≡ Failed) }
         ensures pages { OnOk result (Ends S.saved S.wants act.now pages.old pages.new) }
         ensures same { is_done ≡ false → pages.new ≡ pages.old }
     {
+        let place = self.behind(act);
         self.place = Place::Failed;
         if !is_done {
             return Err(SaveFault::Device);
         }
+        if let Act::Guard(page) = act {
+            let Ok(()) = self.guarded.push(*page) else {
+                return Err(SaveFault::NoMemory);
+            };
+        }
         if matches!(act, Act::SyncEnd) && !pages.note_saved() {
             return Err(SaveFault::Pages);
         }
-        self.place = act.behind();
+        self.place = place;
         Ok(())
     }
-}
 
-/// The next page that has changed is written.
-fn next_page<S: Unsaved>(pages: &mut S, from: u32) -> Result<Option<Act>, SaveFault>
-    ensures next { IfOk result (λ next. (content : List (List ℕ)) → (calls : Bool) → S.wants pages.old content →
-        IsNext (Writing from) calls next (S.saved pages.old) content) }
-    ensures kept { OnOk result ((content : List (List ℕ)) → S.wants pages.old content →
-        S.wants pages.new content) }
-    ensures saved { S.saved pages.new ≡ S.saved pages.old }
-{
-    let Some(page) = pages.next_changed(from) else {
-        return Ok(Some(Act::SyncFile));
-    };
-    let Some(bytes) = pages.page(page) else {
-        return Err(SaveFault::Pages);
-    };
-    Ok(Some(Act::Write(page, bytes)))
+    /// Where it has come to once an act is done.
+    fn behind(&self, act: &Act) -> Place
+        ensures { result ≡ (advanced act.now self.now).place }
+    {
+        match act {
+            Act::Guard(page) => Place::Guarding(page.saturating_add(1)),
+            Act::SyncImages => Place::Writing(0),
+            Act::Write(..) => self.more_written(),
+            Act::SyncFile => Place::Written,
+            Act::End => Place::Ended,
+            Act::SyncEnd => Place::Saved,
+        }
+    }
+
+    /// One more page is written.
+    fn more_written(&self) -> Place
+        ensures { result ≡ one_more self.now.place }
+    {
+        match self.place {
+            Place::Writing(written) => Place::Writing(written.saturating_add(1)),
+            place => place,
+        }
+    }
 }
