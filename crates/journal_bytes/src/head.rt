@@ -134,5 +134,5 @@ fn begins_with(magic: &[u8; 8], front: &[u8]) -> bool
     requires { 8 ≤ length front.now }
     ensures { result ≡ begins_with magic.now front.now }
 {
-    front[..8] == *magic.as_slice()
+    &front[..8] == magic.as_slice()
 }

@@ -111,12 +111,20 @@ module _ {P : Type 0} (file : P → Pages) (journal : P → Option Journal) (may
   resting_none None pages rests none = refl
   resting_none (Some j) pages rests none = let some = rests.some in absurd (omega (arith, some, none))
 
-  module _ (pair : P) (saved : Pages) (ready : IsReady file journal may_leave saved pair) (has_calls : Bool)
-      (has : has_calls ≡ true → 0 < length (calls_of (journal pair)))
-      (has_none : has_calls ≡ false → length (calls_of (journal pair)) ≡ 0) where
-    pub begins : (s : SaveState) → s.guarded ≡ [] → s.has_calls ≡ has_calls →
-        IsGuarding file journal may_leave 0 s (saved_in pair) content pair
-    begins s none calls = record {
+  module _ (pair : P) (saved : Pages) (ready : IsReady file journal may_leave saved pair) where
+    pub begins_left : (c : Left) → may_leave pair c → recovered c ≡ saved_in pair
+    begins_left c now = left_given (saved_in pair) c (ready.rests.same_file c now)
+        (subst (GivesBack (saved_in pair)) (sym (ready.rests.same_journal c now))
+        (resting_gives (journal pair) (file pair) ready.rests.rests))
+
+    pub saved_in_is : recovered_by (journal pair) (file pair) ≡ saved_in pair
+    saved_in_is = given_back (saved_in pair) (journal pair)
+        (resting_gives (journal pair) (file pair) ready.rests.rests)
+
+    pub begins : (has_calls : Bool) → (has_calls ≡ true → 0 < length (calls_of (journal pair))) →
+        (has_calls ≡ false → length (calls_of (journal pair)) ≡ 0) → (s : SaveState) → s.guarded ≡ [] →
+        s.has_calls ≡ has_calls → IsGuarding file journal may_leave 0 s (saved_in pair) content pair
+    begins has_calls has has_none s none calls = record {
       file_is = refl;
       found = resting_gives (journal pair) (file pair) ready.rests.rests;
       images_are = resting_numbers (journal pair) (file pair) ready.rests.rests ∙ sym none;
@@ -130,15 +138,6 @@ module _ {P : Type 0} (file : P → Pages) (journal : P → Option Journal) (may
         none = resting_none (journal pair) (file pair) ready.rests.rests (has_none (sym calls ∙ no_calls));
       };
     }
-
-    pub begins_left : (c : Left) → may_leave pair c → recovered c ≡ saved_in pair
-    begins_left c now = left_given (saved_in pair) c (ready.rests.same_file c now)
-        (subst (GivesBack (saved_in pair)) (sym (ready.rests.same_journal c now))
-        (resting_gives (journal pair) (file pair) ready.rests.rests))
-
-    pub saved_in_is : recovered_by (journal pair) (file pair) ≡ saved_in pair
-    saved_in_is = given_back (saved_in pair) (journal pair)
-        (resting_gives (journal pair) (file pair) ready.rests.rests)
 
   -- ---- pages are guarded
 

@@ -123,18 +123,18 @@ module _ {P S : Type 0} (honest : Bool) (file : P → Pages) (journal : P → Op
   module _ (as_many : (s : S) (content : Pages) → wants s content → length content ≡ length (saved_of s))
       (first_pair : P) (first : S)
       (ready : IsTrue honest → IsReady file journal may_leave (saved_of first) first_pair) (count : ℕ)
-      (counted : IsTrue honest → count ≡ length (file first_pair)) (few : count ≤ 4294967295) where
+      (counted : IsTrue honest → count ≡ length (file first_pair)) (few : count < 4294967296) where
     pages_in : IsTrue honest → saved_of first ≡ file first_pair
     pages_in sound = sym (ready sound).pages_are
 
     many : IsTrue honest → (content : Pages) → wants first content → length content ≡ length (file first_pair)
     many sound content wanted = as_many first content wanted ∙ ap length (pages_in sound)
 
-    pub first_step : (calls : ℕ) (has_calls : Bool) →
+    first_of : (calls : ℕ) (has_calls : Bool) →
         (IsTrue honest → calls ≡ length (calls_of (journal first_pair))) → has_calls ≡ nat_lt 0 calls →
         ((c : Left) → left_since first_pair (moment first_pair) c → may_leave first_pair c) →
         AreUnderWay first_pair first_pair first first (begun has_calls)
-    first_step calls has_calls calls_are has only_now content wanted = record {
+    first_of calls has_calls calls_are has only_now content wanted = record {
       wanted = wanted;
       noted = λ over. absurd cc;
       unsaved = λ _. refl;
@@ -152,6 +152,15 @@ module _ {P S : Type 0} (honest : Bool) (file : P → Pages) (journal : P → Op
 
         no_calls : (n : ℕ) → nat_lt 0 n ≡ false → n ≡ 0
         no_calls n is = grind (arith, nat_tests)
+
+    pub first_step : (calls : ℕ) (has_calls : Bool) (save : SaveState) →
+        (IsTrue honest → calls ≡ length (calls_of (journal first_pair))) → has_calls ≡ nat_lt 0 calls →
+        save ≡ begun has_calls →
+        ((c : Left) → left_since first_pair (moment first_pair) c → may_leave first_pair c) →
+        AreUnderWay first_pair first_pair first first save
+    first_step calls has_calls save calls_are has is only_now content wanted =
+        subst (IsUnderWay content first_pair first_pair first first) (sym is)
+        (first_of calls has_calls calls_are has only_now content wanted)
 
     module _ (pair : P) (pages told : S) (save : SaveState) (so_far : AreUnderWay first_pair pair first pages save)
         (kept : (content : Pages) → wants pages content → wants told content)
