@@ -1,8 +1,8 @@
 -- The bytes of a journal. docs/FORMAT.md, "The journal".
-use Rattle.std.specs.Prelude.{ℕ, ◌++◌, ◌==◌, ◌&&◌, ◌||◌, Bool, List, if◌then◌else◌, take, drop, nat_eq}
+use Rattle.std.specs.Prelude.{ℕ, ◌++◌, ◌==◌, ◌&&◌, ◌||◌, Bool, List, if◌then◌else◌, take, drop, replicate, nat_eq}
 use Rattle.std.specs.Cmp.Lexicographic.{pointwise}
 use Rattle.sha2.specs.Sha256.{sha256}
-use Rattle.numbers.specs.Numbers.{eight, eight_at, four, four_at, zeros}
+use Rattle.numbers.specs.Numbers.{eight, eight_at, four, four_at}
 use Rattle.journal_bytes.specs.declared.head.FoundHead.{FoundHead}
 use Rattle.journal_bytes.specs.declared.head.FoundHead.TheVariants.{Torn, Of}
 use Rattle.journal_bytes.specs.declared.head.TheConstants.{ENDED, FIRST_VERSION, NEW_VERSION, UNDER_WAY, VERSION_OF_CALLS}
@@ -17,7 +17,7 @@ head_of front = front ++ sha256 front
 
 -- what takes its place where the save is ended
 abbrev pub end_of : (number : ℕ) → List ℕ
-end_of number = head_of ((ENDED ++ (four NEW_VERSION ++ four 0)) ++ (eight number ++ zeros 24))
+end_of number = head_of ((ENDED ++ (four NEW_VERSION ++ four 0)) ++ (eight number ++ replicate 24 0))
 
 -- the image of a page, and the digest with which it ends, of that of what stands before, the number and the page
 abbrev pub image_sum : (before : List ℕ) → (number : ℕ) → (page : List ℕ) → List ℕ

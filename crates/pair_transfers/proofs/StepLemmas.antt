@@ -105,7 +105,7 @@ module _ {P : Type 0} (file : P → Pages) (journal : P → Option Journal) (may
 
 module _ {P S : Type 0} (honest : Bool) (file : P → Pages) (journal : P → Option Journal)
     (may_leave : P → Left → Type 0) (moment : P → ℕ) (left_since : P → ℕ → Left → Type 0)
-    (saved_of : S → Pages) (wants : S → Pages → Type 0) where
+    (saved_of : S → Pages) (wants : S → Pages → Type 0) (noted : S → S → Type 0) where
   -- what is so of it for pages that are to be saved
   pub record IsUnderWay (content : Pages) (first_pair pair : P) (first pages : S) (save : SaveState) : Type 0 where
     pub wanted : wants pages content
@@ -204,7 +204,7 @@ module _ {P S : Type 0} (honest : Bool) (file : P → Pages) (journal : P → Op
 
         -- and told
         pub next_step : (after : S) (then : SaveState) → done ≡ true → then ≡ advanced act save →
-            Ends saved_of wants act told after → AreUnderWay first_pair new first after then
+            Ends saved_of wants noted act told after → AreUnderWay first_pair new first after then
         next_step after then ok then_is ends content wanted =
             subst (λ (t : SaveState). IsUnderWay content first_pair new first after t) (sym then_is)
             (behind_act act (next content here.wanted) ends (λ sound. stood sound))
@@ -243,7 +243,7 @@ module _ {P S : Type 0} (honest : Bool) (file : P → Pages) (journal : P → Op
             more_not_over Failed not is = absurd cc
 
             behind_act : (a : Act) → IsNextAt save.place save (Some a) (saved_of pages) content →
-                Ends saved_of wants a told after →
+                Ends saved_of wants noted a told after →
                 (IsTrue honest → StandsAt file journal may_leave (advanced a save).place (advanced a save)
                 (saved_in file journal may_leave content first_pair) content new) →
                 IsUnderWay content first_pair new first after (advanced a save)
@@ -254,7 +254,7 @@ module _ {P S : Type 0} (honest : Bool) (file : P → Pages) (journal : P → Op
             behind_act SyncFile at same stands = same_as same (advanced SyncFile save) (λ is. absurd cc) stands
             behind_act End at same stands = same_as same (advanced End save) (λ is. absurd cc) stands
             behind_act SyncEnd at notes stands =
-                let is = notes content (kept content here.wanted) in
+                let is = notes.pages content (kept content here.wanted) in
                 record {
                   wanted = is.wanted;
                   noted = λ _. is.saved_is;

@@ -47,6 +47,10 @@ pub record SaveState : Type 0 where
   -- the pages that have an image in the journal
   pub guarded : List ℕ
 
+abbrev pub is_over : Place → Bool
+is_over Over = true
+is_over place = false
+
 abbrev pub begun : Bool → SaveState
 begun has_calls = record { place = Guarding 0; has_calls = has_calls; guarded = [] }
 
@@ -108,11 +112,20 @@ IsNextAt Failed s act saved content = ⊥
 abbrev pub IsNext : SaveState → Option Act → (saved content : Pages) → Type 0
 IsNext s act saved content = IsNextAt s.place s act saved content
 
--- behind the last act it is noted that the pages are saved, and behind no other
-abbrev pub Ends : {S : Type 0} → (S → Pages) → (S → Pages → Type 0) → Act → (old new : S) → Type 0
-Ends saved wants SyncEnd old new =
-    (content : Pages) → wants old content → NotesPages content (saved new) (wants new)
-Ends saved wants act old new = new ≡ old
+-- a page was told, or nothing was done
+abbrev pub IsTurned : {S : Type 0} → (S → S → Type 0) → (old new : S) → Type 0
+IsTurned turned old new = (new ≡ old) ⊎ turned old new
+
+-- it is noted that the pages are saved
+pub record NotesAll {S : Type 0} (saved : S → Pages) (wants : S → Pages → Type 0) (noted : S → S → Type 0)
+    (old new : S) : Type 0 where
+  pub pages : (content : Pages) → wants old content → NotesPages content (saved new) (wants new)
+  pub noted_so : noted old new
+
+-- that is behind the last act, and behind no other
+abbrev pub Ends : {S : Type 0} → (S → Pages) → (S → Pages → Type 0) → (S → S → Type 0) → Act → (old new : S) → Type 0
+Ends saved wants noted SyncEnd old new = NotesAll saved wants noted old new
+Ends saved wants noted act old new = new ≡ old
 
 -- ---- what the files are meanwhile
 

@@ -5,8 +5,10 @@
 
 mod over;
 mod save;
+mod transfers;
 mod unsaved;
 
 pub use over::save_over;
 pub use save::{Act, Place, Save, SaveFault};
+pub use transfers::{Standing, Step, Transfer, Transfers};
 pub use unsaved::Unsaved;

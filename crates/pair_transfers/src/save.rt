@@ -1,6 +1,6 @@
 //! A save, act by act.
-ghost use Rattle.std.specs.Prelude.{◌≡◌, ℕ, Bool, List, false, true, IfOk, OnOk, OnErr};
-ghost use Rattle.pair_transfers.specs.Saving.{Ends, IsNext, IsNextImage, IsNextPage, advanced, begun, one_more};
+ghost use Rattle.std.specs.Prelude.{◌≡◌, ℕ, Bool, List, [], false, true, IfOk, OnOk, OnErr};
+ghost use Rattle.pair_transfers.specs.Saving.{Ends, IsNext, IsNextImage, IsNextPage, IsTurned, advanced, begun, is_over, one_more};
 ghost use Rattle.pair_transfers.specs.declared.save.Place.TheVariants.{Failed, Saved as Over};
 
 use crate::unsaved::Unsaved;
@@ -80,15 +80,30 @@ impl Model for Save {
 }
 
 impl Save {
-    /// None is under way. There is room for so many pages, so that a save of as many never lacks any.
-    pub fn with_room(alloc: Global, pages: usize) -> Result<Save, AllocError>
-        ensures { IfOk result (λ save. save.place ≡ Over) }
+    /// None is under way.
+    pub fn none(alloc: Global) -> Save
+        ensures { result ≡ record { place = Over; has_calls = false; guarded = [] } }
     {
-        Ok(Save {
+        Save {
             place: Place::Saved,
             has_calls: false,
-            guarded: Vec::with_capacity(alloc, pages)?,
-        })
+            guarded: Vec::new(alloc),
+        }
+    }
+
+    /// Sees to it that there is room for so many pages, so that a save of as many lacks none.
+    pub fn take_room(&mut self, pages: usize) -> Result<(), AllocError>
+        ensures { self.new ≡ self.old }
+    {
+        let many = self.guarded.len();
+        self.guarded.reserve(pages.saturating_sub(many))
+    }
+
+    /// Whether all is done.
+    pub fn is_over(&self) -> bool
+        ensures { result ≡ is_over self.now.place }
+    {
+        matches!(self.place, Place::Saved)
     }
 
     /// A save of which nothing is done yet. Where calls stand in the journal it ends them.
@@ -106,6 +121,7 @@ impl Save {
             IsNext self.now act (S.saved pages.old) content) }
         ensures kept { OnOk result ((content : List (List ℕ)) → S.wants pages.old content →
             S.wants pages.new content) }
+        ensures turned { OnOk result (IsTurned S.turned pages.old pages.new) }
         ensures saved { S.saved pages.new ≡ S.saved pages.old }
     {
         match self.place {
@@ -143,6 +159,7 @@ impl Save {
             IsNextPage written self.now act content) }
         ensures kept { OnOk result ((content : List (List ℕ)) → S.wants pages.old content →
             S.wants pages.new content) }
+        ensures turned { OnOk result (IsTurned S.turned pages.old pages.new) }
         ensures saved { S.saved pages.new ≡ S.saved pages.old }
     {
         let many = self.guarded.len();
@@ -166,7 +183,8 @@ impl Save {
         ensures advanced { OnOk result (self.new ≡ advanced act.now self.old) }
         ensures done { OnOk result (is_done ≡ true) }
         ensures failed { OnErr result (self.new.place ≡ Failed) }
-        ensures pages { OnOk result (Ends S.saved S.wants act.now pages.old pages.new) }
+        ensures pages { OnOk result (Ends S.saved S.wants S.noted act.now
+            pages.old pages.new) }
         ensures same { is_done ≡ false → pages.new ≡ pages.old }
     {
         let place = self.behind(act);

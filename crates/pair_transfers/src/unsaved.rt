@@ -12,6 +12,12 @@ pub trait Unsaved {
     /// These are its pages as they are to be written.
     ghost wants: { Self → List (List ℕ) → Type 0 };
 
+    /// What telling a page may change beside.
+    ghost turned: { Self → Self → Type 0 };
+
+    /// What noting that they are saved does beside.
+    ghost noted: { Self → Self → Type 0 };
+
     /// There are as many.
     ghost as_many: { (s : Self) (content : List (List ℕ)) → wants s content →
         length content ≡ length (saved s) };
@@ -28,10 +34,12 @@ pub trait Unsaved {
             wants self.old content → slice_get content page ≡ Some bytes) }
         ensures kept { IfSome result (λ _. (content : List (List ℕ)) →
             wants self.old content → wants self.new content) }
+        ensures turned { IfSome result (λ _. turned self.old self.new) }
         ensures saved { saved self.new ≡ saved self.old };
 
     /// Notes that the pages are saved; false where that can't be.
     fn note_saved(&mut self) -> bool
-        ensures { IsTrue result → (content : List (List ℕ)) → wants self.old content →
-            NotesPages content (saved self.new) (wants self.new) };
+        ensures pages { IsTrue result → (content : List (List ℕ)) → wants self.old content →
+            NotesPages content (saved self.new) (wants self.new) }
+        ensures noted { IsTrue result → noted self.old self.new };
 }
