@@ -109,7 +109,7 @@ module _ {P S : Type 0} (honest : Bool) (file : P → Pages) (journal : P → Op
   -- what is so of it for pages that are to be saved
   pub record IsUnderWay (content : Pages) (first_pair pair : P) (first pages : S) (save : SaveState) : Type 0 where
     pub wanted : wants pages content
-    pub noted : save.place ≡ Over → saved_of pages ≡ content
+    pub all_noted : save.place ≡ Over → saved_of pages ≡ content
     pub unsaved : (save.place ≡ Over → ⊥) → saved_of pages ≡ saved_of first
     pub stands : IsTrue honest →
         StandsAt file journal may_leave save.place save (saved_in file journal may_leave content first_pair) content pair
@@ -136,7 +136,7 @@ module _ {P S : Type 0} (honest : Bool) (file : P → Pages) (journal : P → Op
         AreUnderWay first_pair first_pair first first (begun has_calls)
     first_of calls has_calls calls_are has only_now content wanted = record {
       wanted = wanted;
-      noted = λ over. absurd cc;
+      all_noted = λ over. absurd cc;
       unsaved = λ _. refl;
       stands = λ sound. begins file journal may_leave content first_pair (saved_of first) (ready sound) has_calls
           (λ is. subst (λ (n : ℕ). 0 < n) (calls_are sound) (some_calls calls (sym has ∙ is)))
@@ -228,7 +228,7 @@ module _ {P S : Type 0} (honest : Bool) (file : P → Pages) (journal : P → Op
                 → IsUnderWay content first_pair new first after t
             same_as same t not stands = record {
               wanted = subst (λ (s : S). wants s content) (sym same) (kept content here.wanted);
-              noted = λ over. absurd (not over);
+              all_noted = λ over. absurd (not over);
               unsaved = λ _. ap saved_of same ∙ unsaved_now;
               stands = stands;
               unseen = λ sound. unseen_step sound content wanted;
@@ -257,7 +257,7 @@ module _ {P S : Type 0} (honest : Bool) (file : P → Pages) (journal : P → Op
                 let is = notes.pages content (kept content here.wanted) in
                 record {
                   wanted = is.wanted;
-                  noted = λ _. is.saved_is;
+                  all_noted = λ _. is.saved_is;
                   unsaved = λ not. absurd (not refl);
                   stands = stands;
                   unseen = λ sound. unseen_step sound content wanted;
@@ -299,7 +299,7 @@ module _ {P S : Type 0} (honest : Bool) (file : P → Pages) (journal : P → Op
           by_place Ended at none stands = absurd cc
           by_place Over at none stands = record {
             files = stands;
-            noted = saved_is ∙ here.noted at;
+            noted = saved_is ∙ here.all_noted at;
             wanted = kept content here.wanted;
           }
           by_place Failed at none stands = absurd none

@@ -8,6 +8,7 @@ mod save;
 mod transfers;
 mod unsaved;
 
+pub use journal_bytes;
 pub use over::save_over;
 pub use save::{Act, Place, Save, SaveFault};
 pub use transfers::{Standing, Step, Transfer, Transfers};
