@@ -125,8 +125,7 @@ fn has_number(front: &[u8]) -> bool
     let version = four_at(front, 8);
     let is_new = version == NEW_VERSION;
     let is_under_way = begins_with(&UNDER_WAY, front);
-    is_under_way && (is_new || version == VERSION_OF_CALLS)
-        || begins_with(&ENDED, front) && is_new
+    is_under_way && (is_new || version == VERSION_OF_CALLS) || begins_with(&ENDED, front) && is_new
 }
 
 /// Whether this magic stands first.

@@ -114,7 +114,7 @@ noted_pages false old new is so content wants = absurd cc
 noted_pages true old new is so content wants =
     let all = is.0.becomes wants.system wants.holds in
     let same : saved_of new.session ≡ content = same_pages (saved_of new.session) content new.session all.all
-        (still_its content old.session new.session all.images is.0.many wants.its) in
+    (still_its content old.session new.session all.images is.0.many wants.its) in
     record {
       saved_is = same;
       wanted = record {

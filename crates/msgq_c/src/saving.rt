@@ -100,7 +100,8 @@ impl Kept {
     /// Begins to save its pages, beside this journal.
     fn begin_save(&mut self, journal: Standing)
         ensures { self.new ≡ record self.old {
-            transfers = begins_at (pages_of self.old.session) journal } }
+          transfers = begins_at (pages_of self.old.session) journal;
+        } }
     {
         let pages = self.session.pages();
         self.transfers.begin(pages, journal);

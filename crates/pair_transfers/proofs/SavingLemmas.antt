@@ -203,10 +203,10 @@ module _ {P : Type 0} (file : P → Pages) (journal : P → Option Journal) (may
           guarded_now n before = ⊎_elim
               (λ low. ⊎_elim (λ among. inl (still_among s.guarded 0 n page among)) inr (is.guarded_so n low))
               (λ high. ⊎_elim
-                  (λ here. inl (subst (λ (m : ℕ). IsAmong (s.guarded ++ page ∷ []) 0 m) (sym here)
-                      (last_among s.guarded page)))
-                  (λ apart. inr (next.others n high (omega (arith, before, apart))))
-                  (cases_eq n page))
+              (λ here. inl (subst (λ (m : ℕ). IsAmong (s.guarded ++ page ∷ []) 0 m) (sym here)
+              (last_among s.guarded page)))
+              (λ apart. inr (next.others n high (omega (arith, before, apart))))
+              (cases_eq n page))
               (cases_lt n from)
 
     -- the images are waited for
@@ -255,8 +255,8 @@ module _ {P : Type 0} (file : P → Pages) (journal : P → Option Journal) (may
       as_saved : (page : ℕ) → page < length content → page_of content page ≡ page_of saved.pages page
       as_saved page within = ⊎_elim
           (λ low. ⊎_elim
-              (λ among. absurd (none_among 0 page (subst (λ (g : List ℕ). IsAmong g 0 page) none.none among)))
-              (λ same. same) (is.guarded_so page low))
+          (λ among. absurd (none_among 0 page (subst (λ (g : List ℕ). IsAmong g 0 page) none.none among)))
+          (λ same. same) (is.guarded_so page low))
           (λ high. none.others page high within)
           (cases_lt page from)
 
@@ -295,7 +295,7 @@ module _ {P : Type 0} (file : P → Pages) (journal : P → Option Journal) (may
           IsWriting file journal may_leave (min (written + 1) 18446744073709551615) t saved content new
       writes_one t ok guarded =
           let counted : min (written + 1) 18446744073709551615 ≡ written + 1 =
-              let few = next.counted in omega (arith, clamps, few) in
+          let few = next.counted in omega (arith, clamps, few) in
           record {
             journal_of = is.journal_of;
             journal_is = stores.journal_is ∙ is.journal_is;
@@ -323,19 +323,19 @@ module _ {P : Type 0} (file : P → Pages) (journal : P → Option Journal) (may
           brought_now n within = ⊎_elim
               (λ same. inl (subst (λ (m : ℕ). page_of (file new) m ≡ page_of content m) (sym same) here))
               (λ apart. ⊎_elim
-                  (λ before. inl (ap (λ (ps : Pages). page_of ps n) stored
-                      ∙ get_or-set_other (file old) page n bytes [] apart ∙ before))
-                  (λ among. inr (record {
-                    place = among.place;
-                    behind = ⊎_elim
-                        (λ first. absurd (apart (sym among.is_it
-                            ∙ ap (λ (k : ℕ). get_or s.guarded k 0) first ∙ next.page_is)))
-                        (λ other. let behind = among.behind in omega (arith, behind, other))
-                        (cases_eq among.place written);
-                    within = among.within;
-                    is_it = among.is_it;
-                  }))
-                  (is.brought n within))
+              (λ before. inl (ap (λ (ps : Pages). page_of ps n) stored
+              ∙ get_or-set_other (file old) page n bytes [] apart ∙ before))
+              (λ among. inr (record {
+                place = among.place;
+                behind = ⊎_elim
+                    (λ first. absurd (apart (sym among.is_it
+                    ∙ ap (λ (k : ℕ). get_or s.guarded k 0) first ∙ next.page_is)))
+                    (λ other. let behind = among.behind in omega (arith, behind, other))
+                    (cases_eq among.place written);
+                within = among.within;
+                is_it = among.is_it;
+              }))
+              (is.brought n within))
               (cases_eq n page)
 
     -- the file is waited for

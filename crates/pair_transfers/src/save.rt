@@ -150,11 +150,7 @@ impl Save {
     }
 
     /// The next page that is guarded is written.
-    fn next_page<S: Unsaved>(
-        &self,
-        pages: &mut S,
-        written: usize,
-    ) -> Result<Option<Act>, SaveFault>
+    fn next_page<S: Unsaved>(&self, pages: &mut S, written: usize) -> Result<Option<Act>, SaveFault>
         ensures next { IfOk result (λ act. (content : List (List ℕ)) → S.wants pages.old content →
             IsNextPage written self.now act content) }
         ensures kept { OnOk result ((content : List (List ℕ)) → S.wants pages.old content →

@@ -327,7 +327,9 @@ impl Transfers {
     /// The head stands in the journal.
     fn end_head(&mut self, page: u32, seal: &Seal)
         ensures { self.new ≡ record self.old {
-            journal = begun_with self.old.count seal.now self.old.journal; step = ReadPage page } }
+          journal = begun_with self.old.count seal.now self.old.journal;
+          step = ReadPage page;
+        } }
     {
         let (_, sum) = spell_head(self.count, self.journal.number, seal);
         self.journal.sum = sum;
