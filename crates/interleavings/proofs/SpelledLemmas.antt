@@ -1,10 +1,10 @@
 -- The file of a system spells its records and no others, and pages spell one system at most.
 use Rattle.std.proofs.Common.{ℕ, ◌≡◌, ◌≢◌, true, false, List, [], ◌∷◌, map, Option, Some, None, refl, sym, ap, subst, ◌∙◌, arith}
-use Rattle.std.specs.List.{Contains, find}
+use Rattle.std.specs.List.{AllPairs, Contains, find}
 use Rattle.std.specs.Option.{option_map}
 use Rattle.std.proofs.lemmas.List.Folds.{flat_map-map}
 use Rattle.bucket_page.specs.Bucket.{Bucket}
-use Rattle.bucket_page.specs.Records.{lookup}
+use Rattle.bucket_page.specs.Records.{Pair, lookup}
 use Rattle.bucket_page.specs.Spelling.{Spells}
 use Rattle.bucket_page.specs.declared.page.PageKind.{PageKind}
 use Rattle.bucket_page.specs.declared.page.PageKind.TheVariants as kinds
@@ -18,7 +18,9 @@ use Rattle.file_check.specs.Whole.{HasJust, IsFileOf}
 use Rattle.file_check.proofs.RecordLemmas.{live_page}
 use Rattle.file_walk.specs.Files.{file_of, payload_on, said_on}
 use Rattle.file_walk.proofs.Today.{pages_at}
-use Rattle.hash_file.specs.Chain.{contents, pairs_on}
+use Rattle.hash_file.specs.Chain.{contents, pairs, pairs_on}
+use Rattle.hash_file.specs.Change.{Quiet}
+use Rattle.hash_file.proofs.Contents.{contents_are_pairs}
 use Rattle.hash_file.specs.Store.{Store, bucket_at, bucket_of, is_bucket, next_at}
 use Rattle.queue_model.proofs.ListLemmas.{find-Some}
 use Rattle.queue_model.specs.Lawful.{IsLawful}
@@ -78,15 +80,19 @@ module _ (hash : RecordKey → ℕ) (content : List (List ℕ)) (s : State) (fil
     chained (next_at st m) ms linked.1 (λ k on. each k (contains_tail m k ms on)),
   )
 
+  same_pairs : records_of (map (bucket_at st) file.chain) ≡ pairs st
+  same_pairs =
+      flat_map-map (λ (b : Bucket). b.records) (bucket_at st) file.chain ∙ ap (pairs_on st) (sym file.quiet.chained)
+
   same : (key : RecordKey) → lookup key (records_of (map (bucket_at st) file.chain)) ≡ contents st key
-  same key =
-      ap (lookup key) (flat_map-map (λ (b : Bucket). b.records) (bucket_at st) file.chain)
-      ∙ ap (λ (ns : List ℕ). lookup key (pairs_on st ns)) (sym file.quiet.chained)
+  same key = ap (lookup key) same_pairs
 
   pub spells : SpellsSystem content s
   spells = record {
     buckets = map (bucket_at st) file.chain;
     chained = chained ROOT_PAGE file.chain file.right.structure.chain.linked bucket_on;
+    once = subst (AllPairs (λ (p q : Pair). p.key ≢ q.key)) (sym same_pairs)
+        (contents_are_pairs hash st Quiet file.quiet.sound).distinct;
     lawful = file.system.has.lawful;
     running = file.system.has.running;
     just = record {

@@ -34,8 +34,8 @@ pub record HasReason {D : Type 0} (honest : Bool) (old new : ℕ) (played : Play
 -- ---- of a device that gives back what was written
 
 -- whatever the events, and so whatever the order of the seats' steps; pages are a system in this way
-pub record PlaysAsPlainLists {D : Type 0} (Is : List (List ℕ) → State → Type 0) (callers : List Caller) (es : List Event)
-    (content left : List (List ℕ)) (is_synced : Bool) (played : Played D) : Type 0 where
+pub record PlaysAsPlainLists {D : Type 0} (Is : List (List ℕ) → State → Type 0) (callers : List Caller)
+    (es : List Event) (content left : List (List ℕ)) (is_synced : Bool) (played : Played D) : Type 0 where
   -- the one system that the pages of the device were
   pub base : State
   pub file : Is content base

@@ -1,7 +1,7 @@
 -- What the pages of a file mean: from the root page on they spell buckets, and the records of these are just those of
 -- one lawful system. Who reads a file with another program needs no more. docs/FORMAT.md, "Pages", "Records".
-use Rattle.std.specs.Prelude.{ℕ, ◌≡◌, ◌≤◌, false, List, [], ◌∷◌}
-use Rattle.std.specs.List.{flat_map}
+use Rattle.std.specs.Prelude.{ℕ, ◌≡◌, ◌≢◌, ◌≤◌, false, List, [], ◌∷◌}
+use Rattle.std.specs.List.{AllPairs, flat_map}
 use Rattle.page_device.specs.Sealed.{IsSealed, payload_of}
 use Rattle.directory.specs.declared.layout.TheConstants.{ROOT_PAGE}
 use Rattle.bucket_page.specs.Bucket.{Bucket}
@@ -28,10 +28,11 @@ AreChained content n (b ∷ bs) = HasBucket content n b × AreChained content b.
 abbrev pub records_of : List Bucket → List Pair
 records_of bs = flat_map (λ (b : Bucket). b.records) bs
 
--- these pages spell just the records of this system, which is lawful and not stopped
+-- these pages spell just the records of this system, each once; it is lawful and not stopped
 pub record SpellsSystem (content : List (List ℕ)) (s : State) : Type 0 where
   pub buckets : List Bucket
   pub chained : AreChained content ROOT_PAGE buckets
+  pub once : AllPairs (λ (p q : Pair). p.key ≢ q.key) (records_of buckets)
   pub lawful : IsLawful s
   pub running : s.stopped ≡ false
   pub just : HasJust (λ key. lookup key (records_of buckets)) s

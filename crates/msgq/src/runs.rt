@@ -66,7 +66,7 @@ pub fn run_on<
           new = output.new;
           untold = result.is_untold;
         }) result.ending }
-    // the same in words of the rules, of what is printed and of what pages mean, down to their bytes
+    // the same in words of the rules, of what is printed and of what pages mean in bytes
     ensures spelled { RunsScriptSpelled script.now (D.is_honest device)
         (record {
           content = D.content device;

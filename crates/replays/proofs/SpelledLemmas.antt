@@ -71,6 +71,7 @@ module _ (script : Parts) (honest : Bool) (c : Effects) (ending : Ending) where
   leaves_spelled journal leaves = record {
     plain = journal_spelled journal leaves.plain;
     pages = spells sha_key c.left _ leaves.left;
+    many = leaves.pages;
   }
 
   beside_spelled : RunsBeside script (origin_on script honest c) c ending →

@@ -89,8 +89,8 @@ abbrev pub counted_from : ℕ → Origin → Origin
 counted_from was o = record o { faults = was; frames = length o.content }
 
 -- the lines of all seats were made, their replies were printed in the order of the script and handed on, and only then
--- the file was written; a fault is printed after the replies, or none. Of an honest device their journal is so, and what
--- it leaves on the pages
+-- the file was written; a fault is printed after the replies, or none. Of an honest device their journal is so, and so
+-- are the pages that it leaves
 pub record RunsBesideBy (IsJournal : List Entry → Type 0) (Leaves : List Entry → List (List ℕ) → Type 0)
     (script : Parts) (honest : Bool) (c : Effects) (ending : Ending) : Type 0 where
   pub replies : List Reply

@@ -1,6 +1,6 @@
--- What a script comes to that is run on a file, down to the bytes of its pages: in the place of what a check tells of them
--- stands what they mean. docs/SCRIPTS.md, "Runs"; docs/FORMAT.md, "Pages", "Records".
-use Rattle.std.specs.Prelude.{◌≡◌, ◌≢◌, ◌⊎◌, ℕ, true, false, Bool, List, Option, Some, None}
+-- What a script comes to that is run on a file, down to the bytes of its pages: in the place of what a check tells of
+-- them stands what they mean. docs/SCRIPTS.md, "Runs"; docs/FORMAT.md, "Pages", "Records".
+use Rattle.std.specs.Prelude.{◌≡◌, ◌≢◌, ◌⊎◌, ℕ, true, false, Bool, List, Option, Some, None, length}
 use Rattle.numbers.specs.declared.faults.TheConstants.{DEVICE, FAILED}
 use Rattle.page_device.specs.Device.{HasRisen}
 use Rattle.interleavings.specs.LoneKernelWords.{State, restarted}
@@ -20,8 +20,8 @@ use Rattle.replays.specs.Texts.{Effects, LeavesFault}
 
 -- ---- line by line
 
--- no fault is told, and the pages spell the system that the lines left, unless the output refused a write; or a transfer
--- failed, at the closing, or while a line was run
+-- no fault is told, and the pages spell the system that the lines left, unless the output refused a write; or a
+-- transfer failed, at the closing, or while a line was run
 abbrev pub EndsSpelled : Option State → List (List ℕ) → Bool → (was faults : ℕ) → Option ℕ → Type 0
 EndsSpelled (Some s) left untold was faults fault =
     ((fault ≡ None) × (untold ≡ false → SpellsSystem left (restarted s)))
@@ -38,8 +38,8 @@ pub record RunsPages (script : Parts) (c : Effects) (replies : List Reply) (faul
   -- where the file has failed nothing was written
   pub before : after ≡ None → c.left ≡ c.content
 
--- it is not opened: one fault was printed, and the pages stay. Of an honest device that is what is wrong with the pages,
--- as the claims of `check` say
+-- it is not opened: one fault was printed, and the pages stay. What is wrong with those of an honest device `IsUnopened`
+-- says
 pub record IsLeftUnopened (c : Effects) (ending : Ending) : Type 0 where
   pub fault : OpenFault
   pub framed : fault ≢ TooFewFrames
@@ -64,6 +64,8 @@ pub record LeavesSpelled (script : Parts) (content : List (List ℕ)) (journal :
   pub plain : IsSpelledJournal script content journal
   pub pages : SpellsSystem left
       (restarted (after (callers_of script.ids (greatest_seat script.lines)) journal plain.base))
+  -- they are as many
+  pub many : length left ≡ length content
 
 -- a script of one seat is run line by line
 abbrev pub RunsAsOneSpelled : (one : Bool) → Parts → (honest : Bool) → Effects → Ending → Type 0
