@@ -1,5 +1,5 @@
 -- A session is saved, transfer by transfer. docs/FORMAT.md, "The journal".
-use Rattle.std.specs.Prelude.{ℕ, ◌≡◌, ◌⊎◌, ◌*◌, ⊤, Bool, true, false, List, length, take, Option, Some, None, Result, Ok, Err}
+use Rattle.std.specs.Prelude.{ℕ, ◌≡◌, ◌⊎◌, ◌*◌, ◌++◌, ⊤, Bool, true, false, List, drop, length, Option, Some, None, Result, Ok, Err}
 use Rattle.queue_model.specs.State.{State}
 use Rattle.session.specs.Session.{AreItsPages, Holds, pages_of, saved_of}
 use Rattle.pair_transfers.specs.Transfers.{Asks, Tells, TransfersState, begins_at, none_under_way}
@@ -69,12 +69,16 @@ order_of (Some (SyncJournal true)) = order_at SYNC_JOURNAL 0 0
 order_of (Some (SyncJournal false)) = order_at SYNC_JOURNAL_BYTES 0 0
 order_of (Some SyncFile) = order_at SYNC_FILE 0 0
 
+-- these over the first ones
+abbrev pub laid_over : (part whole : List ℕ) → List ℕ
+laid_over part whole = part ++ drop (length part) whole
+
 -- the bytes that are to be written stand first
-abbrev pub HasBytes : Option Transfer → List ℕ → Type 0
-HasBytes (Some (WriteHead head)) bytes = take 80 bytes ≡ head
-HasBytes (Some (WriteImage at image)) bytes = bytes ≡ image
-HasBytes (Some (WritePage page written)) bytes = take 4096 bytes ≡ written
-HasBytes transfer bytes = ⊤
+abbrev pub HasBytes : Option Transfer → (old new : List ℕ) → Type 0
+HasBytes (Some (WriteHead head)) old new = new ≡ laid_over head old
+HasBytes (Some (WriteImage at image)) old new = new ≡ laid_over image old
+HasBytes (Some (WritePage page written)) old new = new ≡ laid_over written old
+HasBytes transfer old new = ⊤
 
 abbrev pub fault_code : SaveFault → ℕ
 fault_code Device = FAILED
@@ -90,15 +94,15 @@ BeginsHandle journal = Of (λ old code after.
     (code ≡ DONE) × (after ≡ Some (record old { transfers = begins_at (pages_of old.session) journal })))
 
 -- the next transfer was told, or there is a fault
-pub record HasAsked (order : Order) (bytes : List ℕ) (code : ℕ) (old : Kept) (after : KeptSession) : Type 0 where
+pub record HasAsked (order : Order) (room bytes : List ℕ) (code : ℕ) (old : Kept) (after : KeptSession) : Type 0 where
   pub new : Kept
   pub after_is : after ≡ Some new
   pub asked : ((told : Option Transfer) × (code ≡ DONE) × AsksKept old new told × (order ≡ order_of told)
-      × HasBytes told bytes)
+      × HasBytes told room bytes)
       ⊎ ((fault : SaveFault) × (code ≡ fault_code fault))
 
-abbrev pub AsksHandle : Order → (bytes : List ℕ) → ℕ → (old after : KeptSession) → Type 0
-AsksHandle order bytes = Of (λ old code after. HasAsked order bytes code old after)
+abbrev pub AsksHandle : Order → (room bytes : List ℕ) → ℕ → (old after : KeptSession) → Type 0
+AsksHandle order room bytes = Of (λ old code after. HasAsked order room bytes code old after)
 
 -- it was told how a transfer went, or there is a fault
 pub record HasTold (read : List ℕ) (done : Bool) (code : ℕ) (old : Kept) (after : KeptSession) : Type 0 where

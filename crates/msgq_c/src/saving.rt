@@ -1,9 +1,9 @@
 //! A session is saved, transfer by transfer.
 
-ghost use Rattle.std.specs.Prelude.{◌≡◌, IfOk, OnOk};
+ghost use Rattle.std.specs.Prelude.{◌≡◌, ◌≤◌, ◌*◌, IfOk, OnOk, length};
 ghost use Rattle.pair_transfers.specs.Transfers.{begins_at};
 ghost use Rattle.session.specs.Session.{pages_of};
-ghost use Rattle.msgq_c.specs.Saving.{AsksHandle, AsksKept, BeginsHandle, HasBytes, TellsHandle, TellsKept, fault_code, order_of, standing_of};
+ghost use Rattle.msgq_c.specs.Saving.{AsksHandle, AsksKept, BeginsHandle, HasBytes, TellsHandle, TellsKept, fault_code, laid_over, order_of, standing_of};
 
 use crate::codes::{DONE, FAILED, NO_MEMORY, NO_SESSION};
 use crate::handle::Handle;
@@ -163,7 +163,7 @@ pub extern "C" fn msgq_session_save_next(
     order: &mut Order,
     bytes: &mut [u8; IMAGE_BYTES],
 ) -> u32
-    ensures { AsksHandle order.new bytes.new result
+    ensures { AsksHandle order.new bytes.old bytes.new result
         handle.old.held.session handle.new.held.session }
 {
     if !handle.is_open {
@@ -218,15 +218,24 @@ fn code_of_fault(fault: SaveFault) -> u32
 /// Tells a transfer, and puts its bytes first.
 fn tell(transfer: &Option<Transfer>, order: &mut Order, bytes: &mut [u8; IMAGE_BYTES])
     ensures order { order.new ≡ order_of transfer.now }
-    ensures bytes { HasBytes transfer.now bytes.new }
+    ensures bytes { HasBytes transfer.now bytes.old bytes.new }
 {
+    *order = order_of(transfer);
     match transfer {
-        Some(Transfer::WriteHead(head)) => bytes[..head.len()].copy_from_slice(head),
-        Some(Transfer::WriteImage(_, image)) => *bytes = *image,
-        Some(Transfer::WritePage(_, page)) => bytes[..PAGE_BYTES].copy_from_slice(page),
+        Some(Transfer::WriteHead(head)) => put_first(head, bytes),
+        Some(Transfer::WriteImage(_, image)) => put_first(image, bytes),
+        Some(Transfer::WritePage(_, page)) => put_first(page, bytes),
         _ => {}
     }
-    *order = order_of(transfer);
+}
+
+/// Writes a part over the first bytes.
+fn put_first(part: &[u8], whole: &mut [u8])
+    requires { length part.now ≤ length whole.old }
+    ensures { whole.new ≡ laid_over part.now whole.old }
+{
+    let (front, _) = whole.split_at_mut(part.len());
+    front.copy_from_slice(part);
 }
 
 /// What is told of a transfer, but for its bytes.
