@@ -85,7 +85,8 @@ impl Unsaved for Kept {
     }
 
     fn page(&mut self, page: u32) -> Option<Page> {
-        if page >= self.session.pages() {
+        let pages = self.session.pages();
+        if page >= pages {
             return None;
         }
         self.session.page(page)
