@@ -14,7 +14,8 @@ use Rattle.msgq_cli.specs.Scripts.{Parts}
 use Rattle.msgq_cli.specs.declared.ending.Ending.{Ending}
 use Rattle.replays.specs.PlainRuns.{IsPlainRun, RunsPlainly}
 use Rattle.replays.specs.Replays.{EndsWith}
-use Rattle.replays.specs.Serves.{EndsWell, IsRunOn, RunsOn}
+use Rattle.replays.specs.Runs.{EndsWell}
+use Rattle.replays.specs.Serves.{IsRunOn, RunsOn}
 use Rattle.replays.specs.Texts.{Effects, IsUnopened}
 use Rattle.crash_safe_runs.specs.Concluding.{Concludes, IsAbandoned, fault_of, is_to_commit, is_well}
 use Rattle.crash_safe_runs.specs.Crash.{Pages}
@@ -91,30 +92,17 @@ module _ (honest : Bool) (content : Pages) (was : ℕ) (first : OutputState) (un
 
     pub served_ends : (fault : Option ℕ) (run : IsRunOn script honest (done_to content was first untold left due
         faults said) ending) →
-        EndsWith fault run.told run.so_far told ended →
-        ((s : Option State) → EndsWell s left untold was faults run.fault → EndsWell s left untold was later fault) →
+        EndsWith fault run.run.told (ending_of run.run.replies) told ended →
+        ((s : Option State) → EndsWell s left untold was faults run.run.fault →
+        EndsWell s left untold was later fault) →
         (untold ≡ false → fault ≡ None → IsTrue honest → IsTrue synced) →
         IsRunOn script honest (done_to content was first untold left synced later told) ended
     served_ends fault run ends well sync = record {
+      run = plain_ends fault run.run ends well sync;
       first = run.first;
       opened = run.opened;
       last = run.last;
-      told = run.told;
-      so_far = run.so_far;
-      run = run.run;
-      untold = run.untold;
-      handed = run.handed;
-      fault = fault;
-      ends = ends;
-      rules = λ sure.
-          let is = run.rules sure in record {
-            system = is.system;
-            file = is.file;
-            goes = is.goes;
-            ends = well is.goes.system is.ends;
-          };
-      synced = sync;
-      unwritten = run.unwritten;
+      takes = run.takes;
       before = run.before;
     }
 
@@ -270,9 +258,10 @@ module _ {P : Type 0} (honest : Bool) (moment : P → ℕ) (left_since : P → �
 
     served_brought : (done : Bool) → Commits honest moment left_since may_leave start left old new done →
         EndsWith (fault_of done) said ending told ended → (run : IsRunOn script honest ran ending) →
-        run.fault ≡ None → IsRunOn script honest (came new told) ended
+        run.run.fault ≡ None → IsRunOn script honest (came new told) ended
     served_brought true commits says run none =
-        let last = subst (λ (f : Option ℕ). EndsWith f run.told run.so_far said ending) none run.ends in
+        let last = subst (λ (f : Option ℕ). EndsWith f run.run.told (ending_of run.run.replies) said ending) none
+        run.run.ends in
         subst (λ (pages : Pages). IsRunOn script honest
         (done_to start.pages start.failed first untold pages new.is_synced new.failed told) ended)
         (sym commits.same)
@@ -282,7 +271,8 @@ module _ {P : Type 0} (honest : Bool) (moment : P → ℕ) (left_since : P → �
         (subst (EndsWell s old.content untold start.failed old.failed) none is))
         (λ all none sure. commits.synced sure refl))
     served_brought false commits says run none =
-        let last = subst (λ (f : Option ℕ). EndsWith f run.told run.so_far said ending) none run.ends in
+        let last = subst (λ (f : Option ℕ). EndsWith f run.run.told (ending_of run.run.replies) said ending) none
+        run.run.ends in
         subst (λ (pages : Pages). IsRunOn script honest
         (done_to start.pages start.failed first untold pages new.is_synced new.failed told) ended)
         (sym commits.same)
@@ -297,11 +287,11 @@ module _ {P : Type 0} (honest : Bool) (moment : P → ℕ) (left_since : P → �
         IsRunOn script honest (came old said) ending
     served_left not run =
         served_ends honest start.pages start.failed first untold old.content due old.is_synced old.failed old.failed
-        said said ending ending script run.fault run run.ends (λ s is. is)
+        said said ending ending script run.run.fault run run.run.ends (λ s is. is)
         (λ all none sure. absurd
-        (not_committable due untold ending not (is_true due (run.synced all none sure)) all
-        (well_told run.fault run.told said run.so_far ending run.ends
-        (ap is_well run.run.ends ∙ lines_well run.run.replies) none)))
+        (not_committable due untold ending not (is_true due (run.run.synced all none sure)) all
+        (well_told run.run.fault run.run.told said (ending_of run.run.replies) ending run.run.ends
+        (lines_well run.run.replies) none)))
 
     pub served_over : (to_commit : Bool) → is_to_commit due untold ending ≡ to_commit →
         Concludes honest moment left_since may_leave start left to_commit old new said told ending ended →
@@ -309,7 +299,7 @@ module _ {P : Type 0} (honest : Bool) (moment : P → ℕ) (left_since : P → �
     served_over true to is (inl run) =
         let to = committable due untold ending to in
         inl (served_brought is.succeeded is.commits is.says run
-        (none_told run.fault run.told said run.so_far ending run.ends to.well))
+        (none_told run.run.fault run.run.told said (ending_of run.run.replies) ending run.run.ends to.well))
     served_over false not is (inl run) =
         inl (carried (λ d o e. IsRunOn script honest (came d o) e) is (served_left not run))
     served_over to_commit to is (inr u) = inr (unopened to_commit to is u)

@@ -1,5 +1,10 @@
 pub mod KeepingLemmas
 pub mod AloneLemmas
+pub mod UnderWayLemmas
+pub mod BeginLemmas
+pub mod PartLemmas
+pub mod QueueLemmas
+pub mod MakeLemmas
 pub mod UnreadLemmas
 pub mod RescueLemmas
 pub mod GatheringLemmas

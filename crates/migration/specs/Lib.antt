@@ -1,6 +1,8 @@
 pub mod Fault
 pub mod Causes
+pub mod Rooms
 pub mod Writing
+pub mod Filling
 pub mod Copying
 pub mod SalvageFault
 pub mod Printing

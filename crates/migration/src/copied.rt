@@ -5,7 +5,7 @@ ghost use Rattle.directory.specs.declared.layout.TheConstants.{LEAST_PAGES};
 ghost use Rattle.page_device.specs.declared.page.TheConstants.{MAX_PAGES};
 ghost use Rattle.file_check.specs.Words.{IsLayout};
 ghost use Rattle.migration.specs.Causes.{HasCopyCause};
-ghost use Rattle.migration.specs.Copying.{IsCopied, IsToldOfOld};
+ghost use Rattle.migration.specs.Copying.{IsCopied, IsToldOfCopy};
 
 use crate::fault::CopyFault;
 use crate::made::{Made, Target, make};
@@ -43,9 +43,10 @@ pub fn copy<O: PageDevice, N: PageDevice, K: PseudoKey + Drop>(
     ensures ok { IsTrue (O.is_honest old) → IsTrue (N.is_honest target.device) →
         IfOk result.found (IsCopied layout.now
         (K.of_key keys) target.pages (O.content old) (N.content result.new)) }
-    // The old file is refused for the first thing that is wrong with it.
-    ensures err { IsTrue (O.is_honest old) →
-        IfErr result.found (IsToldOfOld layout.now (K.of_key keys) (O.content old)) }
+    // The old file is refused for the first thing that is wrong with it, and the new one for want
+    // of room only where a record has none.
+    ensures err { IfErr result.found (IsToldOfCopy layout.now (K.of_key keys) target.pages
+        (O.content old) (IsTrue (O.is_honest old)) (IsTrue (N.is_honest target.device))) }
     ensures same { O.content result.old ≡ O.content old }
     ensures honest { (O.is_honest result.old ≡ O.is_honest old)
         × (N.is_honest result.new ≡ N.is_honest target.device) }

@@ -6,7 +6,7 @@ ghost use Rattle.directory.specs.Layouts.{IsLayout};
 ghost use Rattle.directory.specs.declared.layout.TheConstants.{LEAST_PAGES};
 ghost use Rattle.page_device.specs.declared.page.TheConstants.{MAX_PAGES};
 ghost use Rattle.migration.specs.Causes.{HasCopyCause};
-ghost use Rattle.migration.specs.Copying.{IsCopied, IsToldOfOld};
+ghost use Rattle.migration.specs.Copying.{IsCopied, IsToldOfCopy};
 ghost use Rattle.migration.specs.Printing.{HasSize, IsDoneOrFault, deed_of};
 
 use crate::copied::{Copied, copy, migrated_pages};
@@ -172,8 +172,8 @@ where
     ensures ok { IsTrue (O.is_honest old) → IsTrue (N.is_honest target.device) →
         IfOk result.found (IsCopied layout.now sha_key target.pages
         (O.content old) (N.content result.new)) }
-    ensures err { IsTrue (O.is_honest old) →
-        IfErr result.found (IsToldOfOld layout.now sha_key (O.content old)) }
+    ensures err { IfErr result.found (IsToldOfCopy layout.now sha_key target.pages
+        (O.content old) (IsTrue (O.is_honest old)) (IsTrue (N.is_honest target.device))) }
     ensures same { O.content result.old ≡ O.content old }
     ensures honest { (O.is_honest result.old ≡ O.is_honest old)
         × (N.is_honest result.new ≡ N.is_honest target.device) }

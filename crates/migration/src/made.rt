@@ -1,13 +1,15 @@
 //! The file of a system is made.
 
-ghost use Rattle.std.specs.Prelude.{◌≡◌, ◌≤◌, [], false, length, IsTrue, OnOk};
+ghost use Rattle.std.specs.Prelude.{◌≡◌, ◌≤◌, ℕ, [], false, length, IsTrue, IfErr, OnOk};
 ghost use Rattle.directory.specs.declared.layout.TheConstants.{LEAST_PAGES};
 ghost use Rattle.page_device.specs.declared.page.TheConstants.{MAX_PAGES};
 ghost use Rattle.file_check.specs.Whole.{IsFileOf};
 ghost use Rattle.file_pages.specs.Files.{IsReady};
 ghost use Rattle.migration.specs.Causes.{HasMakingCause};
 ghost use Rattle.migration.specs.Copying.{IsMadeOf};
+ghost use Rattle.migration.specs.Filling.{IsNew, MayNotFill, MayNotWrite};
 ghost use Rattle.migration.specs.Writing.{KeepsDevice};
+ghost use Rattle.record_file.specs.Files.{IsNewFile};
 
 use crate::fault::MakingFault;
 use crate::writer::write;
@@ -56,6 +58,8 @@ pub fn make<D: PageDevice, K: PseudoKey>(
     ensures honest { D.is_honest result.device ≡ D.is_honest target.device }
     ensures cause { HasMakingCause
         (D.fault_count target.device) (D.fault_count result.device) result.made }
+    ensures told { IsTrue (D.is_honest target.device) →
+        IfErr result.made (MayNotFill (K.of_key keys.now) target.pages system.now) }
 {
     let Target { mut device, pages } = target;
     if let Err(fault) = format(&mut device, pages) {
@@ -83,6 +87,8 @@ fn fill<D: PageDevice, K: PseudoKey>(alloc: Global, device: D, keys: &K, system:
     ensures honest { D.is_honest result.device ≡ D.is_honest device }
     ensures cause { HasMakingCause
         (D.fault_count device) (D.fault_count result.device) result.made }
+    ensures told { (pages : ℕ) → IsNewFile pages (D.content device) → IsTrue (D.is_honest device) →
+        IfErr result.made (MayNotFill (K.of_key keys.now) pages system.now) }
 {
     let mut pool = match Pool::open(alloc, device, FRAMES) {
         Ok(pool) => pool,
@@ -108,7 +114,9 @@ fn write_out<D: PageDevice, K: PseudoKey>(
     system: &System,
 ) -> Result<(), MakingFault>
     requires { IsReady pool.old }
-    ensures { KeepsDevice pool.old pool.new result }
+    ensures kept { KeepsDevice pool.old pool.new result }
+    ensures told { IsNew (K.of_key keys.now) pool.old →
+        IfErr result (MayNotFill (K.of_key keys.now) (length pool.old.images) system.now) }
 {
     let mut locks = match LockTable::new(alloc, 1) {
         Ok(locks) => locks,
@@ -146,6 +154,7 @@ fn confirm<D: PageDevice, K: PseudoKey>(
     ensures same { D.content device.new ≡ D.content device.old }
     ensures honest { D.is_honest device.new ≡ D.is_honest device.old }
     ensures cause { HasMakingCause (D.fault_count device.old) (D.fault_count device.new) result }
+    ensures told { IfErr result MayNotWrite }
 {
     let failed = device.faults();
     match is_file_of(alloc, device, keys, system) {

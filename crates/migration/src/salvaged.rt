@@ -5,10 +5,9 @@ ghost use Rattle.directory.specs.declared.layout.TheConstants.{LEAST_PAGES};
 ghost use Rattle.page_device.specs.Device.{HasRisen};
 ghost use Rattle.page_device.specs.declared.page.TheConstants.{MAX_PAGES};
 ghost use Rattle.migration.specs.Causes.{HasSalvageCause};
-ghost use Rattle.migration.specs.Copying.{IsMadeOf};
 ghost use Rattle.migration.specs.Gathering.{HasRescueCause, wants_memory};
 ghost use Rattle.migration.specs.Readable.{IsToldOfPages};
-ghost use Rattle.migration.specs.Rescues.{IsRescuedFrom, IsWhole};
+ghost use Rattle.migration.specs.Rescues.{IsFoundIn, IsMadeOrTold, IsRescuedFrom, IsWhole};
 
 use crate::found::gather;
 use crate::kept::{put_together, running};
@@ -58,8 +57,10 @@ pub fn salvage<O: PageDevice, N: PageDevice, K: PseudoKey>(
     requires empty { N.content target.device ≡ [] }
     requires least { LEAST_PAGES ≤ target.pages }
     requires most { target.pages ≤ MAX_PAGES }
-    ensures ok { IsTrue (N.is_honest target.device) → IfOk result.found (λ rescue.
-        IsMadeOf (K.of_key keys.now) target.pages (N.content result.new) rescue.system) }
+    ensures ok { IsTrue (N.is_honest target.device) →
+        IsMadeOrTold (K.of_key keys.now) target.pages (N.content result.new)
+        (IsFoundIn (K.of_key keys.now) (O.content old) (IsTrue (O.is_honest old))
+        (HasRisen (O.fault_count old) (O.fault_count result.old))) result.found }
     // Of a right file all is rescued, and what is told of one is so.
     ensures rescued { IsTrue (O.is_honest old) →
         IsRescuedFrom (K.of_key keys.now) (O.content old)

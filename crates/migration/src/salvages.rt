@@ -6,13 +6,12 @@ ghost use Rattle.directory.specs.declared.layout.TheConstants.{LEAST_PAGES};
 ghost use Rattle.page_device.specs.Device.{HasRisen};
 ghost use Rattle.page_device.specs.declared.page.TheConstants.{MAX_PAGES};
 ghost use Rattle.migration.specs.Causes.{HasSalvageCause};
-ghost use Rattle.migration.specs.Copying.{IsMadeOf};
 ghost use Rattle.msgq_cli.specs.Outputs.{Prints};
 ghost use Rattle.msgq_cli.specs.Reports.{deed_text};
 ghost use Rattle.msgq_cli.specs.Tasks.{IsFileSize};
 ghost use Rattle.msgq_cli.specs.declared.reports.Deed.TheVariants as deeds;
 ghost use Rattle.migration.specs.Printing.{IsSalvagedOrFault, unread_texts};
-ghost use Rattle.migration.specs.Rescues.{IsRescuedFrom};
+ghost use Rattle.migration.specs.Rescues.{IsFoundIn, IsMadeOrTold, IsRescuedFrom};
 
 use crate::losses::{Losses, Pages};
 use crate::made::Target;
@@ -154,8 +153,10 @@ where
     requires empty { N.content target.device ≡ [] }
     requires least { LEAST_PAGES ≤ target.pages }
     requires most { target.pages ≤ MAX_PAGES }
-    ensures ok { IsTrue (N.is_honest target.device) → IfOk result.found (λ rescue.
-        IsMadeOf sha_key target.pages (N.content result.new) rescue.system) }
+    ensures ok { IsTrue (N.is_honest target.device) →
+        IsMadeOrTold sha_key target.pages (N.content result.new)
+        (IsFoundIn sha_key (O.content old) (IsTrue (O.is_honest old))
+        (HasRisen (O.fault_count old) (O.fault_count result.old))) result.found }
     ensures rescued { IsTrue (O.is_honest old) → IsRescuedFrom sha_key (O.content old)
         (HasRisen (O.fault_count old) (O.fault_count result.old)) result.found }
     ensures same { O.content result.old ≡ O.content old }

@@ -1,17 +1,29 @@
 //! The records of a system are written into a new file, through the machines of the file.
 
-ghost use Rattle.std.specs.Prelude.{◌≡◌, [], OnOk};
-ghost use Rattle.queue_model.specs.Lawful.{IsLawfulQueue};
-ghost use Rattle.record_file.specs.Accesses.{access_locks};
+ghost use Rattle.std.specs.Prelude.{◌≡◌, ◌+◌, ◌*◌, ℕ, [], List, Option, None, IfErr, OnOk, length};
+ghost use Rattle.std.specs.List.{Contains};
+ghost use Rattle.buffer_pool.specs.Pool.{PoolState};
+ghost use Rattle.page_locks.specs.declared.lock.Lock.{Lock};
+ghost use Rattle.queue_model.specs.Lawful.{IsLawful, IsLawfulQueue};
+ghost use Rattle.queue_model.specs.State.{State};
+ghost use Rattle.queue_model.specs.declared.queue.Queue.{Queue};
+ghost use Rattle.queue_records.specs.Keys.{guard_of};
+ghost use Rattle.queue_records.specs.Range.{IsInRange};
+ghost use Rattle.queue_records.specs.Spelling.{key_of};
+ghost use Rattle.queue_records.specs.declared.record.Record.{Record};
+ghost use Rattle.queue_records.specs.declared.record.Record.TheVariants as records;
+ghost use Rattle.record_file.specs.Accesses.{access_key, access_locks};
+ghost use Rattle.record_file.specs.Purposes.{Purpose};
+ghost use Rattle.migration.specs.Filling.{HasCounter, HoldsOnly, IsAtRest, IsBegun, IsFilling, IsLeft, IsNew, IsOpen, IsToPut, MayNotFill, MayNotPut, MayNotWrite, Puts, held_in, lock_on};
 ghost use Rattle.migration.specs.Writing.{IsAlone, KeepsDevice};
 
 use crate::fault::MakingFault;
 use bucket_page::PseudoKey;
 use buffer_pool::Pool;
 use page_device::PageDevice;
-use page_locks::LockTable;
+use page_locks::{Grant, LockKind, LockName, LockTable};
 use queue_model::{Queue, System};
-use queue_records::{Counter, KeyEntry, Record};
+use queue_records::{Counter, KeyEntry, Record, TypeEntry};
 use record_file::Access;
 use record_walk::QueueLinks;
 use std::alloc::Global;
@@ -21,8 +33,9 @@ use xsi_inquiry::Write;
 /// The one seat.
 const SEAT: u8 = 1;
 
-/// An access of a lone seat ends within so many steps (docs/STEPS.md, "Lengths").
-const MOST_STEPS: u32 = 139_589;
+/// An access of a lone seat ends within so many steps, that by which it tells so among them
+/// (docs/STEPS.md, "Lengths").
+const MOST_STEPS: u32 = 139_590;
 
 /// Writes the records of a system into a new file, which one seat alone uses.
 pub(crate) fn write<D: PageDevice, K: PseudoKey>(
@@ -35,6 +48,8 @@ pub(crate) fn write<D: PageDevice, K: PseudoKey>(
     requires { IsAlone [] pool.old locks.old }
     ensures alone { OnOk result (IsAlone [] pool.new locks.new) }
     ensures kept { KeepsDevice pool.old pool.new result }
+    ensures told { IsNew (K.of_key keys.now) pool.old →
+        IfErr result (MayNotFill (K.of_key keys.now) (length pool.old.images) system.now) }
 {
     system.keeps_limits();
     for place in 0..system.queues() {
@@ -60,6 +75,12 @@ fn write_queue<D: PageDevice, K: PseudoKey>(
     requires lawful { IsLawfulQueue queue.now }
     ensures alone { OnOk result (IsAlone [] pool.new locks.new) }
     ensures kept { KeepsDevice pool.old pool.new result }
+    ensures put { (s : State) → IsLawful s → Contains s.queues queue.now →
+        IsOpen (K.of_key keys.now) s queue.now pool.old →
+        OnOk result (HoldsOnly (K.of_key keys.now) s queue.now pool.old pool.new) }
+    ensures told { (s : State) → IsLawful s → Contains s.queues queue.now →
+        IsOpen (K.of_key keys.now) s queue.now pool.old →
+        IfErr result (MayNotFill (K.of_key keys.now) (length pool.old.images) s) }
 {
     let Some(links) = QueueLinks::of(alloc, &queue.messages) else {
         return Err(MakingFault::NoMemory);
@@ -67,22 +88,12 @@ fn write_queue<D: PageDevice, K: PseudoKey>(
     let Some(entry) = links.queue_entry(alloc, queue) else {
         return Err(MakingFault::NoMemory);
     };
-    if let Some(key) = queue.key {
-        insert(
-            pool,
-            locks,
-            keys,
-            &Record::Key(KeyEntry { key, id: queue.id }),
-        )?;
-    }
+    insert_key(pool, locks, keys, queue)?;
     insert(pool, locks, keys, &Record::Queue(entry))?;
     for place in 0..queue.messages.len() {
         let message = queue.messages.get(place);
-        if let Some(entry) = links.type_entry(queue, message.mtype) {
-            if entry.first == message.serial {
-                insert(pool, locks, keys, &Record::Type(entry))?;
-            }
-        }
+        let first = links.type_entry(queue, message.mtype);
+        insert_type(pool, locks, keys, first, message.serial)?;
         insert(
             pool,
             locks,
@@ -91,6 +102,61 @@ fn write_queue<D: PageDevice, K: PseudoKey>(
         )?;
     }
     Ok(())
+}
+
+/// Inserts the Key of a queue, where it has a key.
+fn insert_key<D: PageDevice, K: PseudoKey>(
+    pool: &mut Pool<D>,
+    locks: &mut LockTable,
+    keys: &K,
+    queue: &Queue,
+) -> Result<(), MakingFault>
+    requires { IsAlone [] pool.old locks.old }
+    ensures alone { OnOk result (IsAlone [] pool.new locks.new) }
+    ensures kept { KeepsDevice pool.old pool.new result }
+    ensures put { (s : State) → IsLawful s → Contains s.queues queue.now →
+        IsOpen (K.of_key keys.now) s queue.now pool.old →
+        OnOk result (IsFilling (K.of_key keys.now) s queue.now 1 pool.old pool.new) }
+    ensures told { (s : State) → IsLawful s → Contains s.queues queue.now →
+        IsOpen (K.of_key keys.now) s queue.now pool.old →
+        IfErr result (MayNotFill (K.of_key keys.now) (length pool.old.images) s) }
+{
+    let Some(key) = queue.key else {
+        return Ok(());
+    };
+    insert(
+        pool,
+        locks,
+        keys,
+        &Record::Key(KeyEntry { key, id: queue.id }),
+    )
+}
+
+/// Inserts a Type of a queue, where the message of a serial is the first of it.
+fn insert_type<D: PageDevice, K: PseudoKey>(
+    pool: &mut Pool<D>,
+    locks: &mut LockTable,
+    keys: &K,
+    entry: Option<TypeEntry>,
+    serial: u64,
+) -> Result<(), MakingFault>
+    requires { IsAlone [] pool.old locks.old }
+    ensures alone { OnOk result (IsAlone [] pool.new locks.new) }
+    ensures kept { KeepsDevice pool.old pool.new result }
+    ensures put { (s : State) (q : Queue) (turn : ℕ) (start : PoolState) →
+        IsToPut (K.of_key keys.now) s q turn start entry serial pool.old →
+        OnOk result (IsFilling (K.of_key keys.now) s q (3 + 2 * serial) start pool.new) }
+    ensures told { (s : State) (q : Queue) (turn : ℕ) (start : PoolState) →
+        IsToPut (K.of_key keys.now) s q turn start entry serial pool.old →
+        IfErr result (MayNotFill (K.of_key keys.now) (length pool.old.images) s) }
+{
+    let Some(entry) = entry else {
+        return Ok(());
+    };
+    if entry.first != serial {
+        return Ok(());
+    }
+    insert(pool, locks, keys, &Record::Type(entry))
 }
 
 /// Inserts a record, as each call does. The file has none at its key.
@@ -103,12 +169,18 @@ fn insert<D: PageDevice, K: PseudoKey>(
     requires { IsAlone [] pool.old locks.old }
     ensures alone { OnOk result (IsAlone [] pool.new locks.new) }
     ensures kept { KeepsDevice pool.old pool.new result }
+    ensures put { IsAtRest (K.of_key keys.now) pool.old →
+        held_in pool.old (key_of record.now) ≡ None →
+        OnOk result (Puts (K.of_key keys.now) record.now pool.old pool.new) }
+    ensures told { IsInRange record.now → IsAtRest (K.of_key keys.now) pool.old →
+        held_in pool.old (key_of record.now) ≡ None →
+        IfErr result (MayNotPut (K.of_key keys.now) record.now pool.old) }
 {
     if !record.is_in_range() {
         return Err(MakingFault::Failed);
     }
     let mut access = Access::insert(record, keys.of(&record.key()));
-    drive(pool, locks, keys, &mut access)?;
+    carry_out(pool, locks, keys, guard_of(record), &mut access)?;
     if access.has_no_room() {
         return Err(MakingFault::NoRoom);
     }
@@ -125,6 +197,8 @@ fn replace<D: PageDevice, K: PseudoKey>(
     requires { IsAlone [] pool.old locks.old }
     ensures alone { OnOk result (IsAlone [] pool.new locks.new) }
     ensures kept { KeepsDevice pool.old pool.new result }
+    ensures told { IsInRange (records.Counter counter) → IsAtRest (K.of_key keys.now) pool.old →
+        HasCounter pool.old → IfErr result MayNotWrite }
 {
     let record = Record::Counter(counter);
     if !record.is_in_range() {
@@ -132,24 +206,71 @@ fn replace<D: PageDevice, K: PseudoKey>(
     }
     let pseudokey = keys.of(&record.key());
     let mut access = Access::write(&Write::Replace(record), pseudokey);
-    drive(pool, locks, keys, &mut access)
+    carry_out(pool, locks, keys, LockName::Counter, &mut access)
 }
 
-/// Steps an access, which has begun, to its end.
+/// The name under whose lock a record is written.
+fn guard_of(record: &Record<'_>) -> LockName
+    ensures { result ≡ guard_of (key_of record.now) }
+{
+    match record {
+        Record::Counter(_) => LockName::Counter,
+        Record::Key(entry) => LockName::Key(entry.key),
+        Record::Queue(entry) => LockName::Queue(entry.id),
+        Record::Type(entry) => LockName::Queue(entry.id),
+        Record::Message(entry) => LockName::Queue(entry.id),
+    }
+}
+
+/// Steps an access, which has begun, to its end, under the lock of its record.
+fn carry_out<D: PageDevice, K: PseudoKey>(
+    pool: &mut Pool<D>,
+    locks: &mut LockTable,
+    keys: &K,
+    name: LockName,
+    access: &mut Access,
+) -> Result<(), MakingFault>
+    requires alone { IsAlone [] pool.old locks.old }
+    requires name { name ≡ guard_of (access_key access.old) }
+    requires begun { (before : List Lock) → access_locks access.old before ≡ before }
+    ensures alone { OnOk result (IsAlone [] pool.new locks.new) }
+    ensures kept { KeepsDevice pool.old pool.new result }
+    ensures put { (p : Purpose) (found : Option Record) →
+        IsBegun (K.of_key keys.now) p found access.old pool.old →
+        OnOk result (IsLeft (K.of_key keys.now) p pool.old access.new pool.new) }
+    ensures told { (p : Purpose) (found : Option Record) →
+        IsBegun (K.of_key keys.now) p found access.old pool.old → IfErr result MayNotWrite }
+{
+    if let Grant::Blocked(_) = locks.try_grant(SEAT, name, LockKind::Exclusive) {
+        return Err(MakingFault::Failed);
+    }
+    drive(pool, locks, keys, access)?;
+    locks.release(SEAT, name);
+    Ok(())
+}
+
+/// Steps an access, which has begun, to its end. The seat holds the lock of its record.
 fn drive<D: PageDevice, K: PseudoKey>(
     pool: &mut Pool<D>,
     locks: &mut LockTable,
     keys: &K,
     access: &mut Access,
 ) -> Result<(), MakingFault>
-    requires alone { IsAlone [] pool.old locks.old }
-    requires begun { access_locks access.old [] ≡ [] }
-    ensures alone { OnOk result (IsAlone [] pool.new locks.new) }
+    requires alone { IsAlone (lock_on (access_key access.old)) pool.old locks.old }
+    requires begun { (before : List Lock) → access_locks access.old before ≡ before }
+    ensures alone { OnOk result (IsAlone (lock_on (access_key access.old)) pool.new locks.new) }
     ensures kept { KeepsDevice pool.old pool.new result }
+    ensures put { (p : Purpose) (found : Option Record) →
+        IsBegun (K.of_key keys.now) p found access.old pool.old →
+        OnOk result (IsLeft (K.of_key keys.now) p pool.old access.new pool.new) }
+    ensures told { (p : Purpose) (found : Option Record) →
+        IsBegun (K.of_key keys.now) p found access.old pool.old → IfErr result MayNotWrite }
 {
-    for _ in 0..MOST_STEPS {
+    locks.keeps_limits();
+    let mut moves = 0;
+    while moves < MOST_STEPS {
         match access.step(pool, locks, keys, SEAT) {
-            Progress::Moved(_) => {}
+            Progress::Moved(_) => moves += 1,
             Progress::Ended => return Ok(()),
             Progress::Fault(fault) => return Err(MakingFault::from(fault)),
             Progress::Blocked(_) => return Err(MakingFault::Failed),

@@ -15,12 +15,8 @@ pub mod ClosingLemmas
 pub mod ModelWords
 pub mod StopLemmas
 pub mod RunLemmas
-pub mod SeatLemmas
-pub mod CountLemmas
-pub mod RoomLemmas
 pub mod CallLemmas
 pub mod ServeLemmas
-pub mod PlainRunLemmas
 pub mod LineLemmas
 pub mod FitLemmas
 pub mod MarkLemmas

@@ -1,43 +1,40 @@
 -- Files opened, run on and closed.
-use Rattle.std.proofs.Common.{◌≡◌, ◌≢◌, ◌⊎◌, inl, inr, Bool, true, false, true≢false, List, [], ◌∷◌, ℕ, suc, ◌≤◌, refl, sym, ap, ◌∙◌, subst, slice_index_or, Option, Some, None, Result, Ok, Err, arith}
-use Rattle.std.specs.List.{list_any}
+use Rattle.std.proofs.Common.{◌≡◌, ◌≢◌, ◌⊎◌, inl, inr, Bool, true, false, true≢false, List, ℕ, refl, sym, ◌∙◌, subst, Option, Some, None, Result, Ok, Err, arith}
 use Rattle.page_device.specs.Device.{HasRisen}
 use Rattle.page_device.specs.Fault.{number_of}
 use Rattle.page_device.specs.declared.fault.DeviceFault.{DeviceFault}
 use Rattle.page_device.specs.declared.fault.DeviceFault.TheVariants as device
 use Rattle.bucket_page.specs.Pseudokeys.{sha_key}
-use Rattle.interleavings.specs.LoneKernelLaws.{ClosesAKernel}
-use Rattle.interleavings.specs.LoneKernelWords.{ActiveView, IsFlushedTo, KernelState, State}
+use Rattle.interleavings.specs.LoneKernelWords.{Caller, State}
 use Rattle.interleavings.specs.interleaving_core.Beginning.{MayRefuseUnchecked}
-use Rattle.interleavings.specs.interleaving_core.Closing.{IsBusy, has_one}
-use Rattle.interleavings.specs.interleaving_core.Fault.{device_failed, open_number_of}
+use Rattle.interleavings.specs.interleaving_core.Fault.{close_number_of, device_failed, open_number_of}
 use Rattle.interleavings.specs.interleaving_core.declared.fault.CloseFault.{CloseFault}
 use Rattle.interleavings.specs.interleaving_core.declared.fault.CloseFault.TheVariants as closes
 use Rattle.interleavings.specs.interleaving_core.declared.fault.OpenFault.{OpenFault}
 use Rattle.interleavings.specs.interleaving_core.declared.fault.OpenFault.TheVariants.{NoMemory, TooFewFrames, Wrong}
 use Rattle.file_walk.specs.declared.fault.StructureFault.TheVariants as structure
+use Rattle.interleavings.proofs.ToldLemmas.{risen_since}
 use Rattle.interleavings.proofs.of_file_check.Today.{file_has_no_fault}
 use Rattle.interleavings.specs.Files.{no_queues}
+use Rattle.session.specs.Making.{SessionState}
+use Rattle.session.specs.Session.{ClosesOn, Holds, OpensAny}
 use Rattle.msgq_cli.specs.record_file.Files.{IsNewFile, MayNotFormat}
 use Rattle.msgq_cli.specs.file_check.declared.fault.CheckFault.TheVariants.{Structure}
 use Rattle.msgq_cli.specs.file_check.Whole.{IsFileOf}
 use Rattle.msgq_cli.specs.Outputs.{OutputState, Prints}
 use Rattle.msgq_cli.specs.Refusals.{IsFaultAlone, IsRefused}
-use Rattle.msgq_cli.specs.Runs.{printed}
-use Rattle.msgq_cli.specs.Scripts.{Parts, Reads, script_of}
+use Rattle.msgq_cli.specs.Runs.{ending_of, printed}
+use Rattle.msgq_cli.specs.Scripts.{Parts, Reads, caller_of, greatest_seat, script_of}
 use Rattle.msgq_cli.specs.declared.ending.Ending.{Ending}
 use Rattle.msgq_cli.specs.declared.script.ScriptError.{ScriptError}
 use Rattle.msgq_cli.specs.declared.script.ScriptError.TheVariants as scripts
-use Rattle.replays.specs.Replays.{EndsWith, IsOpenedForSeats}
+use Rattle.replays.specs.Replays.{EndsWith}
 use Rattle.replays.specs.Texts.{Effects}
-use Rattle.replays.specs.Runs.{GoesByRules, IsRun, Stands, standing}
-use Rattle.replays.specs.Serves.{EndsWell, IsRunNew, IsRunOn, RunsOn, RunsScriptOn, RunsTextOn}
+use Rattle.replays.specs.Runs.{EndsWell, Stands}
+use Rattle.replays.specs.PlainRuns.{RepliesAlong, RunsFile, RunsPlainly}
+use Rattle.replays.specs.Serves.{IsRunNew, IsRunOn, RunsOn, RunsScriptOn, RunsTextOn}
 use Rattle.replays.specs.declared.serving.TheConstants.{MEMORY_PAGES}
-use Rattle.replays.proofs.CallLemmas.{risen_since}
-
--- a kernel has failed or has not
-apart : {K : Type 0} (k : KernelState K) → k.failed ≡ false → k.failed ≡ true → ⊥
-apart k sound failed = absurd cc
+use Rattle.replays.proofs.CallLemmas.{apart}
 
 -- a device in memory does not fail
 pub never_fails : (old : ℕ) → HasRisen old 0 → ⊥
@@ -55,66 +52,34 @@ no_memory device.NoMemory may failed = refl
 
 -- ---- it is closed
 
--- a kernel that has not failed holds a system, which its file has once that is written
-pub ends_kept : {K : Type 0} → ClosesAKernel K → (was n faults : ℕ) (k : KernelState K) (left : List (List ℕ))
-    (untold : Bool) → k.failed ≡ false → IsFlushedTo k.pool left → (s : Option State) → Stands was k s n →
-    EndsWell s left untold was faults None
-ends_kept closes was n faults k left untold sound flushed None stands = absurd (apart k sound stands.failed)
-ends_kept closes was n faults k left untold sound flushed (Some s) stands =
-    inl (record { sound = refl; file = λ _. closes sha_key s left k stands.rests flushed })
+-- a session that has not failed holds a system, which its file has once that is written
+module _ (was faults : ℕ) (k : SessionState) (left : List (List ℕ)) (untold : Bool) where
+  pub ends_kept : k.failed ≡ false → ((s : State) → Holds s k → ClosesOn s k None left faults) →
+      (s : Option State) → Stands was k s → EndsWell s left untold was faults None
+  ends_kept sound file None stands = absurd (apart k sound stands.failed)
+  ends_kept sound file (Some s) stands = inl (record { sound = refl; file = λ _. (file s stands.holds).0 })
 
--- it is let go, since the output refused a write
-pub ends_untold : {K : Type 0} (was n faults : ℕ) (k : KernelState K) (left : List (List ℕ)) (untold : Bool) →
-    k.failed ≡ false → untold ≡ true → (s : Option State) → Stands was k s n →
-    EndsWell s left untold was faults None
-ends_untold was n faults k left untold sound refused None stands = absurd (apart k sound stands.failed)
-ends_untold was n faults k left untold sound refused (Some s) stands =
-    inl (record { sound = refl; file = λ told. absurd (true≢false (sym refused ∙ told)) })
+  -- it is let go, since the output refused a write
+  pub ends_untold : k.failed ≡ false → untold ≡ true → (s : Option State) → Stands was k s →
+      EndsWell s left untold was faults None
+  ends_untold sound refused None stands = absurd (apart k sound stands.failed)
+  ends_untold sound refused (Some s) stands =
+      inl (record { sound = refl; file = λ told. absurd (true≢false (sym refused ∙ told)) })
 
--- or since a line has failed, as its device has
-pub ends_failed : {K : Type 0} (was n faults : ℕ) (k : KernelState K) (left : List (List ℕ)) (untold : Bool) →
-    k.failed ≡ true → faults ≡ k.pool.faults → (s : Option State) → Stands was k s n →
-    EndsWell s left untold was faults (Some 62)
-ends_failed was n faults k left untold failed same None stands =
-    record { told = refl; risen = subst (HasRisen was) (sym same) stands.risen }
-ends_failed was n faults k left untold failed same (Some s) stands = absurd (apart k stands.rests.sound failed)
+  -- or since a line has failed, as its device has
+  pub ends_failed : k.failed ≡ true → faults ≡ k.pool.faults → (s : Option State) → Stands was k s →
+      EndsWell s left untold was faults (Some 62)
+  ends_failed failed same None stands = record { told = refl; risen = subst (HasRisen was) (sym same) stands.risen }
+  ends_failed failed same (Some s) stands = absurd (apart k stands.holds.sound failed)
 
--- the device has failed at the closing
-pub ends_unclosed : {K : Type 0} (was n faults number : ℕ) (k : KernelState K) (left : List (List ℕ))
-    (untold : Bool) → k.failed ≡ false → number ≡ 20 → HasRisen k.pool.faults faults → (s : Option State) →
-    Stands was k s n → EndsWell s left untold was faults (Some number)
-ends_unclosed was n faults number k left untold sound is risen None stands = absurd (apart k sound stands.failed)
-ends_unclosed was n faults number k left untold sound is risen (Some s) stands =
-    inr (record { told = ap Some is; risen = risen_since was k.pool.faults faults stands.later risen })
-
--- what has failed since a later moment has since an earlier one
-pub ends_since : (first was faults : ℕ) (left : List (List ℕ)) (untold : Bool) (fault : Option ℕ) → first ≤ was →
-    (s : Option State) → EndsWell s left untold was faults fault → EndsWell s left untold first faults fault
-ends_since first was faults left untold fault before None fails =
-    record { told = fails.told; risen = risen_since first was faults before fails.risen }
-ends_since first was faults left untold fault before (Some s) (inl kept) = inl kept
-ends_since first was faults left untold fault before (Some s) (inr fails) =
-    inr (record { told = fails.told; risen = risen_since first was faults before fails.risen })
-
--- a kernel that has not failed is not closed well only where the device has failed
-pub is_device : {K : Type 0} (fault : CloseFault) (k : KernelState K) → k.failed ≡ false →
-    (◌≡◌ {A = Option CloseFault} (Some fault) (Some closes.Failed) → k.failed ≡ true) → fault ≡ closes.Device
-is_device closes.Device k sound failed = refl
-is_device closes.Failed k sound failed = absurd (apart k sound (failed refl))
-
--- no call is under way
-none_under_way : (seats : List (Option ActiveView)) → ((place : ℕ) → slice_index_or seats place None ≡ None) →
-    list_any has_one seats ≡ false
-none_under_way [] idle = refl
-none_under_way (None ∷ seats) idle = none_under_way seats (λ place. idle (suc place))
-none_under_way (Some a ∷ seats) idle = absurd (let there = idle 0 in cc)
-
-pub is_free : {K : Type 0} (was n : ℕ) (k : KernelState K) → IsBusy k → (t : Option State) → Stands was k t n → ⊥
-is_free was n k busy None stands = apart k busy.sound stands.failed
-is_free was n k busy (Some s) stands =
-    let none = none_under_way k.seats (λ place. stands.rests.idle (suc place)) in
-    let some = busy.call in
-    cc
+  -- the device has failed at the closing
+  pub ends_unclosed : (fault : CloseFault) → k.failed ≡ false →
+      ((s : State) → Holds s k → ClosesOn s k (Some fault) left faults) →
+      (s : Option State) → Stands was k s → EndsWell s left untold was faults (Some (close_number_of fault))
+  ends_unclosed fault sound closed None stands = absurd (apart k sound stands.failed)
+  ends_unclosed closes.Device sound closed (Some s) stands =
+      inr (record { told = refl; risen = risen_since stands.later (closed s stands.holds) })
+  ends_unclosed closes.Failed sound closed (Some s) stands = absurd (closed s stands.holds)
 
 -- ---- a text
 
@@ -133,6 +98,12 @@ pub runs_script : (text : List ℕ) (honest : Bool) (c : Effects) (ending : Endi
     script_of text ≡ Ok script → RunsOn script honest c ending → RunsTextOn text honest c ending
 runs_script text honest c ending script reads runs =
     inl (subst (λ (r : Result Parts ℕ). RunsScriptOn r honest c ending) (sym reads) runs)
+
+-- in plain words
+pub plainly : (script : Parts) (honest : Bool) (c : Effects) (ending : Ending) → RunsOn script honest c ending →
+    RunsPlainly script honest c ending
+plainly script honest c ending (inl run) = inl run.run
+plainly script honest c ending (inr unopened) = inr unopened
 
 -- ---- a new file in memory
 
@@ -159,45 +130,49 @@ module _ (content : List (List ℕ)) (file : IsFileOf sha_key content no_queues)
 
     -- a run on it that ends with no fault
     module _ (r : IsRunOn script true c ending) where
-      new_of : (s : State) → s ≡ no_queues →
-          (goes : GoesByRules script r.run.replies (standing r.first (Some s) 0) r.last) → goes.system ≢ None →
-          (o : OutputState) (e : Ending) → o ≡ r.told → e ≡ r.so_far → IsRunNew script c.old o e
-      new_of s same goes sound o e is_o is_e = record {
+      run_new : IsRunNew script c.old c.new ending
+      run_new = record {
         content = content;
         file = new;
         first = r.first;
-        opened = subst (λ (p : List (List ℕ)). IsOpenedForSeats script p true r.first) its r.opened;
+        opened = subst (λ (p : List (List ℕ)). OpensAny sitter p true 0 r.first) its
+            (subst (λ (n : ℕ). OpensAny sitter c.content true n r.first) none_before r.opened);
         last = r.last;
-        run = run_at;
-        goes = from.0;
-        sound = from.1;
+        run = record {
+          replies = r.run.replies;
+          takes = r.takes;
+          prints = subst (λ (o : OutputState). Prints c.old o (printed script.lines r.run.replies)) (sym last.0)
+              r.run.prints;
+          ends = last.1;
+        };
+        after = there.0;
+        replied = subst (λ (s : State). RepliesAlong script.ids script.lines (Some s) r.run.replies (Some there.0)) same
+            (subst (RepliesAlong script.ids script.lines (Some on.system) r.run.replies) there.1 on.replied);
       }
         where
-          run_at : IsRun script r.first r.last c.old o e
-          run_at = record {
-            replies = r.run.replies;
-            takes = r.run.takes;
-            prints = subst (λ (x : OutputState). Prints c.old x (printed script.lines r.run.replies)) (sym is_o)
-                r.run.prints;
-            ends = is_e ∙ r.run.ends;
-            rules = r.run.rules;
-          }
+          sitter : Caller
+          sitter = caller_of (greatest_seat script.lines) script.ids
 
-          From : State → Type 0
-          From t = (g : GoesByRules script r.run.replies (standing r.first (Some t) 0) r.last) × (g.system ≢ None)
+          on : RunsFile script c r.run.replies r.run.fault
+          on = r.run.rules refl
 
-          from : From no_queues
-          from = subst From same (goes, sound)
+          same : on.system ≡ no_queues
+          same = file.system.only on.system
+              (subst (λ (p : List (List ℕ)). IsFileOf sha_key p on.system) its on.file).system.has
 
-      run_new : IsRunNew script c.old c.new ending
-      run_new =
-          let on = r.rules refl in
-          let same : on.system ≡ no_queues = file.system.only on.system
-          (subst (λ (p : List (List ℕ)). IsFileOf sha_key p on.system) its on.file).system.has in
-          let sound = sound_end on.goes.system r.fault on.ends in
-          let last : EndsWith None r.told r.so_far c.new ending =
-          subst (λ (f : Option ℕ). EndsWith f r.told r.so_far c.new ending) sound.1 r.ends in
-          new_of on.system same on.goes sound.0 c.new ending last.0 last.1
+          sound : (on.after ≢ None) × (r.run.fault ≡ None)
+          sound = sound_end on.after r.run.fault on.ends
+
+          last : EndsWith None r.run.told (ending_of r.run.replies) c.new ending
+          last = subst (λ (f : Option ℕ). EndsWith f r.run.told (ending_of r.run.replies) c.new ending) sound.1
+              r.run.ends
+
+          some : (t : Option State) → t ≢ None → (u : State) × (t ≡ Some u)
+          some None not = absurd (not refl)
+          some (Some u) not = (u, refl)
+
+          there : (t : State) × (on.after ≡ Some t)
+          there = some on.after sound.0
 
     pub runs_in_memory : RunsOn script true c ending →
         IsRunNew script c.old c.new ending ⊎ IsFaultAlone 60 c.old c.new ending

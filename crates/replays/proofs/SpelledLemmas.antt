@@ -9,10 +9,10 @@ use Rattle.msgq_cli.specs.declared.reply.Reply.{Reply}
 use Rattle.interleavings.specs.LoneKernelWords.{State}
 use Rattle.replays.specs.Beside.{RunsAsOne, RunsBeside, RunsBesideBy, RunsScriptOn, is_of_one_seat, origin_on}
 use Rattle.replays.specs.PlainRuns.{IsPlainRun, IsPlainRunBy, RunsFile, RunsPlainly}
-use Rattle.replays.specs.Serves.{EndsWell}
+use Rattle.replays.specs.Runs.{EndsWell}
 use Rattle.replays.specs.Spelled.{EndsSpelled, IsLeftUnopened, IsSpelledJournal, LeavesSpelled, RunsAsOneSpelled, RunsPages, RunsScriptSpelled, RunsSpelled}
 use Rattle.replays.specs.Texts.{Effects, IsUnopened}
-use Rattle.replays.proofs.PlainRunLemmas.{plainly}
+use Rattle.replays.proofs.ServeLemmas.{plainly}
 use Rattle.workers.specs.Origins.{IsJournalOf, LeavesFile}
 
 ends_spelled : (s : Option State) (left : List (List ℕ)) (untold : Bool) (was faults : ℕ) (fault : Option ℕ) →
@@ -58,7 +58,7 @@ module _ (script : Parts) (honest : Bool) (c : Effects) (ending : Ending) where
 
   -- ---- a thread a seat
 
-  journal_spelled : (journal : List Entry) → IsJournalOf (origin_on script honest c) journal →
+  abbrev journal_spelled : (journal : List Entry) → IsJournalOf (origin_on script honest c) journal →
       IsSpelledJournal script c.content journal
   journal_spelled journal is = record {
     base = is.base;

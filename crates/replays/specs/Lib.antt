@@ -5,11 +5,10 @@ pub mod Journal
 pub mod PlainLists
 pub mod Replays
 pub mod Texts
-pub mod Telling
 pub mod Taking
 pub mod Runs
-pub mod Serves
 pub mod PlainRuns
+pub mod Serves
 pub mod Lines
 pub mod Desks
 pub mod Printing

@@ -17,8 +17,7 @@ use Rattle.msgq_cli.specs.declared.reply.Reply.{Reply}
 use Rattle.msgq_cli.specs.declared.reply.Reply.TheVariants.{Answered, Stopped, Failed}
 use Rattle.replays.specs.Replays.{EndsWith}
 use Rattle.replays.specs.Texts.{Effects, IsUnopened}
-use Rattle.replays.specs.Runs.{IsReady, IsTurned, stop}
-use Rattle.replays.specs.Serves.{EndsWell}
+use Rattle.replays.specs.Runs.{EndsWell, IsReady, IsTurned, stop}
 
 -- ---- what lines are replied
 

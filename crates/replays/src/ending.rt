@@ -4,7 +4,6 @@ ghost use Rattle.std.specs.Prelude.{◌≡◌, false, None};
 ghost use Rattle.replays.specs.Replays.{EndsWith, IsClosedWell, IsReplayed, MayEndWith, may_write};
 
 use crate::onlooker::Onlooker;
-use crate::opening::FileKeys;
 use crate::printing::print_replies;
 use crate::replay::Replay;
 use crate::rounds::finish;
@@ -16,6 +15,7 @@ use msgq_cli::{Ending, Output, Stage, fail};
 use numbers::faults;
 use page_device::PageDevice;
 use schedules::Event;
+use session::FileKeys;
 use std::io::Write;
 
 /// What a replay leaves.

@@ -7,7 +7,6 @@ ghost use Rattle.replays.specs.Places.{place_of};
 
 use crate::deed::{Deed, deed_by, reply_by};
 use crate::onlooker::{Onlooker, Sight};
-use crate::opening::FileKeys;
 use crate::progress::Progress;
 use interleavings::interleaving_core::Kernel;
 use msgq_cli::{Command, Line, Reply};
@@ -15,6 +14,7 @@ use numbers::faults;
 use page_device::PageDevice;
 use page_locks::LockTable;
 use queue_model::Call;
+use session::FileKeys;
 
 /// The next line of a seat is begun, if one is left. It is replied at once where it is a `stop`, or
 /// where its call is refused.

@@ -18,12 +18,9 @@ use interleavings::interleaving_core::{FRAMES_BESIDE, Kernel, OpenFault};
 use msgq_cli::{Ending, Output, Script, Stage, fail, print_fault};
 use page_device::PageDevice;
 use queue_model::{Caller, NoMemory};
+use session::FileKeys;
 use std::alloc::Global;
 use std::io::Write;
-
-/// How the keys of a file are spread over its buckets: by digests, which are kept for their next
-/// use.
-pub type FileKeys = KeptKeys<ShaKey>;
 
 /// The frames that are needed for each seat.
 const FRAMES_A_SEAT: usize = 4;

@@ -10,11 +10,11 @@ ghost use Rattle.replays.specs.Places.{is_idle_for_good};
 use crate::deed::Deed;
 use crate::line_events::{begin_next, step_line};
 use crate::onlooker::{Onlooker, Sight};
-use crate::opening::FileKeys;
 use crate::progress::Progress;
 use interleavings::interleaving_core::Kernel;
 use page_device::PageDevice;
 use schedules::Event;
+use session::FileKeys;
 use std::marker::Model;
 use step_rules::Kind;
 

@@ -10,12 +10,12 @@ ghost use Rattle.replays.specs.Replays.{callers_of};
 ghost use Rattle.replays.specs.Beside.{is_of_one_seat};
 ghost use Rattle.replays.specs.Desks.{AreFresh, IsPlanOf, IsPreparedFor};
 
-use crate::opening::FileKeys;
 use crate::seat_lines::SeatLines;
 use bucket_page::{KeptKeys, ShaKey};
 use msgq_cli::Script;
 use page_device::PageDevice;
 use queue_model::{Caller, NoMemory};
+use session::FileKeys;
 use std::alloc::Global;
 use workers::Prepared;
 use workers::interleavings::interleaving_core::{FRAMES_BESIDE, OpenFault};

@@ -3,23 +3,23 @@
 ghost use Rattle.std.specs.Prelude.{◌≡◌, ◌⊎◌, ℕ, false, true, IsTrue, None, Option};
 ghost use Rattle.interleavings.specs.LoneKernelWords.{State};
 ghost use Rattle.replays.specs.PlainRuns.{RunsPlainly};
-ghost use Rattle.replays.specs.Runs.{Stands};
-ghost use Rattle.replays.specs.Serves.{EndsWell, RunsInput, RunsOn, RunsText, RunsTextOn};
+ghost use Rattle.replays.specs.Runs.{EndsWell, Stands};
+ghost use Rattle.replays.specs.Serves.{RunsInput, RunsOn, RunsText, RunsTextOn};
 ghost use Rattle.replays.specs.Spelled.{RunsSpelled};
+ghost use Rattle.session.specs.Session.{saved_of};
 
 use crate::ending::{Ran, tell_end};
-use crate::opening::{FileKeys, leave_refused, open_kernel};
+use crate::opening::leave_refused;
 use crate::runs::run_lines;
-use interleavings::interleaving_core::{Kernel, NotClosed};
-use interleavings::{
-    a_kernel_at_rest_closes_on_its_file, a_kernel_opens_at_rest, a_new_file_has_no_queues,
-};
+use interleavings::a_new_file_has_no_queues;
+use interleavings::interleaving_core::Failure;
 use msgq_cli::record_file::format;
 use msgq_cli::{
     Ending, Output, Script, Stage, complain_of, fail, read_script, read_text, refuse, unread,
 };
 use numbers::faults;
 use page_device::{MemDevice, PageDevice};
+use session::Session;
 use std::alloc::Global;
 use std::io::{Read, Write};
 
@@ -162,17 +162,17 @@ pub fn run_on<D: PageDevice + Drop, W: Write + Drop>(
         }) result.ending }
     ensures same { D.is_honest result.device ≡ D.is_honest device }
 {
-    a_kernel_opens_at_rest::<FileKeys>();
-    script.keeps_seats();
-    let mut kernel = match open_kernel(alloc, device, script) {
-        Ok(kernel) => kernel,
+    let seat = script.greatest_seat();
+    let mut session = match Session::on(alloc, device, script.caller(seat)) {
+        Ok(session) => session,
         Err((device, fault)) => return Ran::unrun(device, leave_refused(fault, output)),
     };
-    let so_far = run_lines(script, &mut kernel, output);
+    let so_far = run_lines(script, &mut session, output);
     output.flush();
     let is_untold = output.has_refused();
-    let failure = kernel.failure();
-    let (device, fault) = end_kernel(kernel, is_untold);
+    // a session has a seat of its own, which is that of the lines where they are of one
+    let failure = session.failure().map(|failure| Failure { seat, ..failure });
+    let (device, fault) = end_session(session, is_untold);
     let ending = tell_end(fault, so_far, output);
     Ran {
         device,
@@ -182,29 +182,25 @@ pub fn run_on<D: PageDevice + Drop, W: Write + Drop>(
     }
 }
 
-/// Closes the kernel of a run, or lets it go where a line has failed or the output refused a write,
+/// Closes the session of a run, or lets it go where a line has failed or the output refused a write,
 /// and tells why it was not closed well, if it was not.
-fn end_kernel<D: PageDevice + Drop>(kernel: Kernel<D, FileKeys>, is_untold: bool) -> (D, Option<u8>)
-    ensures ends { (was : ℕ) (s : Option State) (n : ℕ) → Stands was kernel s n →
-        IsTrue kernel.pool.honest → EndsWell s (D.content result.0) is_untold
-        was (D.fault_count result.0) result.1 }
-    ensures unwritten { (is_untold ≡ true) ⊎ (kernel.failed ≡ true) →
-        D.content result.0 ≡ kernel.pool.stored }
-    ensures synced { is_untold ≡ false → result.1 ≡ None → IsTrue kernel.pool.honest →
+fn end_session<D: PageDevice + Drop>(session: Session<D>, is_untold: bool) -> (D, Option<u8>)
+    ensures ends { (was : ℕ) (s : Option State) → Stands was session s →
+        EndsWell s (D.content result.0) is_untold was (D.fault_count result.0) result.1 }
+    ensures unwritten { (is_untold ≡ true) ⊎ (session.failed ≡ true) →
+        D.content result.0 ≡ saved_of session }
+    ensures synced { is_untold ≡ false → result.1 ≡ None → IsTrue session.pool.honest →
         IsTrue (D.is_synced result.0) }
-    ensures same { D.is_honest result.0 ≡ kernel.pool.honest }
+    ensures same { D.is_honest result.0 ≡ session.pool.honest }
 {
-    a_kernel_at_rest_closes_on_its_file::<FileKeys>();
-    if kernel.has_failed() {
-        return (kernel.abandon().device, Some(faults::FAILED));
+    if session.has_failed() {
+        return (session.abandon(), Some(faults::FAILED));
     }
     if is_untold {
-        return (kernel.abandon().device, None);
+        return (session.abandon(), None);
     }
-    match kernel.close() {
-        Ok(closed) => (closed.device, None),
-        Err(NotClosed::Fault(closed, fault)) => (closed.device, Some(fault.number())),
-        // a device that is not honest may leave a call that is never answered
-        Err(NotClosed::Busy(kernel)) => (kernel.abandon().device, Some(faults::FAILED)),
+    match session.close() {
+        Ok(device) => (device, None),
+        Err((device, fault)) => (device, Some(fault.number())),
     }
 }

@@ -4,9 +4,9 @@ ghost use Rattle.std.specs.Prelude.{◌≡◌, ◌∷◌, ◌++◌, [], IfOk, Is
 ghost use Rattle.queue_model.specs.declared.entry.Entry.TheVariants.{Decided};
 ghost use Rattle.workers.specs.Told.{IsSameSeat, SeesFull};
 
-use crate::opening::FileKeys;
 use page_device::PageDevice;
 use queue_model::{Answer, Call};
+use session::FileKeys;
 use std::sync::Mutex;
 use workers::{Base, Fault, Open, Room, Seat, Service, Stopper};
 

@@ -29,7 +29,7 @@ use Rattle.workers.specs.declared.fault.Fault.{Fault}
 use Rattle.workers.specs.declared.fault.Fault.TheVariants as faults
 
 -- what leaves it over its system leaves it over the same pages
-pub carried : {K : Type 0} (hash : RecordKey → ℕ) (content : List (List ℕ)) (old new : KernelState K) →
+abbrev pub carried : {K : Type 0} (hash : RecordKey → ℕ) (content : List (List ℕ)) (old new : KernelState K) →
     RefinesFile hash content old → ((base : State) → Refines hash base old → Refines hash base new) →
     RefinesFile hash content new
 carried hash content old new was goes = record { base = was.base; file = was.file; led = goes was.base was.led }

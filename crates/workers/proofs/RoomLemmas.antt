@@ -1,5 +1,5 @@
 -- A call of a service that is told that a record has no room had something to insert.
-use Rattle.std.proofs.Common.{ℕ, ◌≡◌, inl, inr, refl, sym, ap, ◌∙◌, subst, false, IsTrue, List, Option, Some, None, length}
+use Rattle.std.proofs.Common.{ℕ, ◌≡◌, inl, inr, refl, sym, ap, ◌∙◌, subst, IsTrue, List, Some, None, length}
 use Rattle.std.proofs.lemmas.Bool.{cases_eq}
 use Rattle.interleaving_core.proofs.PlaceLemmas.{Seats, at_other}
 use Rattle.interleaving_core.specs.declared.fault.StepFault.{StepFault}
@@ -10,15 +10,15 @@ use Rattle.interleavings.proofs.NoRoomLemmas.{step_told}
 use Rattle.interleavings.specs.Moments.{HasToInsert}
 use Rattle.interleavings.specs.Words.{IsStep}
 use Rattle.workers.proofs.HeldLemmas.{place_is}
-use Rattle.workers.specs.Causes.{HasCause, IsHadBy, TellsNoRoom}
+use Rattle.workers.specs.Causes.{HadToInsert, HasCause, IsHadBy, TellsNoRoom}
 use Rattle.workers.specs.Fault.{fault_of_step}
-use Rattle.workers.specs.Held.{IsKept, known_of, place_of}
+use Rattle.workers.specs.Held.{IsKept, known_of}
 use Rattle.workers.specs.Entries.{seat_of}
 use Rattle.workers.specs.Origins.{Origin}
 use Rattle.workers.specs.Rule.{IsRight}
 use Rattle.workers.specs.Told.{IsTold, IsTurnedAway, Sitter}
 use Rattle.workers.specs.Views.{place_at}
-use Rattle.workers.specs.Words.{ActiveView, Call, Caller, Desk, Entry, IsLegal, KernelState, Place, RecordKey, State, Step, call_at, call_of, with_call}
+use Rattle.workers.specs.Words.{Call, Caller, Desk, Entry, IsLegal, KernelState, Place, RecordKey, State, Step, call_at, call_of, with_call}
 use Rattle.workers.specs.declared.fault.Fault.{Fault}
 use Rattle.workers.specs.declared.fault.Fault.TheVariants as calls
 
@@ -91,6 +91,13 @@ pub cause_of_step : (o : Origin) (call : Call) (fault : StepFault) (said : Fault
 cause_of_step o call faults.NoRoom said x y is t room at =
     subst (HasCause o call y) (sym is) (λ honest. subst (IsHadBy o) at (room honest))
 cause_of_step o call (faults.File fault) said x y is t room at = subst (HasCause o call y) (sym is) (t.failed refl)
+
+pub no_room_cause : (o : Origin) (call : Call) (fault : StepFault) (said : Fault) (x y : Sitter) →
+    said ≡ fault_of_step fault → IsTold (steps.Fault fault) x y →
+    TellsNoRoom o (steps.Fault fault) x.place.call → x.place.call ≡ Some call → said ≡ calls.NoRoom →
+    IsTrue o.honest → HadToInsert o call
+no_room_cause o call fault said x y is t room at same =
+    subst (HasCause o call y) same (cause_of_step o call fault said x y is t room at)
 
 -- or as the call does not begin
 pub cause_of_refusal : (o : Origin) (call : Call) (said : Fault) (x y : Sitter) →

@@ -1,68 +1,59 @@
-use Rattle.std.proofs.Common.{[], sym, ap, ◌∙◌, subst, inl, inr, append-nil, Bool, IsTrue, arith}
-use Rattle.bucket_page.specs.Pseudokeys.{sha_key}
-use Rattle.interleavings.specs.LoneKernelWords.{PoolState}
+use Rattle.std.proofs.Common.{[], sym, ◌∙◌, subst, inl, inr, append-nil, Bool, IsTrue, Some}
 use Rattle.msgq_cli.specs.Outputs.{Prints}
 use Rattle.msgq_cli.specs.Runs.{printed}
-use Rattle.msgq_cli.specs.Scripts.{greatest_seat}
+use Rattle.msgq_cli.specs.declared.ending.Ending.{Ending}
 use Rattle.msgq_cli.proofs.OutputLemmas.{Prints-then}
-use Rattle.replays.proofs.OpeningLemmas.{greatest_within, length-callers_of, stored_before}
-use Rattle.replays.proofs.CallLemmas.{opened_decided}
-use Rattle.replays.proofs.ServeLemmas.{ends_since}
-use Rattle.replays.proofs.PlainRunLemmas.{plainly}
+use Rattle.replays.specs.Replays.{EndsWith}
+use Rattle.replays.proofs.CallLemmas.{failed_where, go_along, kept_along}
+use Rattle.replays.proofs.ServeLemmas.{plainly}
 use Rattle.replays.proofs.SpelledLemmas.{spelled}
 use Rattle.replays.proofs.serving.run_on.Goals as goal
 
--- the kernel that was opened rests over the file's system
+-- the session that was opened holds the file's system
 pub returns-clause-served : goal.returns-clause-served
 returns-clause-served g c =
-    let for = c.in-Ok.ensures.ok in
-    let first = c.in-Ok.kernel in
-    let last = c.run_lines-so_far.new.kernel in
-    let ran = c.run_lines-so_far.ensures.ran in
-    let fault = c.end_kernel-device.result.1 in
-    let within = greatest_within c.args.script.now c.keeps_seats.ensures in
-    let some = within.0 in
-    let few = within.1 in
-    let still = c.run_lines-so_far.ensures.honest ∙ ap (λ (p : PoolState). p.honest) for.opened.pool in
-    let long = length-callers_of c.args.script.now.ids (greatest_seat c.args.script.now.lines) in
+    let on = c.in-Ok.ensures.ok in
+    let first = c.in-Ok.session in
+    let last = c.run_lines-so_far.new.session in
+    let ran = c.run_lines-so_far.ensures in
+    let fault = c.end_session-device.result.1 in
+    let lines = c.args.script.now.lines in
+    let kept = kept_along c.args.script.now.ids 0 lines ran.replies first last ran.takes in
+    let still = kept.saved ∙ on.saved in
     inl (record {
-      first = first;
-      opened = for;
-      last = last;
-      told = c.flush.new.self;
-      so_far = c.run_lines-so_far.result;
       run = record {
         replies = ran.replies;
-        takes = ran.takes;
-        prints = subst (Prints c.args.output.now c.flush.new.self)
-            (append-nil (printed c.args.script.now.lines ran.replies))
+        told = c.flush.new.self;
+        prints = subst (Prints c.args.output.now c.flush.new.self) (append-nil (printed lines ran.replies))
             (Prints-then c.args.output.now c.run_lines-so_far.new.output c.flush.new.self _ [] ran.prints
             c.flush.ensures.same);
-        ends = ran.ends;
-        rules = ran.rules;
+        untold = c.has_refused-is_untold.ensures;
+        handed = λ taken. c.flush.ensures.handed (sym c.has_refused-is_untold.ensures ∙ taken);
+        fault = fault;
+        ends = subst (λ (e : Ending). EndsWith fault c.flush.new.self e c.tell_end-ending.new.output
+            c.tell_end-ending.result) ran.ends c.tell_end-ending.ensures;
+        rules = λ honest.
+            let opens = on.opens honest in
+            let goes = go_along _ c.args.script.now.ids 0 lines ran.replies first last ran.takes
+            (Some opens.system) (record { holds = opens.holds; later = on.later }) in
+            record {
+              system = opens.system;
+              file = opens.file;
+              after = goes.after;
+              replied = goes.replied;
+              ends = c.end_session-device.ensures.ends _ goes.after goes.stands;
+              before = λ none.
+                  c.end_session-device.ensures.unwritten (inr (failed_where _ last goes.after none goes.stands)) ∙ still;
+            };
+        synced = λ taken none honest. c.end_session-device.ensures.synced taken none
+            (subst (λ (b : Bool). IsTrue b) (sym (kept.honest ∙ on.honest_is)) honest);
+        before = λ away. c.end_session-device.ensures.unwritten (inl away) ∙ still;
       };
-      untold = c.has_refused-is_untold.ensures;
-      handed = λ taken. c.flush.ensures.handed (sym c.has_refused-is_untold.ensures ∙ taken);
-      fault = fault;
-      ends = c.tell_end-ending.ensures;
-      rules = λ honest.
-          let has = c.in-Ok.ensures.file honest in
-          let rests = c.a_kernel_opens_at_rest.ensures sha_key for.with_keys _ _ _ for.frames first for.opened
-          honest has.0 has.1 (omega (arith, long, some)) (omega (arith, long, few)) in
-          let goes = ran.rules has.0 0 rests (opened_decided for) in
-          record {
-            system = has.0;
-            file = has.1;
-            goes = goes;
-            ends = ends_since _ first.pool.faults _ _ _ fault c.in-Ok.ensures.cause.0 goes.system
-                (c.end_kernel-device.ensures.ends first.pool.faults goes.system goes.decided goes.stands
-                (subst (λ (b : Bool). IsTrue b) (sym still) honest));
-          };
-      synced = λ taken none honest. c.end_kernel-device.ensures.synced taken none
-          (subst (λ (b : Bool). IsTrue b) (sym still) honest);
-      unwritten = c.end_kernel-device.ensures.unwritten;
-      before = λ away. c.end_kernel-device.ensures.unwritten away
-          ∙ stored_before c.args.script.now _ _ first last for c.run_lines-so_far.ensures.stored;
+      first = first;
+      opened = rw c.greatest_seat-seat.ensures at (rw c.caller.ensures at on);
+      last = last;
+      takes = ran.takes;
+      before = λ failed. c.end_session-device.ensures.unwritten (inr failed) ∙ still;
     })
 
 -- it was not opened
@@ -73,7 +64,7 @@ returns-in-Err-clause-served g c =
       fault = c.in-Err.fault;
       framed = c.in-Err.ensures.enough;
       cause = c.in-Err.ensures.refused;
-      failed = λ is. rw c.unrun.ensures.device (c.in-Err.ensures.cause.1 is);
+      failed = λ is. rw c.unrun.ensures.device (c.in-Err.ensures.cause is);
       leaves = record {
         pages = rw c.unrun.ensures.device kept.0;
         alone = rw c.unrun.ensures.ending c.leave_refused.ensures;
@@ -94,3 +85,12 @@ returns-clause-spelled g c = spelled _ _ _ _ (returns-clause-plain g c)
 
 pub returns-in-Err-clause-spelled : goal.returns-in-Err-clause-spelled
 returns-in-Err-clause-spelled g c = spelled _ _ _ _ (returns-in-Err-clause-plain g c)
+
+-- ---- the device is as honest as it was
+
+pub returns-clause-same : goal.returns-clause-same
+returns-clause-same g c =
+    let ran = c.run_lines-so_far.ensures in
+    let kept = kept_along c.args.script.now.ids 0 c.args.script.now.lines ran.replies c.in-Ok.session
+    c.run_lines-so_far.new.session ran.takes in
+    c.end_session-device.ensures.same ∙ kept.honest ∙ c.in-Ok.ensures.ok.honest_is
