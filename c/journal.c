@@ -1,4 +1,4 @@
-/* The journal of a file: read and put back, or written. */
+/* The journal of a file, read and put back. */
 #include "journal.h"
 #include "reason.h"
 
@@ -165,48 +165,4 @@ int journal_recover(const struct opened *file, const struct opened *journal, str
         || (wrong = sync_it(file)) != 0)
         return wrong;
     return left.has_calls ? noted_put_back(journal, noted) : end_it(journal, left.first.save, left.size, false);
-}
-
-/* ---- a journal is written */
-
-void journal_go_on(struct journal *journal, const struct noted *noted) {
-    if (noted->end == 0)
-        return;
-    journal->size = noted->size;
-    journal->length = noted->end;
-    journal->save = noted->save;
-    journal->has_calls = true;
-    memcpy(journal->image.before, noted->sum, DIGEST_BYTES);
-}
-
-int journal_begin(struct journal *journal, uint32_t pages, const uint8_t *digest) {
-    uint8_t head[HEAD_BYTES];
-    int wrong = head_next(journal->file, &journal->size, &journal->save);
-    if (wrong != 0)
-        return wrong;
-    head_begin(head, VERSION, journal->save, pages, digest);
-    memcpy(journal->image.before, head + SUM_AT, DIGEST_BYTES);
-    journal->length = HEAD_BYTES;
-    return of_journal(write_at(journal->file, head, sizeof head, 0));
-}
-
-int journal_add(struct journal *journal, uint32_t page, const uint8_t *was) {
-    uint8_t bytes[IMAGE_BYTES];
-    put_number(journal->image.number, page);
-    memcpy(journal->image.page, was, PAGE_BYTES);
-    memcpy(bytes, journal->image.number, 4);
-    memcpy(bytes + 4, was, PAGE_BYTES);
-    msgq_session_digest((const uint8_t *)&journal->image, sizeof journal->image, bytes + 4 + PAGE_BYTES);
-    memcpy(journal->image.before, bytes + 4 + PAGE_BYTES, DIGEST_BYTES);
-    int wrong = write_at(journal->file, bytes, sizeof bytes, journal->length);
-    journal->length += sizeof bytes;
-    return of_journal(wrong);
-}
-
-int journal_sync(const struct journal *journal) {
-    return of_journal(journal->length > journal->size ? sync_it(journal->file) : sync_bytes(journal->file));
-}
-
-int journal_end(const struct journal *journal) {
-    return end_it(journal->file, journal->save, journal->length > journal->size ? journal->length : journal->size, journal->has_calls);
 }

@@ -123,16 +123,6 @@ static int page_of(struct handle *session, uint32_t page, uint8_t *into) {
     return msgq_session_page(session, page, into) == DONE ? 0 : EIO;
 }
 
-/* Calls a function for each page that has changed since the last save, in their order. */
-static int each_changed(const struct pair *pair, struct handle *session,
-                        int (*act)(const struct pair *, struct handle *, uint32_t page, void *), void *with) {
-    uint32_t page = 0, code;
-    int wrong = 0;
-    for (; wrong == 0 && (code = msgq_session_next_changed(session, page, &page)) == DONE; page++)
-        wrong = act(pair, session, page, with);
-    return wrong == 0 && code != NO_PAGE ? EIO : wrong;
-}
-
 /* How many pages the file has, and the digest with which its page 0 ends: that was checked when the session was opened, or was sealed by it. */
 static int know_file(const struct pair *pair, struct handle *session, uint32_t *pages, uint8_t *digest) {
     if (msgq_session_pages(session, pages) != DONE)
@@ -140,28 +130,26 @@ static int know_file(const struct pair *pair, struct handle *session, uint32_t *
     return read_at(&pair->file, digest, DIGEST_BYTES, PAGE_BYTES - DIGEST_BYTES);
 }
 
-static int begin_journal(struct journal *journal, const struct pair *pair, struct handle *session) {
-    uint8_t digest[DIGEST_BYTES];
-    uint32_t pages;
-    int wrong = know_file(pair, session, &pages, digest);
-    return wrong != 0 ? wrong : journal_begin(journal, pages, digest);
-}
-
-/* Brings the page, as the file has it, to the journal, which is begun for the first. */
-static int journal_page(const struct pair *pair, struct handle *session, uint32_t page, void *with) {
-    struct journal *journal = with;
-    uint8_t was[PAGE_BYTES];
-    int wrong = journal->length == 0 ? begin_journal(journal, pair, session) : 0;
-    if (wrong == 0)
-        wrong = read_at(&pair->file, was, sizeof was, (uint64_t)page * PAGE_BYTES);
-    return wrong != 0 ? wrong : journal_add(journal, page, was);
-}
-
-static int write_page(const struct pair *pair, struct handle *session, uint32_t page, void *with) {
-    (void)with;
-    uint8_t is[PAGE_BYTES];
-    int wrong = page_of(session, page, is);
-    return wrong != 0 ? wrong : write_at(&pair->file, is, sizeof is, (uint64_t)page * PAGE_BYTES);
+/* Makes a transfer. What is read stands in the bytes behind it. */
+static int make(const struct pair *pair, const struct order *order, uint8_t *bytes) {
+    switch (order->kind) {
+    case READ_JOURNAL:
+        return of_journal(read_at(&pair->journal, bytes, order->length, order->at));
+    case READ_FILE:
+        return read_at(&pair->file, bytes, order->length, order->at);
+    case WRITE_JOURNAL:
+        return of_journal(write_at(&pair->journal, bytes, order->length, order->at));
+    case WRITE_FILE:
+        return write_at(&pair->file, bytes, order->length, order->at);
+    case CUT_JOURNAL:
+        return of_journal(cut_at(&pair->journal, 0));
+    case SYNC_JOURNAL:
+        return of_journal(sync_it(&pair->journal));
+    case SYNC_JOURNAL_BYTES:
+        return of_journal(sync_bytes(&pair->journal));
+    default: /* SYNC_FILE */
+        return sync_bytes(&pair->file);
+    }
 }
 
 /* Sees to it that both numbers are still those of the files: the program may have closed them, and opened others. */
@@ -172,22 +160,28 @@ static int test_both(const struct pair *pair) {
     return wrong == 0 ? 0 : why(wrong, "the program has closed its descriptor");
 }
 
+/* Tells what is known of the journal, beside which a save begins. */
+static int begin_save(const struct pair *pair, struct handle *session) {
+    struct stands stands = {pair->noted.size, pair->noted.end, pair->noted.save};
+    int wrong = stands.end > 0 ? 0 : of_journal(size_of(&pair->journal, &stands.size));
+    return wrong != 0 ? wrong : error_of(msgq_session_save_begin(session, &stands, pair->noted.sum));
+}
+
 int pair_save(struct pair *pair, struct handle *session) {
-    struct journal journal = {.file = &pair->journal};
-    journal_go_on(&journal, &pair->noted);
+    uint8_t bytes[ORDER_BYTES] = {0};
+    struct order order;
     int wrong = test_both(pair);
     if (wrong == 0)
-        wrong = each_changed(pair, session, journal_page, &journal);
-    if (wrong != 0 || journal.length == 0)
-        return wrong;
-    if ((wrong = journal_sync(&journal)) != 0
-        || (wrong = each_changed(pair, session, write_page, NULL)) != 0
-        /* (it is as long as it was) */
-        || (wrong = sync_bytes(&pair->file)) != 0
-        || (wrong = journal_end(&journal)) != 0)
-        return wrong;
-    pair->noted.end = 0;
-    return msgq_session_note_saved(session) == DONE ? 0 : EIO;
+        wrong = begin_save(pair, session);
+    while (wrong == 0 && (wrong = error_of(msgq_session_save_next(session, &order, bytes))) == 0 && order.kind != OVER) {
+        wrong = make(pair, &order, bytes);
+        uint32_t code = msgq_session_save_told(session, bytes, wrong == 0);
+        if (wrong == 0)
+            wrong = error_of(code);
+    }
+    if (wrong == 0)
+        pair->noted.end = 0;
+    return wrong;
 }
 
 /* ---- calls are noted */

@@ -9,6 +9,7 @@
 
 #define PAGE_BYTES 4096
 #define DIGEST_BYTES 32
+#define ORDER_BYTES 4132 /* as many bytes are transferred at most */
 
 enum {
     DONE = 0,
@@ -74,6 +75,30 @@ struct info {
     bool has_key;
 };
 
+/* What a transfer of a save is. */
+enum {
+    OVER, /* none: the pages are saved */
+    READ_JOURNAL,
+    READ_FILE,
+    WRITE_JOURNAL,
+    WRITE_FILE,
+    CUT_JOURNAL,
+    SYNC_JOURNAL,
+    SYNC_JOURNAL_BYTES,
+    SYNC_FILE,
+};
+
+/* Which one it is, with how many bytes, from which place on. */
+struct order {
+    uint32_t kind, length;
+    uint64_t at;
+};
+
+/* What is known of a journal: its size, and where the calls end that stand in it, with the number of its save; 0 where there are none. */
+struct stands {
+    uint64_t size, end, number;
+};
+
 uint32_t msgq_session_open(struct handle *, const struct owner *, const uint8_t *bytes, size_t count);
 uint32_t msgq_session_create(struct handle *, const struct owner *, uint32_t pages);
 uint32_t msgq_session_get(struct handle *, const struct get_call *, uint32_t *id);
@@ -85,8 +110,9 @@ uint32_t msgq_session_remove(struct handle *, uint32_t id);
 uint32_t msgq_session_stop(struct handle *);
 uint32_t msgq_session_pages(struct handle *, uint32_t *pages);
 uint32_t msgq_session_page(struct handle *, uint32_t page, uint8_t *into);
-uint32_t msgq_session_next_changed(struct handle *, uint32_t from, uint32_t *page);
-uint32_t msgq_session_note_saved(struct handle *);
+uint32_t msgq_session_save_begin(struct handle *, const struct stands *, const uint8_t *sum);
+uint32_t msgq_session_save_next(struct handle *, struct order *, uint8_t *bytes);
+uint32_t msgq_session_save_told(struct handle *, const uint8_t *read, bool is_done);
 uint32_t msgq_session_notes(struct handle *, uint8_t *into, size_t room, size_t *count);
 uint32_t msgq_session_end_notes(struct handle *);
 uint32_t msgq_session_remake(struct handle *, const uint8_t *calls, size_t count);

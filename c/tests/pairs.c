@@ -36,25 +36,139 @@ uint32_t msgq_session_page(struct handle *it, uint32_t page, uint8_t *into) {
     return DONE;
 }
 
-uint32_t msgq_session_next_changed(struct handle *it, uint32_t from, uint32_t *page) {
-    (void)it;
-    for (; from < count; from++) {
-        size_t at = (size_t)from * PAGE_BYTES;
-        if (memcmp(now + at, saved + at, PAGE_BYTES) == 0)
-            continue;
-        *page = from;
-        return DONE;
-    }
-    return NO_PAGE;
+/* The next page from one on that has changed; `count` where there is none. */
+static uint32_t next_changed(uint32_t from) {
+    while (from < count && memcmp(now + (size_t)from * PAGE_BYTES, saved + (size_t)from * PAGE_BYTES, PAGE_BYTES) == 0)
+        from++;
+    return from;
 }
 
-uint32_t msgq_session_note_saved(struct handle *it) {
+/* ---- its saves: the transfers of docs/FORMAT.md, "The journal", one after another */
+
+enum { READ_HEAD, CUT, SYNC_CUT, READ_ZERO, WRITE_HEAD, READ_PAGE, WRITE_IMAGE, SYNC_IMAGES, WRITE_PAGE, SYNC_PAGES, END, SYNC_END, ENDED };
+enum { IMAGE = 4 + PAGE_BYTES + DIGEST_BYTES };
+
+static struct {
+    int step;
+    uint32_t page;
+    struct stands stands;
+    bool has_calls;
+    uint8_t sum[DIGEST_BYTES], head[HEAD_BYTES], image[DIGEST_BYTES + IMAGE];
+} at;
+
+static void go_to(int step, uint32_t from) {
+    at.step = step;
+    at.page = next_changed(from);
+}
+
+uint32_t msgq_session_save_begin(struct handle *it, const struct stands *stands, const uint8_t *sum) {
     (void)it;
+    at.stands = *stands;
+    at.has_calls = stands->end > 0;
+    memcpy(at.sum, sum, DIGEST_BYTES);
+    go_to(at.has_calls ? READ_PAGE : stands->size >= HEAD_BYTES ? READ_HEAD : stands->size > 0 ? CUT : READ_ZERO, 0);
+    if (!at.has_calls)
+        at.stands.number = 1;
+    if (at.page == count)
+        at.step = at.has_calls ? SYNC_IMAGES : ENDED;
+    return DONE;
+}
+
+/* Whether the journal is cut where it is ended. */
+static bool is_long(void) {
+    uint64_t most = at.has_calls ? 8 << 20 : HEAD_BYTES + 256 * IMAGE;
+    return (at.stands.size > at.stands.end ? at.stands.size : at.stands.end) > most;
+}
+
+/* Spells the image behind what stands before it. */
+static void spell_image(void) {
+    memcpy(at.image, at.sum, DIGEST_BYTES);
+    put_number(at.image + DIGEST_BYTES, at.page);
+    digest(at.image, DIGEST_BYTES + 4 + PAGE_BYTES, at.image + DIGEST_BYTES + 4 + PAGE_BYTES);
+}
+
+uint32_t msgq_session_save_next(struct handle *it, struct order *order, uint8_t *bytes) {
+    uint64_t place = (uint64_t)at.page * PAGE_BYTES;
+    (void)it;
+    switch (at.step) {
+    case READ_HEAD: *order = (struct order){READ_JOURNAL, HEAD_BYTES, 0}; break;
+    case CUT: *order = (struct order){CUT_JOURNAL, 0, 0}; break;
+    case SYNC_CUT: *order = (struct order){SYNC_JOURNAL, 0, 0}; break;
+    case READ_ZERO: *order = (struct order){READ_FILE, PAGE_BYTES, 0}; break;
+    case WRITE_HEAD: *order = (struct order){WRITE_JOURNAL, HEAD_BYTES, 0}; break;
+    case READ_PAGE: *order = (struct order){READ_FILE, PAGE_BYTES, place}; break;
+    case WRITE_IMAGE: *order = (struct order){WRITE_JOURNAL, IMAGE, at.stands.end}; break;
+    case SYNC_IMAGES: *order = (struct order){at.stands.end > at.stands.size ? SYNC_JOURNAL : SYNC_JOURNAL_BYTES, 0, 0}; break;
+    case WRITE_PAGE: *order = (struct order){WRITE_FILE, PAGE_BYTES, place}; break;
+    case SYNC_PAGES: *order = (struct order){SYNC_FILE, 0, 0}; break;
+    case END: *order = is_long() ? (struct order){CUT_JOURNAL, 0, 0} : (struct order){WRITE_JOURNAL, HEAD_BYTES, 0}; break;
+    case SYNC_END: *order = (struct order){is_long() ? SYNC_JOURNAL : SYNC_JOURNAL_BYTES, 0, 0}; break;
+    default: *order = (struct order){OVER, 0, 0};
+    }
+    if (at.step == WRITE_HEAD)
+        memcpy(bytes, at.head, HEAD_BYTES);
+    if (at.step == WRITE_IMAGE)
+        memcpy(bytes, at.image + DIGEST_BYTES, IMAGE);
+    if (at.step == WRITE_PAGE)
+        memcpy(bytes, now + place, PAGE_BYTES);
+    if (at.step == END)
+        head_end(bytes, at.stands.number);
+    return DONE;
+}
+
+/* Takes the number above that of the head that was read; the journal is cut where none stands there. */
+static void number(const uint8_t *read) {
+    bool is_head = has_digest(read, SUM_AT, read + SUM_AT) && memcmp(read, "msgq", 4) == 0;
+    if (is_head)
+        at.stands.number = head_save(read) + 1;
+    at.step = is_head ? READ_ZERO : CUT;
+}
+
+/* The journal is synced with its images. */
+static void end_images(void) {
+    at.stands.size = at.stands.size > at.stands.end ? at.stands.size : at.stands.end;
+    go_to(WRITE_PAGE, 0);
+}
+
+static void end_save(void) {
     memcpy(saved, now, (size_t)count * PAGE_BYTES);
     length = 0;
     is_due = false;
+}
+
+uint32_t msgq_session_save_told(struct handle *it, const uint8_t *read, bool is_done) {
+    (void)it;
+    if (!is_done)
+        return FAILED;
+    switch (at.step++) {
+    case READ_HEAD: number(read); break;
+    case SYNC_CUT: at.stands.size = 0; break;
+    case READ_ZERO: head_begin(at.head, VERSION, at.stands.number, count, read + PAGE_BYTES - DIGEST_BYTES); break;
+    case WRITE_HEAD:
+        memcpy(at.sum, at.head + SUM_AT, DIGEST_BYTES);
+        at.stands.end = HEAD_BYTES;
+        break;
+    case READ_PAGE:
+        memcpy(at.image + DIGEST_BYTES + 4, read, PAGE_BYTES);
+        spell_image();
+        break;
+    case WRITE_IMAGE:
+        memcpy(at.sum, at.image + DIGEST_BYTES + 4 + PAGE_BYTES, DIGEST_BYTES);
+        at.stands.end += IMAGE;
+        go_to(READ_PAGE, at.page + 1);
+        break;
+    case SYNC_IMAGES: end_images(); break;
+    case WRITE_PAGE: go_to(WRITE_PAGE, at.page + 1); break;
+    case SYNC_END: end_save(); break;
+    }
+    if (at.page == count && at.step == READ_PAGE)
+        at.step = SYNC_IMAGES;
+    if (at.page == count && at.step == WRITE_PAGE)
+        at.step = SYNC_PAGES;
     return DONE;
 }
+
+/* ---- its calls */
 
 uint32_t msgq_session_notes(struct handle *it, uint8_t *into, size_t room, size_t *many) {
     (void)it;

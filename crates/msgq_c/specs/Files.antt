@@ -3,10 +3,11 @@ use Rattle.std.specs.Prelude.{ℕ, ◌≡◌, ◌≤◌, ◌/◌, ◌⊎◌, Boo
 use Rattle.page_device.specs.declared.page.TheConstants.{PAGE_BYTES}
 use Rattle.queue_model.specs.declared.caller.Caller.{Caller}
 use Rattle.call_entries.specs.Log.{empty}
+use Rattle.pair_transfers.specs.Transfers.{none_under_way}
 use Rattle.session.specs.Words.{IsFaultNumber, OpenFault, open_number_of}
-use Rattle.session.specs.Session.{GivesPage, Opens, OpensNew, SessionState, Stops, TellsChanges, pages_in, pages_of}
+use Rattle.session.specs.Session.{GivesPage, Opens, OpensNew, SessionState, Stops, pages_in, pages_of}
 use Rattle.msgq_c.specs.Held.{KeptSession}
-use Rattle.msgq_c.specs.Keeping.{AreNotes, IsSaved, MakesAll, noted}
+use Rattle.msgq_c.specs.Keeping.{AreNotes, MakesAll, noted}
 use Rattle.msgq_c.specs.declared.codes.TheConstants.{DONE, DUE, FAILED, FOREIGN, IN_USE, NO_MEMORY, NO_PAGE, NO_SESSION}
 use Rattle.msgq_c.specs.declared.files.Owner.{Owner}
 use Rattle.msgq_c.specs.declared.kept.Kept.{Kept}
@@ -16,7 +17,7 @@ caller_of owner = record { pid = owner.pid; uid = owner.uid; gid = owner.gid }
 
 -- a session for a caller, of which nothing is to be noted
 abbrev pub fresh : Caller → SessionState → Kept
-fresh caller k = record { session = k; caller = caller; log = empty; lacked_room = false }
+fresh caller k = record { session = k; caller = caller; log = empty; lacked_room = false; transfers = none_under_way }
 
 -- what came of opening is put into a handle that has none, or a number says why not
 abbrev pub IsKept : Caller → Result SessionState OpenFault → ℕ → (after : KeptSession) → Type 0
@@ -80,36 +81,6 @@ pub record IsPastEnd (page code : ℕ) (old : Kept) (after : KeptSession) : Type
 
 abbrev pub CopiesPage : ℕ → (into : List ℕ) → ℕ → (old after : KeptSession) → Type 0
 CopiesPage page into = Of (λ old code after. IsPastEnd page code old after ⊎ IsCopied page into code old after)
-
--- the number of a page, or that there is none such
-abbrev pub IsNumbered : Option ℕ → (page code : ℕ) → Type 0
-IsNumbered (Some next) page code = (code ≡ DONE) × (page ≡ next)
-IsNumbered None page code = code ≡ NO_PAGE
-
--- what the session tells of its changed pages
-pub record IsNextPage (from page code : ℕ) (old : Kept) (after : KeptSession) : Type 0 where
-  pub after_is : after ≡ Some old
-  pub told : Option ℕ
-  pub tells : TellsChanges from told old.session
-  pub numbered : IsNumbered told page code
-
-abbrev pub TellsNextPage : (from page : ℕ) → ℕ → (old after : KeptSession) → Type 0
-TellsNextPage from page = Of (λ old code after. IsNextPage from page code old after)
-
-abbrev pub saved_code : Bool → ℕ
-saved_code true = DONE
-saved_code false = FAILED
-
--- its pages are noted as saved, or it has failed
-pub record IsNoted (code : ℕ) (old : Kept) (after : KeptSession) : Type 0 where
-  pub new : Kept
-  pub after_is : after ≡ Some new
-  pub saved : Bool
-  pub is_saved : IsSaved saved old new
-  pub code_is : code ≡ saved_code saved
-
-abbrev pub NotesHandle : ℕ → (old after : KeptSession) → Type 0
-NotesHandle = Of (λ old code after. IsNoted code old after)
 
 -- the entries of the calls that are to be noted were copied, or the pages are to be saved
 abbrev pub Copies : (count : ℕ) → (into : List ℕ) → ℕ → Kept → Type 0

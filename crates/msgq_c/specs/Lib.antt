@@ -3,6 +3,7 @@ pub mod Codes
 pub mod Held
 pub mod Keeping
 pub mod Telling
+pub mod Saving
 pub mod Serving
 pub mod Files
 pub mod Noting

@@ -2,12 +2,13 @@
 
 ghost use Rattle.std.specs.Prelude.{◌≡◌, IsNone, Ok};
 ghost use Rattle.session.specs.Words.{CanHavePages};
-ghost use Rattle.msgq_c.specs.Files.{Closes, CopiesHandle, CopiesPage, Counts, Creates, EndsNotes, HasNoSuchSize, IsKept, NotesHandle, OpensHandle, RemakesHandle, StopsHandle, TellsNextPage, caller_of};
+ghost use Rattle.msgq_c.specs.Files.{Closes, CopiesHandle, CopiesPage, Counts, Creates, EndsNotes, HasNoSuchSize, IsKept, OpensHandle, RemakesHandle, StopsHandle, caller_of};
 
 use crate::codes::{DONE, DUE, FAILED, FOREIGN, IN_USE, NO_MEMORY, NO_PAGE, NO_SESSION};
 use crate::handle::Handle;
 use crate::kept::{Kept, Unmade};
 use call_entries::CallLog;
+use pair_transfers::Transfers;
 use session::queue_model::Caller;
 use session::{LEAST_PAGES, MAX_PAGES, OpenFault, PAGE_BYTES, Session};
 use std::alloc::Global;
@@ -109,47 +110,6 @@ pub extern "C" fn msgq_session_page(
         }
         None => FAILED,
     }
-}
-
-/// The next page from this one on that may have changed since the pages were saved; no such page is
-/// told where there is none. Each page that is passed by is as it was saved.
-#[unsafe(no_mangle)]
-pub extern "C" fn msgq_session_next_changed(
-    alloc: Global,
-    handle: &mut Handle,
-    from: u32,
-    page: &mut u32,
-) -> u32
-    ensures { TellsNextPage from page.new result handle.old.held.session handle.new.held.session }
-{
-    if !handle.is_open {
-        return NO_SESSION;
-    }
-    let kept = handle.take(alloc);
-    let told = kept.session.next_changed(from);
-    handle.put(kept);
-    match told {
-        Some(next) => {
-            *page = next;
-            DONE
-        }
-        None => NO_PAGE,
-    }
-}
-
-/// Notes that the pages are saved, for who has written each that has changed, and has ended the
-/// journal: pages are told as changed once they change again.
-#[unsafe(no_mangle)]
-pub extern "C" fn msgq_session_note_saved(alloc: Global, handle: &mut Handle) -> u32
-    ensures { NotesHandle result handle.old.held.session handle.new.held.session }
-{
-    if !handle.is_open {
-        return NO_SESSION;
-    }
-    let mut kept = handle.take(alloc);
-    let is_saved = kept.end_save();
-    handle.put(kept);
-    if is_saved { DONE } else { FAILED }
 }
 
 /// Copies the entries of the calls that may have changed the system since the pages were saved, or
@@ -272,11 +232,16 @@ fn put(alloc: Global, handle: &mut Handle, caller: Caller, session: Session) -> 
     let Ok(log) = CallLog::with_room(alloc, NOTED_BYTES) else {
         return NO_MEMORY;
     };
+    let mut transfers = Transfers::none(alloc);
+    let Ok(()) = transfers.take_room(session.pages() as usize) else {
+        return NO_MEMORY;
+    };
     let kept = Kept {
         session,
         caller,
         log,
         lacked_room: false,
+        transfers,
     };
     match Box::new(alloc, kept) {
         Ok(kept) => {

@@ -5,6 +5,7 @@ ghost use Rattle.call_entries.specs.Log.{Ends};
 ghost use Rattle.msgq_c.specs.Keeping.{CopiesNotes, IsSaved, Makes, MakesAgain, MakesAll, answer_of, lacks_room, noted};
 
 use call_entries::{CallEntry, CallLog, CallReader, Unreadable, check_of};
+use pair_transfers::Transfers;
 use session::queue_model::{Answer, Call, Caller};
 use session::{Session, Unanswered};
 use std::alloc::Global;
@@ -19,6 +20,8 @@ pub struct Kept {
     /// A call lacked room since the pages were saved. It is not noted, and what it inserted on trial
     /// may have left the pages otherwise than calls that are made again find them.
     pub(crate) lacked_room: bool,
+    /// A save of its pages, transfer by transfer.
+    pub(crate) transfers: Transfers,
 }
 
 /// Why calls are not made again.

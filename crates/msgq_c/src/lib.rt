@@ -11,6 +11,7 @@ mod handle;
 mod held;
 mod kept;
 mod laws;
+mod saving;
 mod serving;
 mod telling;
 
@@ -22,10 +23,12 @@ pub use calls::{
 pub use digest::msgq_session_digest;
 pub use files::{
     Owner, msgq_session_close, msgq_session_create, msgq_session_end_notes,
-    msgq_session_handle_size, msgq_session_next_changed, msgq_session_note_saved,
-    msgq_session_notes, msgq_session_open, msgq_session_page, msgq_session_pages,
-    msgq_session_remake, msgq_session_stop,
+    msgq_session_handle_size, msgq_session_notes, msgq_session_open, msgq_session_page,
+    msgq_session_pages, msgq_session_remake, msgq_session_stop,
 };
 pub use handle::Handle;
 pub use laws::what_is_noted_leads_on;
+pub use saving::{
+    Order, Stands, msgq_session_save_begin, msgq_session_save_next, msgq_session_save_told,
+};
 pub use telling::{Got, Info};

@@ -1,0 +1,4 @@
+mod MomentLemmas
+mod RestoringLemmas
+mod SavingLemmas
+mod StepLemmas

@@ -1,0 +1,4 @@
+pub mod Acts
+pub mod Saving
+pub mod Transfers
+pub use Rattle.safe_device.specs as safe_device
