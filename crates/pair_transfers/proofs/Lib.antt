@@ -1,3 +1,4 @@
+mod AmongLemmas
 mod MomentLemmas
 mod RestoringLemmas
 mod SavingLemmas

@@ -1,5 +1,5 @@
 -- What a journal of images gives back, whatever a crash leaves of the pages that have one.
-use Rattle.std.proofs.Common.{arith, ℕ, zero, suc, ◌≡◌, ◌<◌, inl, inr, ⊎_elim, refl, sym, ap, ◌∙◌, subst, List, [], ◌∷◌, length, take, set, get_or, slice_get, Option, Some, None, All, Contains}
+use Rattle.std.proofs.Common.{arith, ℕ, zero, suc, ◌≡◌, ◌<◌, inl, inr, ⊎_elim, refl, sym, ap, ◌∙◌, subst, List, [], ◌∷◌, length, take, set, get_or, slice_get, Option, Some, All, Contains}
 use Rattle.std.proofs.lemmas.Bool.{cases_eq}
 use Rattle.std.proofs.lemmas.List.{set-set, set_comm}
 use Rattle.safe_device.specs.Crash.{TornAt}

@@ -1,19 +1,19 @@
 -- What the files are behind each act of a save, and what a crash leaves of it.
-use Rattle.std.proofs.Common.{arith, ℕ, zero, suc, ◌≡◌, ◌⊎◌, ◌≤◌, ◌<◌, ◌+◌, inl, inr, ⊎_elim, refl, sym, ap, ◌∙◌, subst, Bool, true, false, List, [], ◌∷◌, ◌++◌, length, take, set, get_or, slice_get, Option, Some, None, IsTrue, is_some, All, Contains}
+use Rattle.std.proofs.Common.{arith, ℕ, ◌≡◌, ◌≤◌, ◌<◌, ◌+◌, inl, inr, ⊎_elim, refl, sym, ap, ◌∙◌, subst, Bool, true, false, List, [], ◌∷◌, ◌++◌, length, take, set, get_or, slice_get, Option, Some, None, IsTrue, is_some, Contains}
 use Rattle.std.specs.Prelude.{min}
 use Rattle.std.proofs.lemmas.Bool.{cases_eq, cases_lt}
 use Rattle.std.proofs.lemmas.Int.{clamps}
-use Rattle.std.proofs.lemmas.List.{ext_get_or, get_or-set_same, get_or-set_other, get_or_default, get_or_append_left, get_or_push, length-append, length-set, length_push, map-append, take_all}
-use Rattle.std.proofs.lemmas.List.Elements.{All-append, All-cons, All-nil, All-take, Contains-push}
+use Rattle.std.proofs.lemmas.List.{ext_get_or, get_or-set_same, get_or-set_other, get_or_default, length-set, length_push, map-append, take_all}
+use Rattle.std.proofs.lemmas.List.Elements.{All-append, All-cons, All-nil, All-take}
 use Rattle.std.proofs.lemmas.Option.{get_or_from_slice_get, slice_get_within}
-use Rattle.safe_device.specs.Crash.{Appended, Follows, HasFile, HasJournal, Keeps, Removed, TornAt}
 use Rattle.safe_device.specs.Left.{Left, Saved, added, alone, calls_of, images_of, put_back, recovered, recovered_by}
-use Rattle.safe_device.specs.Safe.{HasCallsAlone, IsAtRest, IsEither, IsResting, StandsFor, numbers}
+use Rattle.safe_device.specs.Safe.{IsEither, IsResting, numbers}
 use Rattle.safe_device.specs.declared.journal.Journal.{Journal}
 use Rattle.safe_device.specs.declared.journal.PageImage.{PageImage}
+use Rattle.pair_transfers.proofs.AmongLemmas.{last_among, none_among, still_among}
 use Rattle.pair_transfers.proofs.RestoringLemmas.{Shows, by_parts, put_back-same, torn_kept}
-use Rattle.pair_transfers.specs.Acts.{AddsImage, EndsJournal, Makes, Pages, ReadsNothing, Stores, SyncsFile, SyncsJournal, image}
-use Rattle.pair_transfers.specs.Saving.{AreAllGuarded, AreAsSaved, GivesBack, IsAmong, IsBrought, IsEnded, IsGuarded, IsGuarding, IsJournalOf, IsNextChanged, IsNoneGuarded, IsReady, IsSaved, IsUnwritten, IsWriting, IsWritten, SaveState, page_of}
+use Rattle.pair_transfers.specs.Acts.{AddsImage, EndsJournal, Pages, Stores, SyncsFile, SyncsJournal, image}
+use Rattle.pair_transfers.specs.Saving.{AreAllGuarded, GivesBack, IsAmong, IsBrought, IsEnded, IsGuarded, IsGuarding, IsJournalOf, IsNextChanged, IsNoneGuarded, IsReady, IsSaved, IsUnwritten, IsWriting, IsWritten, SaveState, page_of}
 
 -- ---- journals that give the pages back
 
@@ -59,28 +59,6 @@ more_numbers (Some j) n page was guarded is =
 there_is : (q : Option Journal) → IsTrue (is_some q) → (j : Journal) × (q ≡ Some j)
 there_is None there = absurd cc
 there_is (Some j) there = (j, refl)
-
--- ---- pages among those that are guarded
-
-still_among : (guarded : List ℕ) (from page more : ℕ) → IsAmong guarded from page →
-    IsAmong (guarded ++ more ∷ []) from page
-still_among guarded from page more is = record {
-  place = is.place;
-  behind = is.behind;
-  within = let long = length_push guarded more in let within = is.within in omega (arith, long, within);
-  is_it = get_or_append_left guarded (more ∷ []) 0 is.place is.within ∙ is.is_it;
-}
-
-last_among : (guarded : List ℕ) (page : ℕ) → IsAmong (guarded ++ page ∷ []) 0 page
-last_among guarded page = record {
-  place = length guarded;
-  behind = omega arith;
-  within = let long = length_push guarded page in omega (arith, long);
-  is_it = get_or_push guarded page 0 (length guarded) refl;
-}
-
-none_among : (from page : ℕ) → IsAmong [] from page → ⊥
-none_among from page is = let within = is.within in absurd (omega (arith, within))
 
 -- ---- a save begins
 

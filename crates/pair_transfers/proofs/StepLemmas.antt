@@ -1,5 +1,5 @@
 -- A save goes on: an act is made that was told.
-use Rattle.std.proofs.Common.{arith, ℕ, ◌≡◌, ◌≤◌, ◌<◌, inl, inr, refl, sym, ap, ◌∙◌, subst, Bool, true, false, List, length, Option, Some, None, IsTrue}
+use Rattle.std.proofs.Common.{arith, ℕ, ◌≡◌, ◌≤◌, ◌<◌, inl, inr, refl, sym, ap, ◌∙◌, subst, Bool, true, false, length, Option, Some, None, IsTrue}
 use Rattle.std.specs.Prelude.{nat_lt}
 use Rattle.std.proofs.lemmas.Bool.Decides.{nat_tests}
 use Rattle.safe_device.specs.Crash.{Elapses, LeavesOnly}
@@ -76,8 +76,8 @@ module _ {P : Type 0} (file : P → Pages) (journal : P → Option Journal) (may
   stands_behind (Writing written) (Guard page) at next is makes ok = absurd next
   stands_behind (Writing written) SyncImages at next is makes ok = absurd next
   stands_behind (Writing written) (Write page bytes) at next is makes ok =
-      subst (λ (p : Place). StandsAt file journal may_leave (one_more p) (advanced (Write page bytes) s) saved content new)
-      at
+      subst (λ (p : Place). StandsAt file journal may_leave (one_more p) (advanced (Write page bytes) s) saved content
+      new) at
       (writes_one file journal may_leave content saved written s old new is page bytes done next makes
       (advanced (Write page bytes) s) ok refl)
   stands_behind (Writing written) SyncFile at next is makes ok =
@@ -112,7 +112,8 @@ module _ {P S : Type 0} (honest : Bool) (file : P → Pages) (journal : P → Op
     pub all_noted : save.place ≡ Over → saved_of pages ≡ content
     pub unsaved : (save.place ≡ Over → ⊥) → saved_of pages ≡ saved_of first
     pub stands : IsTrue honest →
-        StandsAt file journal may_leave save.place save (saved_in file journal may_leave content first_pair) content pair
+        StandsAt file journal may_leave save.place save (saved_in file journal may_leave content first_pair) content
+        pair
     pub unseen : IsTrue honest → LeavesOnly moment left_since first_pair pair
         (IsEither (committed file journal first_pair) (alone content))
 
@@ -198,8 +199,8 @@ module _ {P S : Type 0} (honest : Bool) (file : P → Pages) (journal : P → Op
             (IsEither (committed file journal first_pair) (alone content)) (here.unseen sound) time
             (λ c now. subst (λ (v : Saved). IsEither v (alone content) c)
             (sym (saved_in_is file journal may_leave content first_pair (saved_of first) (ready sound)))
-            (left_behind file journal may_leave content (saved_in file journal may_leave content first_pair) save pair new
-            done (many sound content wanted) (few_pages sound content wanted) save.place act
+            (left_behind file journal may_leave content (saved_in file journal may_leave content first_pair) save pair
+            new done (many sound content wanted) (few_pages sound content wanted) save.place act
             (next_of sound content wanted) (here.stands sound) (makes sound) c now))
 
         -- and told
@@ -215,8 +216,8 @@ module _ {P S : Type 0} (honest : Bool) (file : P → Pages) (journal : P → Op
             stood : IsTrue honest → StandsAt file journal may_leave (advanced act save).place (advanced act save)
                 (saved_in file journal may_leave content first_pair) content new
             stood sound =
-                stands_behind file journal may_leave content (saved_in file journal may_leave content first_pair) save pair
-                new done (many sound content wanted) (few_pages sound content wanted) save.place act refl
+                stands_behind file journal may_leave content (saved_in file journal may_leave content first_pair) save
+                pair new done (many sound content wanted) (few_pages sound content wanted) save.place act refl
                 (next_of sound content wanted) (here.stands sound) (makes sound) ok
 
             unsaved_now : saved_of told ≡ saved_of first
@@ -224,7 +225,8 @@ module _ {P S : Type 0} (honest : Bool) (file : P → Pages) (journal : P → Op
                 ∙ here.unsaved (not_over save.place act (saved_of pages) content (next content here.wanted))
 
             same_as : after ≡ told → (t : SaveState) → (t.place ≡ Over → ⊥) → (IsTrue honest →
-                StandsAt file journal may_leave t.place t (saved_in file journal may_leave content first_pair) content new)
+                StandsAt file journal may_leave t.place t (saved_in file journal may_leave content first_pair) content
+                new)
                 → IsUnderWay content first_pair new first after t
             same_as same t not stands = record {
               wanted = subst (λ (s : S). wants s content) (sym same) (kept content here.wanted);
@@ -281,7 +283,8 @@ module _ {P S : Type 0} (honest : Bool) (file : P → Pages) (journal : P → Op
               (unsaved_so (λ is. absurd (let clash : Guarding from ≡ Over = sym at ∙ is in cc))) none
 
           by_place : (place : Place) → save.place ≡ place → IsNextAt place save None (saved_of pages) content →
-              StandsAt file journal may_leave place save (saved_in file journal may_leave content first_pair) content pair →
+              StandsAt file journal may_leave place save (saved_in file journal may_leave content first_pair) content
+              pair →
               HasSaved file journal may_leave saved_of wants content pair told
           by_place (Guarding from) at none stands =
               let all = none_guarded from at none in

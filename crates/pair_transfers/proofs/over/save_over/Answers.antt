@@ -1,4 +1,4 @@
-use Rattle.std.proofs.Common.{subst, refl, Option, Some, None, List, ℕ}
+use Rattle.std.proofs.Common.{subst, refl, Option, List, ℕ}
 use Rattle.std.specs.Prelude.{nat_lt}
 use Rattle.pair_transfers.specs.Saving.{IsNext}
 use Rattle.pair_transfers.specs.declared.save.Act.{Act}
@@ -40,7 +40,8 @@ returns-in_default-clause-saved g c =
 pub returns-in_err-told-clause-any_moment : goal.returns-in_err-told-clause-any_moment
 returns-in_err-told-clause-any_moment g c =
     unseen_step g.P.PagePair.is_honest g.P.PagePair.file g.P.PagePair.journal g.P.PagePair.may_leave
-    g.P.PagePair.moment g.P.PagePair.left_since g.S.Unsaved.saved g.S.Unsaved.wants g.S.Unsaved.noted g.S.Unsaved.as_many
+    g.P.PagePair.moment g.P.PagePair.left_since g.S.Unsaved.saved g.S.Unsaved.wants g.S.Unsaved.noted
+    g.S.Unsaved.as_many
     c.args.pair.now c.args.pages.now c.requires c.pages.result c.pages.ensures c.pages.type_inv c.loop.pair c.loop.pages
     c.next.new.pages c.loop.save c.loop.invariant c.in_ok-act.ensures.kept c.next.ensures.saved c.in-Some.act
     (subst (λ (o : Option Act). (content : List (List ℕ)) → g.S.Unsaved.wants c.loop.pages content →

@@ -4,5 +4,5 @@ use Rattle.pair_transfers.proofs.over.save_over.Given as goal
 
 abbrev pub invariant-loop : goal.invariant-loop
 invariant-loop g l = AreUnderWay g.P.PagePair.is_honest g.P.PagePair.file g.P.PagePair.journal g.P.PagePair.may_leave
-    g.P.PagePair.moment g.P.PagePair.left_since g.S.Unsaved.saved g.S.Unsaved.wants g.S.Unsaved.noted l.fn.pair l.pair l.fn.pages
-    l.pages l.save
+    g.P.PagePair.moment g.P.PagePair.left_since g.S.Unsaved.saved g.S.Unsaved.wants g.S.Unsaved.noted l.fn.pair l.pair
+    l.fn.pages l.pages l.save
