@@ -77,7 +77,8 @@ module _ (n : ℕ) (page : List ℕ) (size : length page ≡ 4096) where
 
   pub payload-word : (at : ℕ) → 1 ≤ at → at ≤ 1016 → word_at (padded_page n page) (4 * at) ≡ word_at page (4 * at - 4)
   payload-word at low high =
-      word_same (padded_page n page) page (4 * at) (4 * at - 4) (at_payload (4 * at) (4 * at - 4) (omega arith) (omega arith))
+      word_same (padded_page n page) page (4 * at) (4 * at - 4)
+      (at_payload (4 * at) (4 * at - 4) (omega arith) (omega arith))
       (at_payload (4 * at + 1) (4 * at - 4 + 1) (omega arith) (omega arith))
       (at_payload (4 * at + 2) (4 * at - 4 + 2) (omega arith) (omega arith))
       (at_payload (4 * at + 3) (4 * at - 4 + 3) (omega arith) (omega arith))
@@ -89,8 +90,10 @@ module _ (n : ℕ) (page : List ℕ) (size : length page ≡ 4096) where
 
   pub zero-word : (at : ℕ) → 1018 ≤ at → at < 1023 → word_at (padded_page n page) (4 * at) ≡ 0
   zero-word at low high =
-      word_same (padded_page n page) (replicate 4 0) (4 * at) 0 (at_zeros (4 * at) (4 * at - 4069) (omega arith) (omega arith))
-      (at_zeros (4 * at + 1) (4 * at - 4068) (omega arith) (omega arith)) (at_zeros (4 * at + 2) (4 * at - 4067) (omega arith) (omega arith))
+      word_same (padded_page n page) (replicate 4 0) (4 * at) 0
+      (at_zeros (4 * at) (4 * at - 4069) (omega arith) (omega arith))
+      (at_zeros (4 * at + 1) (4 * at - 4068) (omega arith) (omega arith))
+      (at_zeros (4 * at + 2) (4 * at - 4067) (omega arith) (omega arith))
       (at_zeros (4 * at + 3) (4 * at - 4066) (omega arith) (omega arith))
 
   pub bits-word : word_at (padded_page n page) 4092 ≡ 32544
@@ -104,4 +107,5 @@ module _ (n : ℕ) (page : List ℕ) (size : length page ≡ 4096) where
   unfolding padded_page sha256
   page_digest-is hash held =
       ap (λ (h : List ℕ). digest_bytes h 8) held
-      ∙ ap (λ (k : ℕ). digest_bytes (hash_after initial_hash_256 (padded_page n page) (k / 64)) 8) (sym length-padded_page)
+      ∙ ap (λ (k : ℕ). digest_bytes (hash_after initial_hash_256 (padded_page n page) (k / 64)) 8)
+      (sym length-padded_page)

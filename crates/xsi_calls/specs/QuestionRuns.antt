@@ -1,4 +1,5 @@
--- A question that is asked in one go, and a record that is written so, by each machine of a call. docs/STEPS.md, "Search".
+-- A question that is asked in one go, and a record that is written so, by each machine of a call. docs/STEPS.md,
+-- "Search".
 use Rattle.std.specs.Prelude.{ℕ, ◌≡◌, Bool, true, false, List, [], ◌∷◌}
 use Rattle.file_pages.specs.declared.fault.FileFault.{FileFault}
 pub use Rattle.record_file.specs.stale_search.SearchRuns.{At, at}
