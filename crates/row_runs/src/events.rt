@@ -1,11 +1,12 @@
 //! Events that are played together: on a kernel, or on a file from its opening to its closing.
 
+use crate::calls;
 use crate::keys::Keys;
 use crate::line::Line;
 use crate::lists::Lists;
-use crate::seats::FileKernel;
+use crate::seats::{FileKernel, SEAT_DEEDS, SeatDeed};
 use crate::told::{tell_fault, tell_step};
-use crate::words::Wrong;
+use crate::words::{Words, Wrong};
 use interleaving_core::OpenFault;
 use interleavings::{EndFault, Event, Outcome, Played, are_of_seats, play_on, run};
 use page_device::MemDevice;
@@ -18,6 +19,48 @@ const FRAMES: usize = 28;
 
 /// What events are told that are of no seat.
 const NO_SEAT: Wrong = Wrong::Wanted("seats of the kernel");
+
+/// More events than a row plays together.
+const MOST_EVENTS: u32 = 1_000;
+
+/// The names of events, as they are wanted.
+const NAMES: &str = "begin, step, drive or stop";
+
+/// Adds the events that the words are, with a comma between each two.
+pub fn read_events(
+    alloc: Global,
+    words: &mut Words<'_>,
+    events: &mut Vec<Event>,
+) -> Result<(), Wrong> {
+    for _ in 0..MOST_EVENTS {
+        let Some(mut part) = words.part() else {
+            break;
+        };
+        if events.push(read_event(alloc, &mut part)?).is_err() {
+            return Err(Wrong::NoMemory);
+        }
+        part.end()?;
+    }
+    Ok(())
+}
+
+/// An event: `begin` with a call, `step`, `drive` or `stop`. No call of an event has a moment.
+fn read_event(alloc: Global, words: &mut Words<'_>) -> Result<Event, Wrong> {
+    let deed = words.one_of(&SEAT_DEEDS, NAMES)?;
+    if let SeatDeed::Stop = deed {
+        return Ok(Event::Stop);
+    }
+    let seat = words.seat()?;
+    match deed {
+        SeatDeed::Begin => {
+            let call = calls::read(alloc, words, 0)?;
+            Ok(Event::Begin(seat, call))
+        }
+        SeatDeed::Step => Ok(Event::Step(seat)),
+        SeatDeed::Drive => Ok(Event::Drive(seat)),
+        _ => Err(Wrong::Wanted(NAMES)),
+    }
+}
 
 /// Plays events on a kernel, and tells what came of each.
 pub fn play(

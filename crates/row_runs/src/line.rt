@@ -30,6 +30,11 @@ impl Line {
         Some(self.text.as_slice())
     }
 
+    /// Whether it has no words.
+    pub fn is_empty(&self) -> bool {
+        self.text.is_empty()
+    }
+
     /// No words again.
     pub fn clear(&mut self) {
         self.text.clear();

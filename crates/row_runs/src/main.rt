@@ -7,7 +7,6 @@ mod alone;
 mod bench;
 mod bytes;
 mod calls;
-mod deed;
 mod events;
 mod file;
 mod keys;
@@ -87,8 +86,11 @@ fn does(alloc: Global, bench: &mut Bench, line: &[u8], told: &mut Line) -> Resul
     if verb.starts_with(b"#") {
         return Ok(false);
     }
-    let deed = deed::read(alloc, verb, &mut words)?;
-    bench.does(alloc, deed, told)?;
+    bench.does(alloc, verb, &mut words, told)?;
+    words.end()?;
+    if told.is_empty() {
+        told.word("ok");
+    }
     Ok(true)
 }
 

@@ -1,12 +1,12 @@
 //! Seats at calls on a kernel.
 
-use crate::deed::SeatDeed;
+use crate::calls;
 use crate::keys::Keys;
 use crate::kinds::Made;
 use crate::line::Line;
 use crate::lists::Lists;
-use crate::told::{tell_call, tell_fault, tell_step};
-use crate::words::Wrong;
+use crate::told::{tell_call, tell_fault, tell_step, tell_truth};
+use crate::words::{Words, Wrong};
 use interleaving_core::{Kernel, Step};
 use page_device::MemDevice;
 use page_locks::{Lock, MAX_SEATS};
@@ -16,6 +16,55 @@ use step_rules::Kind;
 
 /// A kernel over a file in memory.
 pub type FileKernel = Kernel<MemDevice, Keys>;
+
+/// A seat begins, steps or drives, or is asked for what it did.
+#[derive(Clone, Copy)]
+pub enum SeatDeed {
+    Begin,
+    /// It begins, and is driven.
+    Call,
+    Step,
+    /// Steps, one by one, for as long as they move.
+    Run,
+    Drive,
+    /// Steps up to the first of a kind.
+    Reach,
+    /// How many steps of a kind it has made since it began.
+    Made,
+    /// Seats 1 to this one make steps by turns, until each is answered.
+    Turns,
+    Searched,
+    Withdraw,
+    Between,
+    Stop,
+    Renew,
+    Forget,
+}
+
+/// These by their verbs.
+pub const SEAT_DEEDS: [(&[u8], SeatDeed); 14] = [
+    (b"begin", SeatDeed::Begin),
+    (b"call", SeatDeed::Call),
+    (b"step", SeatDeed::Step),
+    (b"run", SeatDeed::Run),
+    (b"drive", SeatDeed::Drive),
+    (b"reach", SeatDeed::Reach),
+    (b"made", SeatDeed::Made),
+    (b"turns", SeatDeed::Turns),
+    (b"searched", SeatDeed::Searched),
+    (b"withdraw", SeatDeed::Withdraw),
+    (b"between", SeatDeed::Between),
+    (b"stop", SeatDeed::Stop),
+    (b"renew", SeatDeed::Renew),
+    (b"forget", SeatDeed::Forget),
+];
+
+impl SeatDeed {
+    /// Whether a call begins by it.
+    pub fn begins(self) -> bool {
+        matches!(self, SeatDeed::Begin | SeatDeed::Call)
+    }
+}
 
 /// More steps than any call of a row makes.
 const MOST_STEPS: u32 = 100_000;
@@ -95,82 +144,126 @@ impl Seats {
         }
     }
 
-    /// Does a deed of a seat, and tells what it came to. The journal goes on from the plain lists.
+    /// Begins a call of this moment, and drives it where the deed says so.
+    pub fn make(
+        &mut self,
+        alloc: Global,
+        deed: SeatDeed,
+        words: &mut Words<'_>,
+        moment: u64,
+        line: &mut Line,
+    ) -> Result<(), Wrong> {
+        let Some(seat) = self.begin(alloc, words, moment, line)? else {
+            return Ok(());
+        };
+        if let SeatDeed::Begin = deed {
+            return Ok(());
+        }
+        let step = drive(&mut self.kernel, seat)?;
+        self.tell(seat, &step, line);
+        Ok(())
+    }
+
+    /// Does a deed of a seat that begins no call, and tells what it came to. The journal goes on from
+    /// the plain lists.
     pub fn does(
         &mut self,
         alloc: Global,
         deed: SeatDeed,
+        words: &mut Words<'_>,
         lists: &mut Lists,
         line: &mut Line,
     ) -> Result<(), Wrong> {
         match deed {
-            SeatDeed::Begin(seat, call) => self.begin(seat, call, line)?,
-            SeatDeed::Call(seat, call) => {
-                if self.begins(seat, call, line)? {
-                    let step = drive(&mut self.kernel, seat)?;
-                    self.tell(seat, &step, line);
-                }
+            SeatDeed::Made => self.count(words, line),
+            SeatDeed::Turns => self.take_turns(alloc, words, line),
+            SeatDeed::Searched => self.tell_search(words, line),
+            SeatDeed::Withdraw => self.withdraw(words, line),
+            SeatDeed::Between => {
+                tell_truth(line, self.kernel.is_between_calls());
+                Ok(())
             }
-            SeatDeed::Step(seat) => {
-                let step = self.step(seat)?;
-                self.tell(seat, &step, line);
-            }
-            SeatDeed::Run(seat) => {
-                let step = self.run(seat, None)?;
-                self.tell(seat, &step, line);
-            }
-            SeatDeed::Reach(seat, kind) => {
-                let step = self.run(seat, Some(kind))?;
-                self.tell(seat, &step, line);
-            }
-            SeatDeed::Drive(seat) => {
-                let step = drive(&mut self.kernel, seat)?;
-                self.tell(seat, &step, line);
-            }
-            SeatDeed::Made(seat, kind) => line.number(u64::from(self.made(seat, kind)?)),
-            SeatDeed::Turns(seats) => self.take_turns(alloc, seats, line)?,
-            SeatDeed::Searched(seat) => {
-                let (hops, changes, is_calm) = searched(&self.kernel, seat)?;
-                line.word("hops");
-                line.number(hops);
-                line.word("changes");
-                line.number(changes);
-                line.word("calm");
-                tell_truth(line, is_calm);
-            }
-            SeatDeed::Withdraw(seat) => match withdraw(&mut self.kernel, seat)? {
-                Some(call) => tell_call(line, &call),
-                None => line.word("none"),
-            },
-            SeatDeed::Between => tell_truth(line, self.kernel.is_between_calls()),
             SeatDeed::Stop => {
                 self.kernel.stop();
-                line.word("ok");
+                Ok(())
             }
-            SeatDeed::Renew => self.renew(lists, line)?,
-            SeatDeed::Forget => self.forget(lists, line),
+            SeatDeed::Renew => self.renew(lists, line),
+            SeatDeed::Forget => {
+                self.forget(lists, line);
+                Ok(())
+            }
+            _ => self.go(deed, words, line),
         }
+    }
+
+    /// A seat makes steps, and it is told what the last one came to.
+    fn go(&mut self, deed: SeatDeed, words: &mut Words<'_>, line: &mut Line) -> Result<(), Wrong> {
+        let seat = words.seat()?;
+        let step = match deed {
+            SeatDeed::Step => self.step(seat)?,
+            SeatDeed::Run => self.run(seat, None)?,
+            SeatDeed::Reach => {
+                let kind = words.kind()?;
+                self.run(seat, Some(kind))?
+            }
+            _ => drive(&mut self.kernel, seat)?,
+        };
+        self.tell(seat, &step, line);
         Ok(())
     }
 
-    /// A call begins at a seat, and it is told whether it does.
-    fn begin(&mut self, seat: u8, call: Call, line: &mut Line) -> Result<(), Wrong> {
-        if self.begins(seat, call, line)? {
-            line.word("ok");
-        }
-        Ok(())
-    }
-
-    /// Whether a call begins at a seat. Where it does not the fault is told.
-    fn begins(&mut self, seat: u8, call: Call, line: &mut Line) -> Result<bool, Wrong> {
+    /// The seat at which a call begins. Where it does not the fault is told.
+    fn begin(
+        &mut self,
+        alloc: Global,
+        words: &mut Words<'_>,
+        moment: u64,
+        line: &mut Line,
+    ) -> Result<Option<u8>, Wrong> {
+        let seat = words.seat()?;
+        let call = calls::read(alloc, words, moment)?;
         if let Some(number) = begin(&mut self.kernel, seat, call)? {
             tell_fault(line, number);
-            return Ok(false);
+            return Ok(None);
         }
         if let Some(made) = self.made.get_mut(usize::from(seat).saturating_sub(1)) {
             *made = Made::NONE;
         }
-        Ok(true)
+        Ok(Some(seat))
+    }
+
+    /// Tells how many steps of a kind a seat has made since its call began.
+    fn count(&self, words: &mut Words<'_>, line: &mut Line) -> Result<(), Wrong> {
+        let seat = words.seat()?;
+        let kind = words.kind()?;
+        let Some(made) = self.made.get(usize::from(seat).saturating_sub(1)) else {
+            return Err(NO_SEAT);
+        };
+        line.number(u64::from(made.of(kind)));
+        Ok(())
+    }
+
+    /// Tells of a seat's last search.
+    fn tell_search(&self, words: &mut Words<'_>, line: &mut Line) -> Result<(), Wrong> {
+        let seat = words.seat()?;
+        let (hops, changes, is_calm) = searched(&self.kernel, seat)?;
+        line.word("hops");
+        line.number(hops);
+        line.word("changes");
+        line.number(changes);
+        line.word("calm");
+        tell_truth(line, is_calm);
+        Ok(())
+    }
+
+    /// Takes the call of a seat back.
+    fn withdraw(&mut self, words: &mut Words<'_>, line: &mut Line) -> Result<(), Wrong> {
+        let seat = words.seat()?;
+        match withdraw(&mut self.kernel, seat)? {
+            Some(call) => tell_call(line, &call),
+            None => line.word("none"),
+        }
+        Ok(())
     }
 
     /// One step of a seat, which is counted where it moves.
@@ -196,31 +289,34 @@ impl Seats {
         Err(Wrong::Wanted("a call that ends"))
     }
 
-    /// How many steps of a kind a seat has made since its call began.
-    fn made(&self, seat: u8, kind: Kind) -> Result<u32, Wrong> {
-        match self.made.get(usize::from(seat).saturating_sub(1)) {
-            Some(made) => Ok(made.of(kind)),
-            None => Err(NO_SEAT),
-        }
-    }
-
     /// Seats 1 to this one make steps by turns until each is answered, and the answers are told in
     /// the order of seats.
-    fn take_turns(&mut self, alloc: Global, seats: u8, line: &mut Line) -> Result<(), Wrong> {
+    fn take_turns(
+        &mut self,
+        alloc: Global,
+        words: &mut Words<'_>,
+        line: &mut Line,
+    ) -> Result<(), Wrong> {
+        let seats = words.seat()?;
         let mut answers = Vec::new(alloc);
         for _ in 0..seats {
             if answers.push(None).is_err() {
                 return Err(Wrong::NoMemory);
             }
         }
+        self.answer_all(answers.as_mut_slice())?;
+        for step in answers.iter().flatten() {
+            tell_step(line, step, None);
+        }
+        Ok(())
+    }
+
+    /// Steps of the seats by turns until each is answered.
+    fn answer_all(&mut self, answers: &mut [Option<Step>]) -> Result<(), Wrong> {
         for _ in 0..MOST_STEPS {
-            if !self.take_turn(answers.as_mut_slice())? {
-                continue;
+            if self.take_turn(answers)? {
+                return Ok(());
             }
-            for step in answers.iter().flatten() {
-                tell_step(line, step, None);
-            }
-            return Ok(());
         }
         Err(Wrong::Wanted("calls that end"))
     }
@@ -271,9 +367,4 @@ impl Seats {
         lists.tell(self.kernel.journal(), line);
         self.kernel.forget();
     }
-}
-
-/// Tells whether something is so.
-fn tell_truth(line: &mut Line, is: bool) {
-    line.word(if is { "yes" } else { "no" });
 }

@@ -1,24 +1,65 @@
-//! Files are made, opened, closed, checked and changed.
+//! Files are made, opened, closed, checked and kept.
 
 use crate::alone::Alone;
 use crate::bench::{Bench, Stage};
-use crate::deed::FileDeed;
-use crate::file::{are_alike, put, set, spoil, take};
-use crate::keys::Keys;
+use crate::file::are_alike;
+use crate::keys::KEYS;
 use crate::line::Line;
 use crate::lists::Lists;
 use crate::machines::Machines;
 use crate::seats::Seats;
-use crate::told::tell_fault;
-use crate::words::Wrong;
+use crate::told::{tell_fault, tell_truth};
+use crate::words::{Words, Wrong};
 use file_check::{Checked, check};
 use interleaving_core::{Closed, Kernel, NotClosed};
 use machine_trials::Trial;
-use page_device::{MemDevice, PAGE_BYTES, PageDevice, copied};
+use page_device::{MemDevice, copied};
 use page_locks::LockTable;
 use record_file::format;
 use std::alloc::Global;
 use std::mem;
+
+/// What is done with a file.
+#[derive(Clone, Copy)]
+pub enum FileDeed {
+    /// A new one of so many pages, whose keys become pseudokeys so, takes the place of any other.
+    New,
+    /// User and group of who sits at a seat.
+    Ids,
+    /// A kernel of so many seats and frames opens it.
+    Open,
+    /// One call at a time is made on it, each as the machine that it is.
+    Alone,
+    /// Seats are to work on its records, over so many frames.
+    Records,
+    /// A table of locks for so many seats, beside any file.
+    Locks,
+    /// Whoever works on it ends.
+    Close,
+    /// It is checked.
+    Check,
+    /// It is kept as it is.
+    Keep,
+    /// What was kept is there again.
+    Again,
+    /// Whether it is what was kept, byte by byte.
+    Alike,
+}
+
+/// These by their verbs.
+pub const FILE_DEEDS: [(&[u8], FileDeed); 11] = [
+    (b"new", FileDeed::New),
+    (b"ids", FileDeed::Ids),
+    (b"open", FileDeed::Open),
+    (b"alone", FileDeed::Alone),
+    (b"records", FileDeed::Records),
+    (b"locks", FileDeed::Locks),
+    (b"close", FileDeed::Close),
+    (b"check", FileDeed::Check),
+    (b"keep", FileDeed::Keep),
+    (b"again", FileDeed::Again),
+    (b"alike", FileDeed::Alike),
+];
 
 /// Pages that a new file has at least, and at most in a row.
 const LEAST_PAGES: u32 = 258;
@@ -26,7 +67,7 @@ const LEAST_PAGES: u32 = 258;
 const MOST_PAGES: u32 = 1_024;
 
 /// What is wanted where there is no file, or somebody works on it.
-const NO_FILE: Wrong = Wrong::Elsewhere("a file on which nobody works");
+pub(crate) const NO_FILE: Wrong = Wrong::Elsewhere("a file on which nobody works");
 
 impl Bench {
     /// Does a deed with the file, and tells what it came to.
@@ -34,74 +75,28 @@ impl Bench {
         &mut self,
         alloc: Global,
         deed: FileDeed,
+        words: &mut Words<'_>,
         line: &mut Line,
     ) -> Result<(), Wrong> {
         match deed {
-            FileDeed::New(pages, keys) => self.make(alloc, pages, keys)?,
-            FileDeed::Ids(seat, user, group) => self.lists.seat(seat, user, group),
-            FileDeed::Open(seats, frames) => return self.open(alloc, seats, frames, line),
-            FileDeed::Alone => {
-                let device = self.take()?;
-                let caller = self.lists.root();
-                match Alone::new(alloc, device, caller) {
-                    Ok(alone) => self.stage = Stage::Alone(alone),
-                    Err(_) => return Err(Wrong::NoMemory),
-                }
-            }
-            FileDeed::Records(frames) => {
-                let device = self.take()?;
-                match Trial::open(alloc, device, frames as usize, self.keys) {
-                    Ok(trial) => self.stage = Stage::Machines(Machines::new(trial)),
-                    Err(_) => return Err(Wrong::NoMemory),
-                }
-            }
-            FileDeed::Locks(seats) => self.lock(alloc, seats)?,
-            FileDeed::Close => return self.close(line),
-            FileDeed::Check => return self.check(alloc, line),
-            FileDeed::Keep => {
-                let Stage::File(device) = &mut self.stage else {
-                    return Err(NO_FILE);
-                };
-                self.kept = Some(copied(alloc, device).map_err(|_| Wrong::NoMemory)?);
-            }
-            FileDeed::Again => {
-                let Some(device) = &mut self.kept else {
-                    return Err(Wrong::Elsewhere("a file that was kept"));
-                };
-                match copied(alloc, device) {
-                    Ok(copy) => self.stage = Stage::File(copy),
-                    Err(_) => return Err(Wrong::NoMemory),
-                }
-            }
-            FileDeed::Alike => {
-                let (Stage::File(device), Some(kept)) = (&mut self.stage, &mut self.kept) else {
-                    return Err(NO_FILE);
-                };
-                let is = are_alike(device, kept);
-                line.word(if is { "yes" } else { "no" });
-                return Ok(());
-            }
-            FileDeed::Set(..)
-            | FileDeed::Put(..)
-            | FileDeed::Take(..)
-            | FileDeed::Spoil(..)
-            | FileDeed::Longer => {
-                let Stage::File(device) = &mut self.stage else {
-                    return Err(NO_FILE);
-                };
-                if !change(alloc, device, deed) {
-                    return Err(Wrong::Wanted(
-                        "a place in a page of the file, a bucket, or a record",
-                    ));
-                }
-            }
+            FileDeed::New => self.make(alloc, words),
+            FileDeed::Ids => self.sit(words),
+            FileDeed::Open => self.open(alloc, words, line),
+            FileDeed::Alone => self.be_alone(alloc),
+            FileDeed::Records => self.work(alloc, words),
+            FileDeed::Locks => self.lock(alloc, words),
+            FileDeed::Close => self.close(line),
+            FileDeed::Check => self.check(alloc, line),
+            FileDeed::Keep => self.keep(alloc),
+            FileDeed::Again => self.restore(alloc),
+            FileDeed::Alike => self.compare(line),
         }
-        line.word("ok");
-        Ok(())
     }
 
     /// A new file takes the place of any other.
-    fn make(&mut self, alloc: Global, pages: u32, keys: Keys) -> Result<(), Wrong> {
+    fn make(&mut self, alloc: Global, words: &mut Words<'_>) -> Result<(), Wrong> {
+        let pages = words.number("a number of pages")?;
+        let keys = words.one_of(&KEYS, "sha, number or zero")?;
         if pages < LEAST_PAGES || pages > MOST_PAGES {
             return Err(Wrong::Wanted("258 to 1024 pages"));
         }
@@ -113,6 +108,15 @@ impl Bench {
         self.lists = Lists::new(alloc);
         self.calls = 0;
         self.stage = Stage::File(device);
+        Ok(())
+    }
+
+    /// Another user sits at a seat.
+    fn sit(&mut self, words: &mut Words<'_>) -> Result<(), Wrong> {
+        let seat = words.seat()?;
+        let user = words.number("a user id")?;
+        let group = words.number("a group id")?;
+        self.lists.seat(seat, user, group);
         Ok(())
     }
 
@@ -128,23 +132,19 @@ impl Bench {
     }
 
     /// A kernel opens the file, or it is told why not.
-    fn open(
-        &mut self,
-        alloc: Global,
-        seats: u8,
-        frames: u32,
-        line: &mut Line,
-    ) -> Result<(), Wrong> {
-        let device = self.take()?;
+    fn open(&mut self, alloc: Global, words: &mut Words<'_>, line: &mut Line) -> Result<(), Wrong> {
+        let seats = words.seat()?;
+        let frames = words.number("a number of frames")?;
         let callers = self.lists.callers(seats);
         if callers.is_empty() || callers.len() > 64 {
             return Err(Wrong::Wanted("1 to 64 seats"));
         }
+        let Stage::File(device) = &mut self.stage else {
+            return Err(NO_FILE);
+        };
+        let device = mem::replace(device, MemDevice::new(alloc));
         match Kernel::open(alloc, device, self.keys, callers, frames as usize) {
-            Ok(kernel) => {
-                self.stage = Stage::Seats(Seats::new(kernel));
-                line.word("ok");
-            }
+            Ok(kernel) => self.stage = Stage::Seats(Seats::new(kernel)),
             Err((device, fault)) => {
                 self.stage = Stage::File(device);
                 tell_fault(line, fault.number());
@@ -153,8 +153,35 @@ impl Bench {
         Ok(())
     }
 
+    /// One call at a time is to be made on the file.
+    fn be_alone(&mut self, alloc: Global) -> Result<(), Wrong> {
+        let caller = self.lists.root();
+        let device = self.take()?;
+        match Alone::new(alloc, device, caller) {
+            Ok(alone) => {
+                self.stage = Stage::Alone(alone);
+                Ok(())
+            }
+            Err(_) => Err(Wrong::NoMemory),
+        }
+    }
+
+    /// Seats are to work on the records of the file.
+    fn work(&mut self, alloc: Global, words: &mut Words<'_>) -> Result<(), Wrong> {
+        let frames = words.number("a number of frames")?;
+        let device = self.take()?;
+        match Trial::open(alloc, device, frames as usize, self.keys) {
+            Ok(trial) => {
+                self.stage = Stage::Machines(Machines::new(trial));
+                Ok(())
+            }
+            Err(_) => Err(Wrong::NoMemory),
+        }
+    }
+
     /// A table of locks takes the place of any file.
-    fn lock(&mut self, alloc: Global, seats: u8) -> Result<(), Wrong> {
+    fn lock(&mut self, alloc: Global, words: &mut Words<'_>) -> Result<(), Wrong> {
+        let seats = words.seat()?;
         if seats == 0 || seats > 64 {
             return Err(Wrong::Wanted("1 to 64 seats"));
         }
@@ -165,6 +192,39 @@ impl Bench {
             }
             Err(_) => Err(Wrong::NoMemory),
         }
+    }
+
+    /// The file is kept as it is.
+    fn keep(&mut self, alloc: Global) -> Result<(), Wrong> {
+        let Stage::File(device) = &mut self.stage else {
+            return Err(NO_FILE);
+        };
+        let Ok(copy) = copied(alloc, device) else {
+            return Err(Wrong::NoMemory);
+        };
+        self.kept = Some(copy);
+        Ok(())
+    }
+
+    /// What was kept is there again.
+    fn restore(&mut self, alloc: Global) -> Result<(), Wrong> {
+        let Some(device) = &mut self.kept else {
+            return Err(Wrong::Elsewhere("a file that was kept"));
+        };
+        let Ok(copy) = copied(alloc, device) else {
+            return Err(Wrong::NoMemory);
+        };
+        self.stage = Stage::File(copy);
+        Ok(())
+    }
+
+    /// Tells whether the file is what was kept.
+    fn compare(&mut self, line: &mut Line) -> Result<(), Wrong> {
+        let (Stage::File(device), Some(kept)) = (&mut self.stage, &mut self.kept) else {
+            return Err(NO_FILE);
+        };
+        tell_truth(line, are_alike(device, kept));
+        Ok(())
     }
 
     /// Whoever works on the file ends, and its pages are written.
@@ -202,10 +262,7 @@ impl Bench {
     fn close_machines(&mut self, machines: Machines, line: &mut Line) {
         let closed = machines.trial.close();
         match closed {
-            Ok(device) => {
-                self.stage = Stage::File(device);
-                line.word("ok");
-            }
+            Ok(device) => self.stage = Stage::File(device),
             Err(fault) => tell_fault(line, fault.number()),
         }
     }
@@ -224,17 +281,5 @@ impl Bench {
             Err(fault) => tell_fault(line, fault.number()),
         }
         Ok(())
-    }
-}
-
-/// Changes the bytes of a file. Whether it has what is to be changed.
-fn change(alloc: Global, device: &mut MemDevice, deed: FileDeed) -> bool {
-    match deed {
-        FileDeed::Set(page, place, bytes) => set(device, page, place as usize, bytes.as_slice()),
-        FileDeed::Put(page, key, value) => put(alloc, device, page, key, value.as_slice()),
-        FileDeed::Take(page, key) => take(alloc, device, page, key),
-        FileDeed::Spoil(page, place) => spoil(device, page, place as usize),
-        FileDeed::Longer => device.extend(&[0; PAGE_BYTES]).is_ok(),
-        _ => false,
     }
 }
