@@ -1,6 +1,6 @@
 //! The records of the relay are heard.
 
-ghost use Rattle.std.specs.Prelude.{OnOk};
+ghost use Rattle.std.specs.Prelude.{◌≡◌, OnOk};
 ghost use Rattle.serving.specs.Serving.{GoesOn};
 
 use crate::client::{client_of, connection_of, is_own};
@@ -61,18 +61,20 @@ impl<P: PagePair> Server<P> {
             kind,
         } = incoming;
         match kind {
-            Kind::Request(_) if connection == 0 => return Err(Unheard::Broken),
-            Kind::Request(request) => self.serve(connection, caller, request, moment)?,
-            Kind::Gone => self.leave(connection, moment)?,
-            Kind::Tick => {
-                if self.durability == Durability::NowAndThen {
-                    self.save()?;
-                }
-            }
-            Kind::End => {
-                self.end(moment)?;
-                return Ok(Heard::Ending);
-            }
+            Kind::Request(request) => self.serve(connection, caller, request, moment),
+            Kind::Gone => self.leave(connection, moment),
+            Kind::Tick => self.tick(),
+            Kind::End => self.end(moment),
+        }
+    }
+
+    /// A second has passed: where the file is written now and then, it is now.
+    fn tick(&mut self) -> Result<Heard, Unheard>
+        ensures { OnOk result (GoesOn P.is_honest P.moment P.left_since P.may_leave
+            self.old self.new) }
+    {
+        if self.durability == Durability::NowAndThen {
+            self.save()?;
         }
         Ok(Heard::Going)
     }
@@ -84,22 +86,55 @@ impl<P: PagePair> Server<P> {
         caller: Caller,
         request: Request,
         moment: u64,
+    ) -> Result<Heard, Unheard>
+        ensures { OnOk result (GoesOn P.is_honest P.moment P.left_since P.may_leave
+            self.old self.new) }
+    {
+        let Request { number, operation } = request;
+        if connection == 0 {
+            return Err(Unheard::Broken);
+        }
+        let client = client_of(connection, number);
+        match operation {
+            Operation::Call(call) => self.serve_call(client, caller, call, moment)?,
+            other => self.serve_other(client, caller, &other, moment)?,
+        }
+        Ok(Heard::Going)
+    }
+
+    /// A client's call.
+    fn serve_call(
+        &mut self,
+        client: u64,
+        caller: Caller,
+        call: Call,
+        moment: u64,
     ) -> Result<(), Unheard>
         ensures { OnOk result (GoesOn P.is_honest P.moment P.left_since P.may_leave
             self.old self.new) }
     {
-        let client = client_of(connection, request.number);
-        match request.operation {
-            Operation::Call(call) => {
-                let _ = self.make(client, caller, call)?;
-                self.settle(moment)
-            }
+        let _ = self.make(client, caller, call)?;
+        self.settle(moment)
+    }
+
+    /// What a client asks for that is no call.
+    fn serve_other(
+        &mut self,
+        client: u64,
+        caller: Caller,
+        operation: &Operation,
+        moment: u64,
+    ) -> Result<(), Unheard>
+        ensures { OnOk result (GoesOn P.is_honest P.moment P.left_since P.may_leave
+            self.old self.new) }
+    {
+        match operation {
             Operation::Next { after } => {
-                let note = found(self.queues.behind(after));
+                let note = found(self.queues.behind(*after));
                 self.say(client, &note)
             }
             Operation::Nth { place } => {
-                let note = found(self.queues.nth(place));
+                let note = found(self.queues.nth(*place));
                 self.say(client, &note)
             }
             // (so that who reads the file sees all of it)
@@ -111,12 +146,13 @@ impl<P: PagePair> Server<P> {
                 let note = Note::Counts(self.counts());
                 self.say(client, &note)
             }
-            Operation::Cancel { number } => self.cancel(client_of(connection, number), moment),
-            Operation::Reserve { .. } | Operation::Acknowledge { .. } | Operation::Release { .. } =>
-                {
-                    self.serve_worker(client, caller, request.operation, moment)?;
-                    self.settle(moment)
-                }
+            Operation::Cancel { number } => {
+                self.cancel(client_of(connection_of(client), *number), moment)
+            }
+            _ => {
+                self.serve_worker(client, caller, operation, moment)?;
+                self.settle(moment)
+            }
         }
     }
 
@@ -135,16 +171,28 @@ impl<P: PagePair> Server<P> {
             _ => None,
         };
         let reply = self.ask(client, caller, call)?;
-        match (&reply, removed) {
-            (Ok(Answer::Id(id)), _) => {
-                let Ok(()) = self.queues.insert(*id) else {
-                    return Err(Unheard::NoMemory);
-                };
-            }
-            (Ok(Answer::Done), Some(id)) => self.queues.remove(id),
-            _ => {}
+        if self.note_alive(&reply, removed) {
+            Ok(reply)
+        } else {
+            Err(Unheard::NoMemory)
         }
-        Ok(reply)
+    }
+
+    /// Notes which queue is alive by what a call came to, or is no more where it was to be removed;
+    /// false where there is no memory.
+    fn note_alive(&mut self, reply: &Result<Answer, Unanswered>, removed: Option<u32>) -> bool
+        ensures { self.new ≡ self.old }
+    {
+        match reply {
+            Ok(Answer::Id(id)) => self.queues.insert(*id).is_ok(),
+            Ok(Answer::Done) => {
+                if let Some(id) = removed {
+                    self.queues.remove(id);
+                }
+                true
+            }
+            _ => true,
+        }
     }
 
     /// Those are told who waited and have an answer now; and messages go back to their queues for
@@ -194,7 +242,7 @@ impl<P: PagePair> Server<P> {
     }
 
     /// A connection is gone: its calls wait no longer, and its messages in hand go back.
-    fn leave(&mut self, connection: u32, moment: u64) -> Result<(), Unheard>
+    fn leave(&mut self, connection: u32, moment: u64) -> Result<Heard, Unheard>
         ensures { OnOk result (GoesOn P.is_honest P.moment P.left_since P.may_leave
             self.old self.new) }
     {
@@ -202,12 +250,12 @@ impl<P: PagePair> Server<P> {
         if self.let_go(Some(connection))? {
             self.settle(moment)?;
         }
-        Ok(())
+        Ok(Heard::Going)
     }
 
     /// The server ends: who waits is told to ask the next one, messages in hand go back, and all is
     /// saved.
-    fn end(&mut self, moment: u64) -> Result<(), Unheard>
+    fn end(&mut self, moment: u64) -> Result<Heard, Unheard>
         ensures { OnOk result (GoesOn P.is_honest P.moment P.left_since P.may_leave
             self.old self.new) }
     {
@@ -216,7 +264,7 @@ impl<P: PagePair> Server<P> {
         self.let_go(None)?;
         self.settle(moment)?;
         self.checkpoint()?;
-        Ok(())
+        Ok(Heard::Ending)
     }
 
     /// What is told about the server.

@@ -19,7 +19,7 @@ use durable_desk::safe_device::PagePair;
 use frames::{DONE, ENDS, Operation};
 
 /// What a client asks to have reserved.
-#[derive(Clone, Copy, Debug)]
+#[derive(Clone, Copy)]
 struct Wanted {
     client: u64,
     caller: Caller,
@@ -35,7 +35,7 @@ impl<P: PagePair> Server<P> {
         &mut self,
         client: u64,
         caller: Caller,
-        operation: Operation,
+        operation: &Operation,
         moment: u64,
     ) -> Result<(), Unheard>
         ensures { OnOk result (GoesOn P.is_honest P.moment P.left_since P.may_leave
@@ -46,14 +46,14 @@ impl<P: PagePair> Server<P> {
                 self.reserve(Wanted {
                     client,
                     caller,
-                    origin: id,
-                    mtype,
-                    nowait,
+                    origin: *id,
+                    mtype: *mtype,
+                    nowait: *nowait,
                     moment,
                 })
             }
-            Operation::Acknowledge { id } => self.acknowledge(client, caller, id),
-            Operation::Release { id } => self.give_up_hold(client, caller, id),
+            Operation::Acknowledge { id } => self.acknowledge(client, caller, *id),
+            Operation::Release { id } => self.give_up_hold(client, caller, *id),
             _ => Ok(()),
         }
     }
@@ -71,10 +71,17 @@ impl<P: PagePair> Server<P> {
             mode: HOLDING_MODE,
             moment: wanted.moment,
         });
-        let queue = match self.make(ITSELF, wanted.caller, get)? {
-            Ok(Answer::Id(queue)) => queue,
-            reply => return self.say(wanted.client, &why(reply)),
-        };
+        match self.make(ITSELF, wanted.caller, get)? {
+            Ok(Answer::Id(queue)) => self.reserve_in(queue, wanted),
+            reply => self.say(wanted.client, &why(&reply)),
+        }
+    }
+
+    /// A message is reserved in a holding queue that was made for it.
+    fn reserve_in(&mut self, queue: u32, wanted: Wanted) -> Result<(), Unheard>
+        ensures { OnOk result (GoesOn P.is_honest P.moment P.left_since P.may_leave
+            self.old self.new) }
+    {
         let holding = Holding {
             queue,
             origin: wanted.origin,
@@ -87,11 +94,21 @@ impl<P: PagePair> Server<P> {
         }
         match self.note_origin(holding, wanted.moment)? {
             Ok(Answer::Sent(_)) => self.take(wanted, queue),
-            reply => {
-                self.undo(queue)?;
-                self.say(wanted.client, &why(reply))
-            }
+            reply => self.end_for(holding, &reply),
         }
+    }
+
+    /// A reservation is over, and its client is told why.
+    fn end_for(
+        &mut self,
+        holding: Holding,
+        reply: &Result<Answer, Unanswered>,
+    ) -> Result<(), Unheard>
+        ensures { OnOk result (GoesOn P.is_honest P.moment P.left_since P.may_leave
+            self.old self.new) }
+    {
+        self.undo(holding.queue)?;
+        self.say(holding.client, &why(reply))
     }
 
     /// A holding queue is told where its message comes from.
@@ -158,24 +175,25 @@ impl<P: PagePair> Server<P> {
         let Some(holding) = self.holdings.of(queue) else {
             return Ok(());
         };
-        let message = match reply {
-            Ok(Answer::Received(message)) => message,
-            reply => {
-                self.undo(queue)?;
-                return self.say(holding.client, &why(reply));
-            }
-        };
-        match self.put(queue, &message, moment)? {
-            Ok(Answer::Sent(_)) => {
-                self.holdings.set(queue, Stage::Held);
-                self.say(holding.client, &Note::Held { queue, message })
-            }
-            reply => {
-                self.put_surely(holding.origin, &message, moment)?;
-                self.undo(queue)?;
-                self.say(holding.client, &why(reply))
-            }
+        match reply {
+            Ok(Answer::Received(message)) => self.hold(holding, message, moment),
+            reply => self.end_for(holding, &reply),
         }
+    }
+
+    /// A message is put into the holding queue, or back on its own where there is no room for it.
+    fn hold(&mut self, holding: Holding, message: Message, moment: u64) -> Result<(), Unheard>
+        ensures { OnOk result (GoesOn P.is_honest P.moment P.left_since P.may_leave
+            self.old self.new) }
+    {
+        let reply = self.put(holding.queue, &message, moment)?;
+        if let Ok(Answer::Sent(_)) = &reply {
+            let queue = holding.queue;
+            self.holdings.set(queue, Stage::Held);
+            return self.say(holding.client, &Note::Held { queue, message });
+        }
+        self.put_surely(holding.origin, &message, moment)?;
+        self.end_for(holding, &reply)
     }
 
     /// A message is put last on a queue, with its sender.
@@ -228,7 +246,7 @@ impl<P: PagePair> Server<P> {
                 self.holdings.remove(queue);
                 self.say(client, &Note::code(DONE))
             }
-            reply => self.say(client, &why(reply)),
+            reply => self.say(client, &why(&reply)),
         }
     }
 
@@ -257,12 +275,12 @@ impl<P: PagePair> Server<P> {
 }
 
 /// What a client is told of a call that was made for it.
-fn why(reply: Result<Answer, Unanswered>) -> Note {
+fn why(reply: &Result<Answer, Unanswered>) -> Note {
     match reply {
         // (the server has ended)
         Ok(Answer::Refused(Errno::EINTR)) => Note::code(ENDS),
-        Ok(Answer::Refused(errno)) => Note::refused(errno),
+        Ok(Answer::Refused(errno)) => Note::refused(*errno),
         Ok(_) => Note::code(DONE),
-        Err(unanswered) => Note::unanswered(unanswered),
+        Err(unanswered) => Note::unanswered(*unanswered),
     }
 }
