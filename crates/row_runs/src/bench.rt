@@ -15,7 +15,7 @@ use crate::tables::{LOCK_DEEDS, LockDeed};
 use crate::words::{Words, Wrong, named};
 use crate::{calls, tables};
 use changes::CHANGES;
-use files::FILE_DEEDS;
+use files::{FILE_DEEDS, NO_FILE};
 use looks::LOOKS;
 use page_device::MemDevice;
 use page_locks::LockTable;
@@ -90,17 +90,21 @@ impl Bench {
         self.record_deed(verb, words, line)
     }
 
+    /// Whoever works on the file from here on takes the place of who did.
+    fn put(&mut self, stage: Stage) {
+        self.stage = stage;
+    }
+
     /// Plays events on a kernel, or on the file.
     fn play(&mut self, alloc: Global, words: &mut Words<'_>, line: &mut Line) -> Result<(), Wrong> {
-        let mut events = Vec::new(alloc);
-        read_events(alloc, words, &mut events)?;
-        if let Stage::Seats(seats) = &mut self.stage {
-            return play(alloc, &mut seats.kernel, events, line);
+        let events = read_events(alloc, words)?;
+        match &mut self.stage {
+            Stage::Seats(seats) => play(alloc, &mut seats.kernel, events, line),
+            Stage::File(device) => {
+                play_file(alloc, device, self.keys, &mut self.lists, events, line)
+            }
+            _ => Err(NO_FILE),
         }
-        let device = self.take()?;
-        let device = play_file(alloc, device, self.keys, &mut self.lists, events, line)?;
-        self.stage = Stage::File(device);
-        Ok(())
     }
 
     /// A deed of a seat.

@@ -56,6 +56,15 @@ impl Line {
         self.put(word.as_bytes());
     }
 
+    /// Adds the words of another line.
+    pub fn add(&mut self, other: &Line) {
+        if !self.text.is_empty() {
+            self.put(b" ");
+        }
+        self.put(other.text.as_slice());
+        self.lacks = self.lacks || other.lacks;
+    }
+
     /// Adds a mark behind the last word.
     pub fn mark(&mut self, mark: &str) {
         self.put(mark.as_bytes());

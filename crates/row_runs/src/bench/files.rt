@@ -7,14 +7,15 @@ use crate::keys::KEYS;
 use crate::line::Line;
 use crate::lists::Lists;
 use crate::machines::Machines;
-use crate::seats::Seats;
+use crate::seats::{FileKernel, Seats};
 use crate::told::{tell_fault, tell_truth};
 use crate::words::{Words, Wrong};
-use file_check::{Checked, check};
-use interleaving_core::{Closed, Kernel, NotClosed};
+use file_check::{CheckFault, Checked, check};
+use interleaving_core::{Closed, Kernel, NotClosed, OpenFault};
 use machine_trials::Trial;
 use page_device::{MemDevice, copied};
 use page_locks::LockTable;
+use queue_model::System;
 use record_file::format;
 use std::alloc::Global;
 use std::mem;
@@ -107,7 +108,7 @@ impl Bench {
         self.keys = keys;
         self.lists = Lists::new(alloc);
         self.calls = 0;
-        self.stage = Stage::File(device);
+        self.put(Stage::File(device));
         Ok(())
     }
 
@@ -120,14 +121,11 @@ impl Bench {
         Ok(())
     }
 
-    /// The file, on which nobody works.
-    pub(crate) fn take(&mut self) -> Result<MemDevice, Wrong> {
-        match mem::replace(&mut self.stage, Stage::Nothing) {
-            Stage::File(device) => Ok(device),
-            other => {
-                self.stage = other;
-                Err(NO_FILE)
-            }
+    /// The file, on which nobody works. One without pages stands in its place.
+    fn take(&mut self, alloc: Global) -> Result<MemDevice, Wrong> {
+        match &mut self.stage {
+            Stage::File(device) => Ok(mem::replace(device, MemDevice::new(alloc))),
+            _ => Err(NO_FILE),
         }
     }
 
@@ -143,23 +141,29 @@ impl Bench {
             return Err(NO_FILE);
         };
         let device = mem::replace(device, MemDevice::new(alloc));
-        match Kernel::open(alloc, device, self.keys, callers, frames as usize) {
-            Ok(kernel) => self.stage = Stage::Seats(Seats::new(kernel)),
+        let opened = Kernel::open(alloc, device, self.keys, callers, frames as usize);
+        self.go_on_with(opened, line);
+        Ok(())
+    }
+
+    /// Seats are at calls from here on, where a kernel was opened; else it is told why not.
+    fn go_on_with(&mut self, opened: Result<FileKernel, (MemDevice, OpenFault)>, line: &mut Line) {
+        match opened {
+            Ok(kernel) => self.put(Stage::Seats(Seats::new(kernel))),
             Err((device, fault)) => {
-                self.stage = Stage::File(device);
+                self.put(Stage::File(device));
                 tell_fault(line, fault.number());
             }
         }
-        Ok(())
     }
 
     /// One call at a time is to be made on the file.
     fn be_alone(&mut self, alloc: Global) -> Result<(), Wrong> {
         let caller = self.lists.root();
-        let device = self.take()?;
+        let device = self.take(alloc)?;
         match Alone::new(alloc, device, caller) {
             Ok(alone) => {
-                self.stage = Stage::Alone(alone);
+                self.put(Stage::Alone(alone));
                 Ok(())
             }
             Err(_) => Err(Wrong::NoMemory),
@@ -169,10 +173,10 @@ impl Bench {
     /// Seats are to work on the records of the file.
     fn work(&mut self, alloc: Global, words: &mut Words<'_>) -> Result<(), Wrong> {
         let frames = words.number("a number of frames")?;
-        let device = self.take()?;
+        let device = self.take(alloc)?;
         match Trial::open(alloc, device, frames as usize, self.keys) {
             Ok(trial) => {
-                self.stage = Stage::Machines(Machines::new(trial));
+                self.put(Stage::Machines(Machines::new(trial)));
                 Ok(())
             }
             Err(_) => Err(Wrong::NoMemory),
@@ -187,7 +191,7 @@ impl Bench {
         }
         match LockTable::new(alloc, seats) {
             Ok(table) => {
-                self.stage = Stage::Table(table);
+                self.put(Stage::Table(table));
                 Ok(())
             }
             Err(_) => Err(Wrong::NoMemory),
@@ -214,7 +218,7 @@ impl Bench {
         let Ok(copy) = copied(alloc, device) else {
             return Err(Wrong::NoMemory);
         };
-        self.stage = Stage::File(copy);
+        self.put(Stage::File(copy));
         Ok(())
     }
 
@@ -229,12 +233,11 @@ impl Bench {
 
     /// Whoever works on the file ends, and its pages are written.
     fn close(&mut self, line: &mut Line) -> Result<(), Wrong> {
-        let stage = mem::replace(&mut self.stage, Stage::Nothing);
-        match stage {
+        match mem::replace(&mut self.stage, Stage::Nothing) {
             Stage::Seats(seats) => self.close_seats(seats, line),
             Stage::Machines(machines) => self.close_machines(machines, line),
             other => {
-                self.stage = other;
+                self.put(other);
                 return Err(Wrong::Elsewhere("a kernel or records"));
             }
         }
@@ -243,15 +246,14 @@ impl Bench {
 
     /// The kernel is closed, and its journal told. With a call under way it stays.
     fn close_seats(&mut self, seats: Seats, line: &mut Line) {
-        let closed = seats.kernel.close();
-        match closed {
+        match seats.kernel.close() {
             Ok(closed) => {
                 let Closed { device, journal } = closed;
                 self.lists.tell(journal.as_slice(), line);
-                self.stage = Stage::File(device);
+                self.put(Stage::File(device));
             }
             Err(NotClosed::Busy(kernel)) => {
-                self.stage = Stage::Seats(Seats::new(kernel));
+                self.put(Stage::Seats(Seats::new(kernel)));
                 line.word("busy");
             }
             Err(NotClosed::Fault(_closed, fault)) => tell_fault(line, fault.number()),
@@ -260,26 +262,30 @@ impl Bench {
 
     /// The pages on which machines have worked are written.
     fn close_machines(&mut self, machines: Machines, line: &mut Line) {
-        let closed = machines.trial.close();
-        match closed {
-            Ok(device) => self.stage = Stage::File(device),
+        match machines.trial.close() {
+            Ok(device) => self.put(Stage::File(device)),
             Err(fault) => tell_fault(line, fault.number()),
         }
     }
 
     /// The file is checked whole, and it is told what it holds or what is wrong with it.
     fn check(&mut self, alloc: Global, line: &mut Line) -> Result<(), Wrong> {
-        let device = self.take()?;
+        let device = self.take(alloc)?;
         let Checked { device, found } = check(alloc, device, self.keys);
-        self.stage = Stage::File(device);
-        match found {
-            Ok(system) => {
-                line.word("ok");
-                line.number(system.queues() as u64);
-                line.number(system.messages() as u64);
-            }
-            Err(fault) => tell_fault(line, fault.number()),
-        }
+        tell_found(found, line);
+        self.put(Stage::File(device));
         Ok(())
+    }
+}
+
+/// Tells how many queues and messages a file has that is right, or what is wrong with it.
+fn tell_found(found: Result<System, CheckFault>, line: &mut Line) {
+    match found {
+        Ok(system) => {
+            line.word("ok");
+            line.number(system.queues() as u64);
+            line.number(system.messages() as u64);
+        }
+        Err(fault) => tell_fault(line, fault.number()),
     }
 }
