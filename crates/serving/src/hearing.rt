@@ -5,7 +5,7 @@ ghost use Rattle.serving.specs.Serving.{GoesOn};
 
 use crate::client::{client_of, connection_of, is_own};
 use crate::durability::Durability;
-use crate::note::Note;
+use crate::note::{Note, refusal_code};
 use crate::server::Server;
 use crate::trouble::Unheard;
 use durable_desk::desk::session::Unanswered;
@@ -40,11 +40,11 @@ impl<P: PagePair> Server<P> {
             Ok(incoming) => self.attend(incoming, moment),
             Err(Unread::Broken) => Err(Unheard::Broken),
             Err(Unread::Wrong { connection, number }) => {
-                self.say(client_of(connection, number), &Note::code(WRONG))?;
+                self.say_code(client_of(connection, number), WRONG)?;
                 Ok(Heard::Going)
             }
             Err(Unread::NoMemory { connection, number }) => {
-                self.say(client_of(connection, number), &Note::code(NO_MEMORY))?;
+                self.say_code(client_of(connection, number), NO_MEMORY)?;
                 Ok(Heard::Going)
             }
         }
@@ -61,7 +61,10 @@ impl<P: PagePair> Server<P> {
             kind,
         } = incoming;
         match kind {
-            Kind::Request(request) => self.serve(connection, caller, request, moment),
+            Kind::Request(request) => {
+                self.serve(connection, caller, request, moment)?;
+                Ok(Heard::Going)
+            }
             Kind::Gone => self.leave(connection, moment),
             Kind::Tick => self.tick(),
             Kind::End => self.end(moment),
@@ -86,7 +89,7 @@ impl<P: PagePair> Server<P> {
         caller: Caller,
         request: Request,
         moment: u64,
-    ) -> Result<Heard, Unheard>
+    ) -> Result<(), Unheard>
         ensures { OnOk result (GoesOn P.is_honest P.moment P.left_since P.may_leave
             self.old self.new) }
     {
@@ -96,10 +99,9 @@ impl<P: PagePair> Server<P> {
         }
         let client = client_of(connection, number);
         match operation {
-            Operation::Call(call) => self.serve_call(client, caller, call, moment)?,
-            other => self.serve_other(client, caller, &other, moment)?,
+            Operation::Call(call) => self.serve_call(client, caller, call, moment),
+            other => self.serve_other(client, caller, &other, moment),
         }
-        Ok(Heard::Going)
     }
 
     /// A client's call.
@@ -130,22 +132,19 @@ impl<P: PagePair> Server<P> {
     {
         match operation {
             Operation::Next { after } => {
-                let note = found(self.queues.behind(*after));
-                self.say(client, &note)
+                let id = self.queues.behind(*after);
+                self.say_queue(client, id)
             }
             Operation::Nth { place } => {
-                let note = found(self.queues.nth(*place));
-                self.say(client, &note)
+                let id = self.queues.nth(*place);
+                self.say_queue(client, id)
             }
             // (so that who reads the file sees all of it)
             Operation::Save => {
                 self.checkpoint()?;
-                self.say(client, &Note::code(DONE))
+                self.say_code(client, DONE)
             }
-            Operation::Info => {
-                let note = Note::Counts(self.counts());
-                self.say(client, &note)
-            }
+            Operation::Info => self.say_counts(client),
             Operation::Cancel { number } => {
                 self.cancel(client_of(connection_of(client), *number), moment)
             }
@@ -154,6 +153,24 @@ impl<P: PagePair> Server<P> {
                 self.settle(moment)
             }
         }
+    }
+
+    /// A client is told the id of a queue that was looked for.
+    fn say_queue(&mut self, client: u64, id: Option<u32>) -> Result<(), Unheard>
+        ensures { OnOk result (GoesOn P.is_honest P.moment P.left_since P.may_leave
+            self.old self.new) }
+    {
+        let note = found(id);
+        self.say(client, &note)
+    }
+
+    /// A client is told about the server.
+    fn say_counts(&mut self, client: u64) -> Result<(), Unheard>
+        ensures { OnOk result (GoesOn P.is_honest P.moment P.left_since P.may_leave
+            self.old self.new) }
+    {
+        let note = Note::Counts(self.counts());
+        self.say(client, &note)
     }
 
     /// A call is made, whose client is told what came of it; and it is noted which queues are alive.
@@ -214,14 +231,26 @@ impl<P: PagePair> Server<P> {
             self.old self.new) }
     {
         for _ in 0..=self.desk.waiting() {
-            let Some(told) = self.next()? else {
+            if !self.tell_next(moment)? {
                 break;
-            };
-            if is_own(told.client) {
-                self.go_on_with(told, moment)?;
             }
         }
         Ok(())
+    }
+
+    /// The first of these is told. Whether there was one.
+    fn tell_next(&mut self, moment: u64) -> Result<bool, Unheard>
+        ensures { OnOk result (GoesOn P.is_honest P.moment P.left_since P.may_leave
+            self.old self.new) }
+    {
+        let Some(told) = self.next()? else {
+            return Ok(false);
+        };
+        if !is_own(told.client) {
+            return Ok(true);
+        }
+        self.go_on_with(told, moment)?;
+        Ok(true)
     }
 
     /// A client waits no longer.
@@ -232,11 +261,11 @@ impl<P: PagePair> Server<P> {
         if let Some(holding) = self.holdings.awaited_by(client) {
             self.withdraw(holding.queue as u64);
             self.undo(holding.queue)?;
-            self.say(client, &Note::code(CANCELLED))?;
+            self.say_code(client, CANCELLED)?;
             return self.settle(moment);
         }
         if self.withdraw(client) {
-            self.say(client, &Note::code(CANCELLED))?;
+            self.say_code(client, CANCELLED)?;
         }
         Ok(())
     }
@@ -285,7 +314,7 @@ impl<P: PagePair> Server<P> {
 fn found(id: Option<u32>) -> Note {
     match id {
         Some(value) => Note::Code { code: DONE, value },
-        None => Note::refused(Errno::EINVAL),
+        None => Note::code(refusal_code(Errno::EINVAL)),
     }
 }
 

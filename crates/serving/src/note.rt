@@ -30,20 +30,20 @@ impl Note {
     pub fn code(code: u32) -> Note {
         Note::Code { code, value: 0 }
     }
+}
 
-    /// That the rules refuse what it asks for.
-    pub fn refused(errno: Errno) -> Note {
-        Note::code(errno.number() as u32)
+/// The code of why a call is not answered.
+pub fn code_of(why: Unanswered) -> u32 {
+    match why {
+        // (what the server asks for itself does not wait)
+        Unanswered::Waits => refusal_code(Errno::EAGAIN),
+        Unanswered::NoRoom => NO_ROOM,
+        Unanswered::NoMemory => NO_MEMORY,
+        Unanswered::Failed => FAILED,
     }
+}
 
-    /// Why a call is not answered.
-    pub fn unanswered(why: Unanswered) -> Note {
-        match why {
-            // (what the server asks for itself does not wait)
-            Unanswered::Waits => Note::refused(Errno::EAGAIN),
-            Unanswered::NoRoom => Note::code(NO_ROOM),
-            Unanswered::NoMemory => Note::code(NO_MEMORY),
-            Unanswered::Failed => Note::code(FAILED),
-        }
-    }
+/// The code of a refusal by the rules.
+pub fn refusal_code(errno: Errno) -> u32 {
+    errno.number() as u32
 }
