@@ -11,7 +11,7 @@ use step_rules::Kind;
 use thiserror::Error;
 
 /// Why a line is not done.
-#[derive(Clone, Copy, Debug, PartialEq, Eq, Error)]
+#[derive(Clone, Copy, Debug, Error)]
 pub enum Wrong {
     /// The grammar has something else here.
     #[error("{0} is wanted")]

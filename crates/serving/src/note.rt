@@ -5,7 +5,7 @@ use durable_desk::desk::session::queue_model::{Errno, Message};
 use frames::{Counts, FAILED, NO_MEMORY, NO_ROOM};
 
 /// What a client is told that is not what the rules answer to its call.
-#[derive(Debug, Drop)]
+#[derive(Drop)]
 pub enum Note {
     /// How a request ended that is no call.
     Code {
