@@ -20,7 +20,7 @@ use Rattle.queue_model.specs.declared.answer.QueueInfo.{QueueInfo}
 use Rattle.queue_model.specs.declared.queue.Queue.{Queue}
 use Rattle.queue_commands.specs.Json.{PutsJson, messages_data}
 use Rattle.command_runs.specs.Looking.{AreMessagesAt, LooksAt, LooksOn}
-use Rattle.command_runs.specs.Sessions.{Pages}
+use Rattle.command_runs.specs.Asking.{Pages}
 use Rattle.command_runs.specs.Running.{Seen}
 use Rattle.command_runs.specs.declared.error.CommandError.{CommandError}
 use Rattle.command_runs.specs.declared.looking.Form.TheVariants.{Json}

@@ -1,18 +1,8 @@
 -- A command asked of a file in memory, and its end on the device.
-use Rattle.std.proofs.Common.{◌≡◌, ◌↔◌, ◌∙◌, ℕ, ◌≤◌, inl, inr, Bool, true, false, List, [], ◌∷◌, length, Option, Some, None, unwrap_or, Result, Ok, Err, IfOk, refl, sym, ap, subst, slice_index_or, suc, arith}
-use Rattle.std.specs.List.{list_any}
-use Rattle.std.proofs.lemmas.List.{length-map}
-use Rattle.page_device.specs.Device.{HasRisen}
-use Rattle.page_device.specs.Sealed.{payload_of}
+use Rattle.std.proofs.Common.{◌≡◌, ◌∙◌, ℕ, ◌≤◌, inl, inr, Bool, List, length, Option, Some, None, unwrap_or, Result, Ok, Err, IfOk, refl, sym, ap, subst}
 use Rattle.page_device.proofs.CopyLemmas.{risen-since}
 use Rattle.bucket_page.specs.Pseudokeys.{sha_key}
-use Rattle.bucket_page.specs.declared.pseudokey.ShaKey.{ShaKey}
-use Rattle.interleavings.specs.LoneKernelLaws.{ClosesAKernel, OpensAKernel}
-use Rattle.interleavings.specs.Lone.{RestsOver}
-use Rattle.interleavings.specs.LoneKernelWords.{ActiveView, Caller, IsFileOf, IsFlushedTo, IsOpened, KernelState, PoolState, State, restarted}
-use Rattle.interleavings.specs.interleaving_core.Closing.{IsBusy, IsReleased, OnDevice, fault_in, has_one, is_busy}
-use Rattle.interleavings.specs.interleaving_core.declared.closing.NotClosed.{NotClosed}
-use Rattle.interleavings.specs.interleaving_core.declared.closing.NotClosed.TheVariants.{Busy, Fault}
+use Rattle.interleavings.specs.LoneKernelWords.{Caller, IsFileOf, State, restarted}
 use Rattle.interleavings.specs.interleaving_core.declared.fault.CloseFault.{CloseFault}
 use Rattle.interleavings.specs.interleaving_core.declared.fault.CloseFault.TheVariants as closes
 use Rattle.queue_commands.specs.Asking.{Asking}
@@ -21,102 +11,80 @@ use Rattle.queue_commands.specs.Commands.{AsksAs}
 use Rattle.queue_commands.specs.declared.error.AskError.{AskError}
 use Rattle.queue_commands.specs.declared.error.AskError.TheVariants as asking
 use Rattle.queue_commands.specs.declared.request.Request.{Request}
+use Rattle.session.specs.Session.{ClosesOn, IsClosed, Opens, SessionState}
+use Rattle.session.specs.declared.unanswered.Unanswered.{Unanswered}
+use Rattle.session.specs.declared.unanswered.Unanswered.TheVariants.{Failed}
+use Rattle.command_runs.specs.Asking.{Lacks, Pages, Stands}
 use Rattle.command_runs.specs.Faults.{of_asking}
-use Rattle.command_runs.specs.Memory.{AsksFile, ComesTo, IsAsked, IsClosed, MayNotDo}
+use Rattle.command_runs.specs.Memory.{AsksFile, AsksFrom, ComesTo, IsAsked, MayNotDo}
 use Rattle.command_runs.specs.Running.{EndsAs, EndsWith, IfUnprinted, RunsOn, seen}
-use Rattle.command_runs.specs.Sessions.{Lacks, Pages, SessionState, Stands}
-use Rattle.command_runs.specs.declared.error.CallFault.{CallFault}
-use Rattle.command_runs.specs.declared.error.CallFault.TheVariants.{Lost}
+use Rattle.command_runs.specs.declared.asker.Asker.{Asker}
 use Rattle.command_runs.specs.declared.error.CommandError.{CommandError}
 use Rattle.command_runs.specs.declared.error.CommandError.TheVariants as errors
 use Rattle.command_runs.specs.declared.running.Asked.{Asked}
-use Rattle.command_runs.proofs.AskLemmas.{risen, session}
-
--- a kernel has failed or has not
-apart : {K : Type 0} (k : KernelState K) → k.failed ≡ false → k.failed ≡ true → ⊥
-apart k sound failed = absurd cc
-
--- ---- it is opened
-
--- on the file of a system it rests over that, and no call was made on it
-pub stands_opened : OpensAKernel ShaKey → (c : Caller) (s : State) (content : Pages) (keys : ShaKey) (frames : ℕ)
-    (k : KernelState ShaKey) → IsOpened keys content true (c ∷ []) frames k → IsFileOf sha_key content s →
-    Stands content c s (session k None)
-stands_opened opens c s content keys frames k opened file = record {
-  rests = opens sha_key keys content true (c ∷ []) frames k opened refl s file (omega arith) (omega arith);
-  seated = opened.callers;
-  answered = 0;
-  has = record { keys = keys; frames = frames; opened = opened };
-  pages = ap (λ (p : PoolState). length p.images) opened.pool ∙ length-map content payload_of;
-}
-
--- ---- it is closed
-
--- one in memory that has not failed is closed well
-pub no_fault : {K : Type 0} (fault : CloseFault) (k : KernelState K) → k.failed ≡ false →
-    (◌≡◌ {A = Option CloseFault} (Some fault) (Some closes.Failed) → k.failed ≡ true) →
-    (◌≡◌ {A = Option CloseFault} (Some fault) (Some closes.Device) → HasRisen k.pool.faults 0) → ⊥
-no_fault closes.Device k sound failed risen_to = risen k.pool.faults 0 (risen_to refl) refl
-no_fault closes.Failed k sound failed risen_to = apart k sound (failed refl)
-
--- no call is under way
-none_under_way : (seats : List (Option ActiveView)) → ((place : ℕ) → slice_index_or seats place None ≡ None) →
-    list_any has_one seats ≡ false
-none_under_way [] idle = refl
-none_under_way (None ∷ seats) idle = none_under_way seats (λ place. idle (suc place))
-none_under_way (Some a ∷ seats) idle = absurd (let there = idle 0 in cc)
-
-pub is_free : {K : Type 0} (k : KernelState K) (s : State) → RestsOver sha_key s k → IsBusy k → ⊥
-is_free k s rests busy =
-    let none = none_under_way k.seats (λ place. rests.idle (suc place)) in
-    let some = busy.call in
-    cc
-
--- it is always closed well
-pub never_unclosed : {D : Type 0} (n : NotClosed D ShaKey) (k : KernelState ShaKey) (s : State) (content : D → Pages)
-    (honest synced : D → Bool) → RestsOver sha_key s k → ((is_busy {D = D} {K = ShaKey} (Err n) ≡ true) ↔ IsBusy k) →
-    ((fault_in {D = D} {K = ShaKey} (Err n) ≡ Some closes.Failed) ↔ (k.failed ≡ true)) →
-    OnDevice {D = D} {K = ShaKey}
-    (λ d. IsReleased k (fault_in {D = D} {K = ShaKey} (Err n)) (content d) (honest d) (synced d) 0) (Err n) → ⊥
-never_unclosed (Busy kernel) k s content honest synced rests busy failed device = is_free k s rests (busy.0 refl)
-never_unclosed (Fault closed fault) k s content honest synced rests busy failed device =
-    no_fault fault k rests.sound failed.0 device.cause
+use Rattle.command_runs.proofs.AskLemmas.{risen}
 
 -- ---- it was asked in a session
 
--- its pages are as many as its images
-flushed_pages : (pool : PoolState) (file : Pages) → IsFlushedTo pool file → length file ≡ length pool.images
-flushed_pages pool file flushed = sym (length-map file payload_of) ∙ ap length flushed.images
+-- on the file of a system it holds that, and no call was made in it
+pub stands_opened : (c : Caller) (content : Pages) (k : SessionState) (opens : Opens c content k) →
+    Stands content c opens.system (record { session = k; fault = None })
+stands_opened c content k opens = record {
+  holds = opens.holds;
+  sits = opens.sits;
+  answered = 0;
+  has = opens;
+  pages = opens.many;
+}
 
-module _ (Is : Asking (List ℕ)) (c : Caller) (x : SessionState) (content : Pages) where
+-- one in memory that holds a system is closed well
+never_unclosed : (s : State) (k : SessionState) (fault : CloseFault) (file : Pages) →
+    ClosesOn s k (Some fault) file 0 → ⊥
+never_unclosed s k closes.Device file ends = risen k.pool.faults 0 ends refl
+never_unclosed s k closes.Failed file ends = ends
+
+module _ (c : Caller) (r : Request) (content : Pages) (k : SessionState) (opens : Opens c content k) (x : Asker) where
+  abbrev Is : Asking (List ℕ)
+  Is = AsksAs c r opens.system
+
+  abbrev Came : Result (List ℕ) AskError → Type 0
+  Came came = Comes (λ s. Stands content c s x) (λ call s. Lacks content c call s x) Is came
+
+  from : (came : Result Asked CommandError) → ComesTo c Is content came → AsksFrom c r content came
+  from came comes = record { system = opens.system; file = opens.file; comes = comes }
+
   -- there is a text, and a file
-  pub comes_to : ClosesAKernel ShaKey → (text : List ℕ) (file : Pages) →
-      Comes (λ s. Stands content c s x) (λ call s. Lacks content c call s x) Is (Ok text) →
-      ((s : State) → RestsOver sha_key s x.kernel → IsClosed x.kernel (Ok file)) →
-      ComesTo c Is content (Ok (record { text = text; file = file }))
-  comes_to closing text file comes closed = record {
-    system = comes.system;
-    is = comes.is;
-    holds = closing sha_key comes.system file x.kernel comes.stands.rests (closed comes.system comes.stands.rests);
-    pages = flushed_pages x.kernel.pool file (closed comes.system comes.stands.rests) ∙ comes.stands.pages;
-  }
+  pub comes_to : (text : List ℕ) (file : Pages) (honest synced : Bool) → Came (Ok text) →
+      IsClosed x.session None file honest synced 0 → AsksFrom c r content (Ok (record { text = text; file = file }))
+  comes_to text file honest synced comes closed =
+      let ends = closed.ends comes.system comes.stands.holds in
+      from _ (record {
+        system = comes.system;
+        is = comes.is;
+        holds = ends.0;
+        pages = ends.1 ∙ comes.stands.pages;
+      })
 
   -- it is always closed
-  pub comes_to_close : (text : List ℕ) (error : CommandError) → Comes (λ s. Stands content c s x)
-      (λ call s. Lacks content c call s x) Is (Ok text) →
-      ((s : State) → RestsOver sha_key s x.kernel → IsClosed x.kernel (Err error)) → ComesTo c Is content (Err error)
-  comes_to_close text error comes closed = absurd (closed comes.system comes.stands.rests)
+  pub comes_to_close : (text : List ℕ) (fault : CloseFault) (file : Pages) (honest synced : Bool) →
+      (error : CommandError) → Came (Ok text) → IsClosed x.session (Some fault) file honest synced 0 →
+      AsksFrom c r content (Err error)
+  comes_to_close text fault file honest synced error comes closed =
+      absurd (never_unclosed comes.system x.session fault file (closed.ends comes.system comes.stands.holds))
 
   -- there is no text
-  pub comes_to_none : (error : AskError) → x.kernel.pool.faults ≡ 0 →
-      Comes (λ s. Stands content c s x) (λ call s. Lacks content c call s x) Is (Err error) →
-      ComesTo c Is content (Err (of_asking error x.fault))
-  comes_to_none (asking.Refused e) none comes = (comes.system, comes.is)
-  comes_to_none asking.Unanswered none comes =
-      subst (λ (fault : Option CallFault). MayNotDo c Is content (errors.Unanswered (unwrap_or fault Lost)))
+  comes_none : (error : AskError) → x.session.pool.faults ≡ 0 → Came (Err error) →
+      MayNotDo c Is content (of_asking error x.fault)
+  comes_none (asking.Refused e) none comes = (comes.system, comes.is)
+  comes_none asking.Unanswered none comes =
+      subst (λ (fault : Option Unanswered). MayNotDo c Is content (errors.Unanswered (unwrap_or fault Failed)))
       (sym comes.cause.is)
       (record { call = comes.call; system = comes.system; at = comes.at; cause = comes.cause.cause none })
-  comes_to_none asking.NoMemory none comes = tt
+  comes_none asking.NoMemory none comes = tt
+
+  pub comes_to_none : (error : AskError) → x.session.pool.faults ≡ 0 → Came (Err error) →
+      AsksFrom c r content (Err (of_asking error x.fault))
+  comes_to_none error none comes = from _ (comes_none error none comes)
 
 -- the file that it leaves has as many pages
 pub asked_pages : (c : Caller) (r : Request) (content : Pages) (came : Result Asked CommandError) →
@@ -198,8 +166,8 @@ module _ (c : Caller) (content left : Pages) (old new : Option (List ℕ)) (was 
       inr (record {
         fault = refused.fault;
         told = ap (λ (e : CommandError). Err e) same;
-        framed = refused.framed;
-        cause = refused.cause;
-        failed = λ is. absurd (refused.sound is);
+        framed = refused.may.framed;
+        cause = refused.may.cause;
+        failed = λ is. absurd (refused.may.sound is);
         kept = kept;
       })

@@ -1,11 +1,9 @@
 -- Why a call is not answered, and why a command is not done. docs/SHELL.md, "Exit status"; docs/FAULTS.md.
-use Rattle.std.specs.Prelude.{ℕ, Option, None, Some, Result, Ok, Err, unwrap_or}
-use Rattle.numbers.specs.declared.faults.TheConstants.{FAILED, NO_MEMORY}
+use Rattle.std.specs.Prelude.{ℕ, Option, None, Some, unwrap_or}
+use Rattle.numbers.specs.declared.faults.TheConstants.{FAILED, NO_MEMORY, NO_ROOM}
 use Rattle.page_device.specs.declared.fault.DeviceFault.{DeviceFault}
 use Rattle.page_device.specs.declared.fault.DeviceFault.TheVariants as device
-use Rattle.interleavings.specs.LoneKernelWords.{Answer, Step}
-use Rattle.interleavings.specs.interleaving_core.declared.step.Step.TheVariants as steps
-use Rattle.interleavings.specs.interleaving_core.Fault.{begin_number_of, close_number_of, device_failed, open_number_of, step_number_of}
+use Rattle.interleavings.specs.interleaving_core.Fault.{close_number_of, device_failed, open_number_of}
 use Rattle.interleavings.specs.interleaving_core.declared.fault.OpenFault.{OpenFault}
 use Rattle.interleavings.specs.interleaving_core.declared.fault.OpenFault.TheVariants as opens
 use Rattle.queue_commands.specs.Statuses.{status_of}
@@ -13,24 +11,15 @@ use Rattle.queue_commands.specs.declared.error.AskError.{AskError}
 use Rattle.queue_commands.specs.declared.error.AskError.TheVariants as asking
 use Rattle.queue_commands.specs.declared.error.ExitStatus.{ExitStatus}
 use Rattle.queue_commands.specs.declared.error.ExitStatus.TheVariants.{Fault}
-use Rattle.command_runs.specs.declared.error.CallFault.{CallFault}
-use Rattle.command_runs.specs.declared.error.CallFault.TheVariants.{NotBegun, Failed, Lost}
+use Rattle.session.specs.declared.unanswered.Unanswered.{Unanswered}
+use Rattle.session.specs.declared.unanswered.Unanswered.TheVariants as calls
 use Rattle.command_runs.specs.declared.error.CommandError.{CommandError}
 use Rattle.command_runs.specs.declared.error.CommandError.TheVariants as errors
 
--- of a call whose seat was driven until it rests. What else could be told is told on a file that holds no system
-abbrev pub told : Step → Result Answer CallFault
-told (steps.Moved kind) = Err Lost
-told (steps.Blocked other) = Err Lost
-told steps.Waiting = Err Lost
-told (steps.Answered answer) = Ok answer
-told steps.Idle = Err Lost
-told (steps.Fault fault) = Err (Failed fault)
-
 -- of a command that came to no text, and of its call that was not answered
-abbrev pub of_asking : AskError → Option CallFault → CommandError
+abbrev pub of_asking : AskError → Option Unanswered → CommandError
 of_asking (asking.Refused e) fault = errors.Refused e
-of_asking asking.Unanswered fault = errors.Unanswered (unwrap_or fault Lost)
+of_asking asking.Unanswered fault = errors.Unanswered (unwrap_or fault calls.Failed)
 of_asking asking.NoMemory fault = errors.NoMemory
 
 -- of a file whose pages can't be read into memory: a transfer failed, or there is no memory for them
@@ -43,10 +32,12 @@ unread device.NoMemory = opens.NoMemory
 
 -- ---- numbers and exit statuses
 
-abbrev pub call_number_of : CallFault → ℕ
-call_number_of (NotBegun fault) = begin_number_of fault
-call_number_of (Failed fault) = step_number_of fault
-call_number_of Lost = FAILED
+-- one that waits is none of a command
+abbrev pub call_number_of : Unanswered → ℕ
+call_number_of calls.Waits = FAILED
+call_number_of calls.NoRoom = NO_ROOM
+call_number_of calls.NoMemory = NO_MEMORY
+call_number_of calls.Failed = FAILED
 
 -- a refusal, and an output that refused the text, have none
 abbrev pub number_of : CommandError → Option ℕ

@@ -18,7 +18,7 @@ use Rattle.queue_commands.specs.declared.queue_name.QueueName.{QueueName}
 use Rattle.queue_commands.specs.declared.queue_name.QueueName.TheVariants.{Key, Id}
 use Rattle.queue_commands.specs.Tables.{messages_text, queues_text}
 use Rattle.queue_commands.specs.Commands.{AsksAs}
-use Rattle.command_runs.specs.Sessions.{Pages}
+use Rattle.command_runs.specs.Asking.{Pages}
 use Rattle.command_runs.specs.Running.{IsUnopened, Seen}
 use Rattle.command_runs.specs.declared.error.CommandError.{CommandError}
 use Rattle.command_runs.specs.declared.error.CommandError.TheVariants.{NoMemory, Refused, Unopened, Unprinted}

@@ -1,16 +1,14 @@
 -- A command that is asked of a file in memory. docs/SHELL.md, "What a command asks".
-use Rattle.std.specs.Prelude.{◌≡◌, ◌≢◌, ◌⊎◌, ℕ, List, ⊤, Result, Ok, Err, length}
+use Rattle.std.specs.Prelude.{◌≡◌, ◌⊎◌, ℕ, List, ⊤, Result, Ok, Err, length}
 use Rattle.bucket_page.specs.Pseudokeys.{sha_key}
-use Rattle.interleavings.specs.LoneKernelWords.{Caller, IsFileOf, IsFlushedTo, KernelState, State, restarted}
-use Rattle.interleavings.specs.interleaving_core.Beginning.{MayRefuseUnchecked}
-use Rattle.interleavings.specs.interleaving_core.Fault.{device_failed}
+use Rattle.interleavings.specs.LoneKernelWords.{Caller, IsFileOf, State, restarted}
 use Rattle.interleavings.specs.interleaving_core.declared.fault.OpenFault.{OpenFault}
-use Rattle.interleavings.specs.interleaving_core.declared.fault.OpenFault.TheVariants.{TooFewFrames}
+use Rattle.session.specs.Session.{MayNotOpen}
 use Rattle.queue_commands.specs.Asking.{Asking, Refuses}
 use Rattle.queue_commands.specs.Coming.{IsUnanswered}
 use Rattle.queue_commands.specs.Commands.{AsksAs}
 use Rattle.queue_commands.specs.declared.request.Request.{Request}
-use Rattle.command_runs.specs.Sessions.{MayLack, Pages}
+use Rattle.command_runs.specs.Asking.{MayLack, Pages}
 use Rattle.command_runs.specs.declared.error.CommandError.{CommandError}
 use Rattle.command_runs.specs.declared.error.CommandError.TheVariants.{NoMemory, Refused, Unanswered, Unclosed, Unopened, Unprinted}
 use Rattle.command_runs.specs.declared.running.Asked.{Asked}
@@ -49,15 +47,7 @@ pub record AsksFrom (c : Caller) (r : Request) (content : Pages) (came : Result 
 pub record IsRefused (content : Pages) (came : Result Asked CommandError) : Type 0 where
   pub fault : OpenFault
   pub told : came ≡ Err (Unopened fault)
-  pub framed : fault ≢ TooFewFrames
-  pub cause : MayRefuseUnchecked sha_key content fault
-  pub sound : fault ≢ device_failed
+  pub may : MayNotOpen content fault
 
 abbrev pub AsksFile : Caller → Request → Pages → Result Asked CommandError → Type 0
 AsksFile c r content came = AsksFrom c r content came ⊎ IsRefused content came
-
--- ---- a kernel is closed in memory
-
-abbrev pub IsClosed : {K : Type 0} → KernelState K → Result Pages CommandError → Type 0
-IsClosed k (Ok file) = IsFlushedTo k.pool file
-IsClosed k (Err error) = ⊥

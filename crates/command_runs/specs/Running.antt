@@ -13,7 +13,7 @@ use Rattle.queue_commands.specs.Asking.{Asking}
 use Rattle.queue_commands.specs.Commands.{AsksAs}
 use Rattle.queue_commands.specs.declared.request.Request.{Request}
 use Rattle.command_runs.specs.Memory.{MayNotDo}
-use Rattle.command_runs.specs.Sessions.{Pages}
+use Rattle.command_runs.specs.Asking.{Pages}
 use Rattle.command_runs.specs.declared.error.CommandError.{CommandError}
 use Rattle.command_runs.specs.declared.error.CommandError.TheVariants.{Unclosed, Unopened, Unprinted}
 use Rattle.command_runs.specs.declared.running.Asked.{Asked}

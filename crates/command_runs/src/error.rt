@@ -3,27 +3,13 @@
 ghost use Rattle.std.specs.Prelude.{◌≡◌};
 ghost use Rattle.command_runs.specs.Faults.{call_number_of, exit_of, number_of, of_asking};
 
-use interleavings::interleaving_core::{BeginFault, CloseFault, OpenFault, StepFault};
 use numbers::faults;
 use numbers::faults::NoMemory;
 use queue_commands::{AskError, ExitStatus};
 use queue_model::Errno;
+use session::{CloseFault, OpenFault, Unanswered};
 use std::io;
 use thiserror::Error;
-
-/// Why a call was not answered.
-#[derive(Clone, Copy, Debug, PartialEq, Eq, Error)]
-pub enum CallFault {
-    /// It did not begin.
-    #[error("a call does not begin: {0}")]
-    NotBegun(BeginFault),
-    /// It failed, for want of room or by a fault of the file.
-    #[error("a call failed: {0}")]
-    Failed(StepFault),
-    /// It came to no answer, which no call on the file of a system does.
-    #[error("a call came to no answer")]
-    Lost,
-}
 
 /// Why a command is not done. Unless its text was printed nothing is written.
 #[derive(Debug, Drop, Error)]
@@ -35,8 +21,8 @@ pub enum CommandError {
     #[error("{}", .0.name())]
     Refused(Errno),
     /// One of its calls was not answered.
-    #[error("{0}")]
-    Unanswered(CallFault),
+    #[error("a call failed: {0}")]
+    Unanswered(Unanswered),
     /// There was no memory for a body or for the text that is printed.
     #[error("out of memory")]
     NoMemory,
@@ -46,19 +32,6 @@ pub enum CommandError {
     /// The file was not written well, after the text was printed.
     #[error("it can't be closed: {0}")]
     Unclosed(CloseFault),
-}
-
-impl CallFault {
-    /// The number that a program prints (docs/FAULTS.md).
-    pub fn number(self) -> u8
-        ensures { result ≡ call_number_of self }
-    {
-        match self {
-            CallFault::NotBegun(fault) => fault.number(),
-            CallFault::Failed(fault) => fault.number(),
-            CallFault::Lost => faults::FAILED,
-        }
-    }
 }
 
 impl From<NoMemory> for CommandError {
@@ -80,7 +53,7 @@ impl CommandError {
     {
         match self {
             CommandError::Unopened(fault) => Some(fault.number()),
-            CommandError::Unanswered(fault) => Some(fault.number()),
+            CommandError::Unanswered(fault) => Some(number_of_call(*fault)),
             CommandError::NoMemory => Some(faults::NO_MEMORY),
             CommandError::Unclosed(fault) => Some(fault.number()),
             CommandError::Refused(_) | CommandError::Unprinted(_) => None,
@@ -98,13 +71,24 @@ impl CommandError {
     }
 
     /// Of why a command came to no text, and why its call was not answered, where one was not.
-    pub(crate) fn of_asking(error: AskError, fault: Option<CallFault>) -> CommandError
+    pub(crate) fn of_asking(error: AskError, fault: Option<Unanswered>) -> CommandError
         ensures { result ≡ of_asking error fault }
     {
         match error {
             AskError::Refused(errno) => CommandError::Refused(errno),
-            AskError::Unanswered => CommandError::Unanswered(fault.unwrap_or(CallFault::Lost)),
+            AskError::Unanswered => CommandError::Unanswered(fault.unwrap_or(Unanswered::Failed)),
             AskError::NoMemory => CommandError::NoMemory,
         }
+    }
+}
+
+/// The number of why a call was not answered; one that waits is none of a command.
+fn number_of_call(fault: Unanswered) -> u8
+    ensures { result ≡ call_number_of fault }
+{
+    match fault {
+        Unanswered::NoRoom => faults::NO_ROOM,
+        Unanswered::NoMemory => faults::NO_MEMORY,
+        Unanswered::Waits | Unanswered::Failed => faults::FAILED,
     }
 }

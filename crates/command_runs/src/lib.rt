@@ -3,6 +3,7 @@
 
 #![tactic(auto)]
 
+mod asker;
 mod error;
 mod key;
 mod looking;
@@ -10,11 +11,10 @@ mod mistake;
 mod printing;
 mod reading;
 mod running;
-mod session;
 mod task;
 mod values;
 
-pub use error::{CallFault, CommandError};
+pub use error::CommandError;
 pub use key::queue_name;
 pub use looking::{Form, Look, info_on, look_on};
 pub use mistake::Mistake;

@@ -1,32 +1,26 @@
 //! A command run on the file of a device.
 
 ghost use Rattle.std.specs.Prelude.{◌≡◌, ℕ, List, Option, IfOk, IsTrue, OnOk, length, true};
-ghost use Rattle.bucket_page.specs.Pseudokeys.{sha_key};
-ghost use Rattle.interleavings.specs.Lone.{RestsOver};
-ghost use Rattle.interleavings.specs.LoneKernelWords.{Caller, State};
-ghost use Rattle.command_runs.specs.Memory.{AsksFile, ComesTo, IsClosed};
+ghost use Rattle.interleavings.specs.LoneKernelWords.{Caller};
+ghost use Rattle.session.specs.Session.{Opens};
+ghost use Rattle.command_runs.specs.Asking.{Pages};
+ghost use Rattle.command_runs.specs.Memory.{AsksFile, AsksFrom};
 ghost use Rattle.command_runs.specs.Faults.{unread};
 ghost use Rattle.command_runs.specs.Running.{EndsWith, IfUnprinted, IfUnwritten, RunsOn, seen};
-ghost use Rattle.command_runs.specs.Sessions.{Pages, Stands};
-ghost use Rattle.queue_commands.specs.Commands.{AsksAs};
 ghost use Rattle.queue_commands.specs.declared.request.Request.{Request};
 
-use crate::error::{CallFault, CommandError};
+use crate::asker::Asker;
+use crate::error::CommandError;
 use crate::printing::Printer;
-use crate::session::{FileKeys, Session};
-use bucket_page::{KeptKeys, ShaKey};
+use bucket_page::ShaKey;
 use file_walk::StructureFault;
 use interleavings::interleaving_core::file_check::{CheckFault, Checked, check};
-use interleavings::interleaving_core::{CloseFault, Kernel, NotClosed, OpenFault};
-use interleavings::{a_kernel_at_rest_closes_on_its_file, a_kernel_opens_at_rest};
 use page_device::{DeviceFault, MAX_PAGES, MemDevice, PageDevice, copied, write_back};
 use queue_commands::{Request, Text, ask};
 use queue_model::Caller;
+use session::{CloseFault, OpenFault, Session, Unanswered};
 use std::alloc::Global;
 use std::io::Write;
-
-/// The frames for the pages of a file in memory, of which a call uses few.
-const FRAMES: usize = 256;
 
 /// What a command leaves.
 #[derive(Drop)]
@@ -168,51 +162,33 @@ fn ask_file(
     ensures asks { AsksFile caller request.now file result }
     ensures pages { IfOk result (λ asked. length asked.file ≡ length file) }
 {
-    a_kernel_opens_at_rest::<FileKeys>();
-    let Ok(keys) = KeptKeys::new(alloc, ShaKey) else {
-        return Err(CommandError::Unopened(OpenFault::NoMemory));
-    };
-    let kernel = match Kernel::open(alloc, file, keys, &[caller], FRAMES) {
-        Ok(kernel) => kernel,
-        Err((_, fault)) => return Err(CommandError::Unopened(fault)),
-    };
-    ask_kernel(alloc, Session::new(kernel), request)
-}
-
-/// Asks a command in a session, and closes its file.
-fn ask_kernel(
-    alloc: Global,
-    session: Session<MemDevice>,
-    request: &Request,
-) -> Result<Asked, CommandError>
-    ensures { (c : Caller) (s : State) (content : Pages) → Stands content c s session →
-        ComesTo c (AsksAs c request.now s) content result }
-{
-    a_kernel_at_rest_closes_on_its_file::<FileKeys>();
-    let mut session = session;
-    let asked = ask(alloc, &mut session, request);
-    let (kernel, fault) = session.into_parts();
-    match asked {
-        Ok(text) => {
-            let file = close(kernel)?;
-            Ok(Asked { text, file })
-        }
-        Err(error) => {
-            kernel.abandon();
-            Err(CommandError::of_asking(error, fault))
-        }
+    match Session::in_memory(alloc, file, caller) {
+        Ok(session) => ask_session(alloc, session, request),
+        Err(fault) => Err(CommandError::Unopened(fault)),
     }
 }
 
-/// The file of a kernel in memory, once all is written there.
-fn close(kernel: Kernel<MemDevice, FileKeys>) -> Result<MemDevice, CommandError>
-    ensures { (s : State) → RestsOver sha_key s kernel → IsClosed kernel result }
+/// Asks a command in a session, and closes its file.
+fn ask_session(alloc: Global, session: Session, request: &Request) -> Result<Asked, CommandError>
+    ensures { (c : Caller) (content : Pages) → Opens c content session →
+        AsksFrom c request.now content result }
 {
-    match kernel.close() {
-        Ok(closed) => Ok(closed.device),
-        // no transfer fails in memory, and no call is left of a file of a system
-        Err(NotClosed::Fault(_, _) | NotClosed::Busy(_)) => {
-            Err(CommandError::Unanswered(CallFault::Lost))
+    let mut asker = Asker {
+        session,
+        fault: None,
+    };
+    let asked = ask(alloc, &mut asker, request);
+    let Asker { session, fault } = asker;
+    let text = match asked {
+        Ok(text) => text,
+        Err(error) => {
+            session.abandon();
+            return Err(CommandError::of_asking(error, fault));
         }
+    };
+    match session.close() {
+        Ok(file) => Ok(Asked { text, file }),
+        // no transfer fails in memory
+        Err(_) => Err(CommandError::Unanswered(Unanswered::Failed)),
     }
 }

@@ -1,8 +1,8 @@
 -- A desk serves on where calls are withdrawn, it is stopped, and pages are read and saved.
-use Rattle.std.proofs.Common.{ℕ, ◌≡◌, refl, sym, subst, Bool, true, false, List, Option, Some, None, length}
+use Rattle.std.proofs.Common.{ℕ, ◌≡◌, refl, sym, ap, subst, Bool, true, false, List, Option, Some, None, length}
 use Rattle.std.specs.Prelude.{IsSome, IsTrue, filter, nat_lt, not}
 use Rattle.std.proofs.lemmas.List.Elements.{All-filter}
-use Rattle.interleavings.specs.LoneKernelWords.{State}
+use Rattle.interleavings.specs.LoneKernelWords.{PoolState, State}
 use Rattle.session.specs.Session.{CallsAs, HasFailed, SessionState, saved_of}
 use Rattle.session.specs.Session as sessions
 use Rattle.desk.specs.Desk.{AreQuiet, DeskState, KeepsServing, Stops, Withdraws}
@@ -33,7 +33,7 @@ pub is_stopped : (old : DeskState) (k : SessionState) → sessions.Stops old.ses
 is_stopped old k stops = record {
   serves = λ s serves. record { holds = stops.stops s serves.holds; quiet = λ n x within undue. absurd cc };
   waiting = refl;
-  saved = stops.saved;
+  saved = ap (λ (p : PoolState). p.stored) stops.pool;
   most = refl;
 }
 

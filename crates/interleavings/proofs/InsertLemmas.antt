@@ -28,6 +28,7 @@ use Rattle.interleaving_core.specs.xsi_calls.Undecided.{Trials}
 use Rattle.interleaving_core.specs.xsi_calls.Words.{Change, Records, has_no_room, its_plan}
 use Rattle.interleavings.specs.Words.{ActiveView, Call, Caller, Entry, HasCall, IsDriven, IsSeat, IsStep, IsStopped, KernelState, Moves, PoolState, RecordKey, State, Step, Table, after, call_at, call_of, conclusion_of, lacks_room, outcome, with_call}
 use Rattle.interleavings.specs.Laws.{EventsRefine, RefinesOn, StepsRefine, StepsRefineAndDo}
+use Rattle.interleavings.specs.Inserting.{AreInserting, IsInsertingAt}
 use Rattle.interleavings.specs.Moments.{HasToInsert}
 use Rattle.interleavings.specs.Refining.{Refines, calls_of}
 use Rattle.interleavings.specs.Runs.{AreOfSeats, Happens, IsOfSeat, Runs}
@@ -143,16 +144,6 @@ module _ {K : Type 0} (hash : RecordKey → ℕ) (base : State) (k : KernelState
 
 -- ---- what is so of a call
 
--- where it lacks room it has something to insert
-abbrev pub IsInsertingAt : State → List Caller → List Entry → Option ActiveView → Type 0
-IsInsertingAt base callers journal None = ⊤
-IsInsertingAt base callers journal (Some a) =
-    lacks_room a.machine ≡ true → HasToInsert callers base a.machine.call journal
-
--- until a step fails
-abbrev pub AreInserting : {K : Type 0} → State → KernelState K → Type 0
-AreInserting base k = k.failed ≡ false → (seat : ℕ) → IsInsertingAt base k.callers k.journal (call_at k.seats seat)
-
 -- beside a journal that has grown
 pub still_inserts : (base : State) (callers : List Caller) (journal added : List Entry) (call : Call) →
     HasToInsert callers base call journal → HasToInsert callers base call (journal ++ added)
@@ -243,7 +234,7 @@ module _ {K : Type 0} (does : StepsRefineAndDo K) (hash : RecordKey → ℕ) (ba
           (grown (call_at old.seats other) (had sound_before other))
     ]
 
-  step_inserting : (did : Step) (old new : KernelState K) → Refines hash base old → IsStep hash seat did old new →
+  pub step_inserting : (did : Step) (old new : KernelState K) → Refines hash base old → IsStep hash seat did old new →
       AreInserting base old → AreInserting base new
   step_inserting did old new led step had = at_each did old new led step had
 
@@ -269,7 +260,7 @@ module _ {K : Type 0} (does : StepsRefineAndDo K) (hash : RecordKey → ℕ) (ba
 -- ---- an event
 
 module _ {K : Type 0} (hash : RecordKey → ℕ) (base : State) where
-  begin_inserting : (seat : ℕ) (call : Call) (old new : KernelState K) →
+  pub begin_inserting : (seat : ℕ) (call : Call) (old new : KernelState K) →
       (1 ≤ seat) × (seat ≤ length old.seats) → HasCall seat call old new → AreInserting base old → AreInserting base new
   begin_inserting seat call old new is has had = subst (AreInserting base) (sym has.is) (λ sound other.
       elim (cases_eq other seat) [
@@ -282,7 +273,7 @@ module _ {K : Type 0} (hash : RecordKey → ℕ) (base : State) where
             (sym (at_other old.seats seat other (Some has.active) apart)) (had sound other)
       ])
 
-  stop_inserting : (old new : KernelState K) → IsStopped old new → AreInserting base old → (b : Bool) →
+  pub stop_inserting : (old new : KernelState K) → IsStopped old new → AreInserting base old → (b : Bool) →
       old.stopped ≡ b → AreInserting base new
   stop_inserting old new stops had true is = subst (AreInserting base) (sym (stops.again is)) had
   stop_inserting old new stops had false is = subst (AreInserting base) (sym (stops.first is)) (λ sound seat.

@@ -6,6 +6,7 @@ pub mod EmptyLemmas
 pub mod NewLemmas
 pub mod NewStructure
 pub mod NewLaws
+pub mod SpelledLemmas
 pub mod OpenedSameLemmas
 pub mod StoredLemmas
 pub mod OpenedOpenLemmas
@@ -58,6 +59,9 @@ pub mod WaitLemmas
 pub mod RestingLemmas
 pub mod LoneKernelStepLemmas
 pub mod NameLemmas
+pub mod KeyAskLemmas
+pub mod KeyLockLemmas
+pub mod KeyLemmas
 pub mod WaitingLemmas
 pub mod WakeLemmas
 pub mod AddsLemmas

@@ -11,7 +11,7 @@ use Rattle.interleaving_core.proofs.BeginLemmas.{idle_at, none_due}
 use Rattle.interleaving_core.specs.Closing.{has_one}
 use Rattle.interleaving_core.specs.Kernel.{due_at, due_for_stop, entries_of}
 use Rattle.interleaving_core.specs.declared.fault.CloseFault.TheVariants as closes
-use Rattle.interleavings.specs.Words.{ActiveView, Answer, Call, Caller, Entry, IsFileOf, IsLegal, IsOpened, KernelState, PoolState, RecordKey, after, answer_of_call, call_at, call_of, entry_of, part_of, restarted, untold}
+use Rattle.interleavings.specs.Words.{ActiveView, Answer, Call, Caller, Entry, IsFileOf, IsLegal, IsOpened, KernelState, PoolState, RecordKey, State, after, answer_of_call, call_at, call_of, entry_of, part_of, restarted, untold}
 use Rattle.interleavings.specs.Ending.{HasEnded}
 use Rattle.interleavings.specs.Laws.{AnswersAsPlainLists, ClosesRefine, DrivesEnd, EventsRefine, RefinesFile, StepsRefineAndDo, StepsRefine}
 use Rattle.interleavings.specs.Refining.{Refines}
@@ -26,7 +26,8 @@ use Rattle.interleavings.specs.declared.playing.Played.{Played}
 use Rattle.interleavings.proofs.EventLemmas.{places_along}
 use Rattle.interleavings.proofs.RisenLemmas.{risen_along, risen_within}
 use Rattle.interleavings.proofs.FoundedLemmas.{founded_along}
-use Rattle.interleavings.proofs.InsertLemmas.{IsInsertingAt, inserting_along}
+use Rattle.interleavings.proofs.InsertLemmas.{inserting_along}
+use Rattle.interleavings.specs.Inserting.{IsInsertingAt}
 use Rattle.interleavings.proofs.OnWayLemmas.{still_from_none}
 use Rattle.interleavings.proofs.OutcomeLemmas.{come_along, fails_along}
 use Rattle.interleavings.proofs.RunLemmas.{tells_its_part}
@@ -290,7 +291,7 @@ module _ {K : Type 0} (of : K → RecordKey → ℕ) (keys : K) (content : List 
             by (Some e) is_e (Some o) is_o = here e o is_e is_o
 
       pub plays_plain : StepsRefineAndDo K → StepsRefine K → AnswersAsPlainLists K → ClosesRefine K →
-          PlaysAsPlainLists hash callers es content left left_synced played
+          PlaysAsPlainLists (IsFileOf hash) callers es content left left_synced played
       plays_plain does steps plain closes =
           let lists = plain hash led.base new led.file.system.has.lawful led_behind in
           record {
@@ -329,3 +330,20 @@ module _ {K : Type 0} (of : K → RecordKey → ℕ) (keys : K) (content : List 
               (ended.device device);
           step = λ true_to_it. step_reason lead true_to_it (led true_to_it) does drives was before;
         }
+
+-- ---- what is so of the file of a system is so of what its pages mean
+
+module _ {Is As : List (List ℕ) → State → Type 0} (so : (pages : List (List ℕ)) (s : State) → Is pages s → As pages s)
+    (callers : List Caller) (es : List Event) {D : Type 0} (content left : List (List ℕ)) (is_synced : Bool)
+    (played : Played D) where
+  pub plays_so : PlaysAsPlainLists Is callers es content left is_synced played →
+      PlaysAsPlainLists As callers es content left is_synced played
+  plays_so plays = record {
+    base = plays.base;
+    file = so content plays.base plays.file;
+    legal = plays.legal;
+    rightly = plays.rightly;
+    leaves = λ none. so left _ (plays.leaves none);
+    pages = plays.pages;
+    synced = plays.synced;
+  }

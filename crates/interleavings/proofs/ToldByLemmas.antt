@@ -12,7 +12,8 @@ use Rattle.interleavings.specs.declared.event.Event.{Event}
 use Rattle.interleavings.specs.declared.event.Event.TheVariants as events
 use Rattle.interleavings.specs.declared.event.Outcome.{Outcome}
 use Rattle.interleavings.specs.declared.event.Outcome.TheVariants as outcomes
-use Rattle.interleavings.proofs.InsertLemmas.{AreInserting, IsInsertingAt, moves_inserting, still_inserts}
+use Rattle.interleavings.proofs.InsertLemmas.{moves_inserting, still_inserts}
+use Rattle.interleavings.specs.Inserting.{AreInserting, IsInsertingAt}
 use Rattle.interleavings.proofs.NoRoomLemmas.{LacksSoundly, no_room, step_told}
 use Rattle.interleavings.proofs.OnWayLemmas.{AreStill}
 use Rattle.interleavings.proofs.TellingLemmas.{StandsThere, drive_blocked, drive_waits, step_blocked, step_waits}

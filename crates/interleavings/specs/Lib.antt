@@ -2,6 +2,8 @@ pub mod Files
 pub mod NewFileLaws
 pub mod Resting
 pub mod OpenedLaws
+pub mod Spelled
+pub mod SpelledLaws
 pub mod SeatWords
 pub mod Beside
 pub mod Apart
@@ -26,8 +28,10 @@ pub mod Doing
 pub mod Ending
 pub mod Outcomes
 pub mod Moments
+pub mod Inserting
 pub mod Playing
 pub mod Laws
+pub mod KeyLaws
 pub mod Rooms
 pub mod Renewing
 pub use Rattle.file_check.specs as file_check

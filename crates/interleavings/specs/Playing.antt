@@ -4,7 +4,7 @@ use Rattle.std.specs.Prelude.{ℕ, ◌≡◌, ◌↔◌, Bool, true, IsSome, IsT
 use Rattle.std.specs.List.{list_any}
 use Rattle.page_device.specs.Device.{HasRisen}
 use Rattle.interleaving_core.specs.declared.fault.CloseFault.TheVariants as closes
-use Rattle.interleavings.specs.Words.{Caller, IsFileOf, IsLegal, RecordKey, State, after, restarted}
+use Rattle.interleavings.specs.Words.{Caller, IsLegal, State, after, restarted}
 use Rattle.interleavings.specs.Moments.{HasItsPart, HasStood, TellsRightly}
 use Rattle.interleavings.specs.Outcomes.{AreOutcomes, call_under_way, nothing_yet, tells_failure}
 use Rattle.interleavings.specs.declared.event.Event.{Event}
@@ -33,21 +33,21 @@ pub record HasReason {D : Type 0} (honest : Bool) (old new : ℕ) (played : Play
 
 -- ---- of a device that gives back what was written
 
--- whatever the events, and so whatever the order of the seats' steps
-pub record PlaysAsPlainLists {D : Type 0} (hash : RecordKey → ℕ) (callers : List Caller) (es : List Event)
-    (content left : List (List ℕ)) (is_synced : Bool) (played : Played D) : Type 0 where
-  -- the one system whose file the device had
+-- whatever the events, and so whatever the order of the seats' steps; pages are a system in this way
+pub record PlaysAsPlainLists {D : Type 0} (Is : List (List ℕ) → State → Type 0) (callers : List Caller)
+    (es : List Event) (content left : List (List ℕ)) (is_synced : Bool) (played : Played D) : Type 0 where
+  -- the one system that the pages of the device were
   pub base : State
-  pub file : IsFileOf hash content base
+  pub file : Is content base
   -- each entry's answer is the outcome of its call, by the rules, in the system after the entries before it
   pub legal : IsLegal callers played.journal.items base
   -- a seat is told that it waits only where the rules have no answer, and that another blocks it only where that has a
   -- call under way that has moved, or was blocked last
   pub rightly : (many : ℕ) → TellsRightly callers base many es played.outcomes.items played.journal.items
-  -- where each call has ended and nothing failed the device is left with the file of the system after the journal,
-  -- which is not stopped for who opens it next
-  pub leaves : played.fault ≡ None → IsFileOf hash left (restarted (after callers played.journal.items base))
-  -- which has as many pages
+  -- where each call has ended and nothing failed the pages that are left are the system after the journal, which is not
+  -- stopped for who opens it next
+  pub leaves : played.fault ≡ None → Is left (restarted (after callers played.journal.items base))
+  -- they are as many
   pub pages : played.fault ≡ None → length left ≡ length content
   -- and synced, so that what was written outlasts the program
   pub synced : played.fault ≡ None → IsTrue is_synced

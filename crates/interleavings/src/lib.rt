@@ -6,6 +6,7 @@
 
 mod concurrent_laws;
 mod event;
+mod key_laws;
 mod laws;
 mod lone_kernel_laws;
 mod new_file_laws;
@@ -14,6 +15,7 @@ mod playing;
 mod renewing;
 mod running;
 mod seat_laws;
+mod spelled_laws;
 
 pub use concurrent_laws::{
     calls_begin_together, calls_end_together, calls_leave_the_file_at_rest, calls_owe_apart,
@@ -22,6 +24,7 @@ pub use concurrent_laws::{
 pub use event::{Event, Outcome, are_of_seats};
 pub use file_check;
 pub use interleaving_core;
+pub use key_laws::a_remove_takes_the_key_of_its_queue;
 pub use laws::{
     a_closed_file_opens_on_its_system, a_refining_kernel_answers_as_plain_lists,
     a_refining_kernel_closes_on_its_file, a_search_hops_few_times,
@@ -53,4 +56,5 @@ pub use seat_laws::{
     a_seat_sees_what_it_saw, an_id_is_given_out_under_its_name,
     no_other_writes_under_a_calls_names, others_leave_what_a_call_knows,
 };
+pub use spelled_laws::{pages_spell_one_system, the_file_of_a_system_spells_it};
 pub use xsi_calls;

@@ -8,6 +8,8 @@ ghost use Rattle.interleaving_core.specs.Fault.{device_failed};
 ghost use Rattle.interleavings.specs.Ending.{HasEnded};
 ghost use Rattle.interleavings.specs.Playing.{HasPlayed, HasReason, PlaysAsPlainLists};
 ghost use Rattle.interleavings.specs.Runs.{AreOfSeats};
+ghost use Rattle.interleavings.specs.Spelled.{SpellsSystem};
+ghost use Rattle.interleavings.specs.Words.{IsFileOf};
 
 use crate::event::{Event, Outcome};
 use crate::laws::{
@@ -75,11 +77,14 @@ pub fn play_on<D: PageDevice + Drop, K: PseudoKey + Drop>(
     requires few { length callers.now ≤ MAX_SEATS }
     requires seats { AreOfSeats (length callers.now) events.items }
     ensures headline { IsTrue (D.is_honest device) → IfOk result (λ played.
-        PlaysAsPlainLists (K.of_key keys) callers.now events.items (D.content device)
+        PlaysAsPlainLists SpellsSystem callers.now events.items (D.content device)
         (D.content played.device) (D.is_synced played.device) played) }
     ensures played { IfOk result (λ played. HasPlayed events.items played) }
-    ensures refused { IsTrue (D.is_honest device) → IfErr result (λ refusal.
-        MayRefuse (K.of_key keys) (D.content device) refusal.1) }
+    // the same of files that `check` says yes to, and what it says of others
+    ensures checked { IsTrue (D.is_honest device) → IfOk result (λ played.
+        PlaysAsPlainLists (IsFileOf (K.of_key keys)) callers.now events.items (D.content device)
+        (D.content played.device) (D.is_synced played.device) played)
+        × IfErr result (λ refusal. MayRefuse (K.of_key keys) (D.content device) refusal.1) }
     ensures few { IsErrAnd result (λ refusal. refusal.1 ≡ OpenFault.TooFewFrames) ↔
         (frames < 4 * length callers.now + 8) }
     ensures same { IfOk result (λ played. D.is_honest played.device ≡ D.is_honest device)

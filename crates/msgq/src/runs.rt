@@ -9,6 +9,7 @@ ghost use Rattle.msgq_cli.specs.Scripts.{greatest_seat};
 ghost use Rattle.replays.specs.Beside.{RunsBesideOn, RunsFrom, RunsScriptOn, counted_from, is_of_one_seat};
 ghost use Rattle.replays.specs.Desks.{AreMade, AreUntouched, IsPlanOf};
 ghost use Rattle.replays.specs.Lines.{is_stop};
+ghost use Rattle.replays.specs.Spelled.{RunsScriptSpelled};
 ghost use Rattle.workers.specs.Opening.{origin_of};
 
 use crate::crew::{ThreadASeat, make_all};
@@ -55,6 +56,18 @@ pub fn run_on<
     W: Write + Drop,
 >(crew: &ThreadASeat<'_, R>, device: D, script: &Script, output: &mut Output<W>) -> Ran<D>
     ensures ran { RunsScriptOn script.now (D.is_honest device)
+        (record {
+          content = D.content device;
+          left = D.content result.device;
+          synced = D.is_synced result.device;
+          was = D.fault_count device;
+          faults = D.fault_count result.device;
+          old = output.old;
+          new = output.new;
+          untold = result.is_untold;
+        }) result.ending }
+    // the same in words of the rules, of what is printed and of what pages mean in bytes
+    ensures spelled { RunsScriptSpelled script.now (D.is_honest device)
         (record {
           content = D.content device;
           left = D.content result.device;

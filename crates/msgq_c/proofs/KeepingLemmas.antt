@@ -25,7 +25,7 @@ makes_again e left answer old new calls told = record {
         made = record { answer = answer; by_rules = is.by_rules; told = told };
         holds = is.holds;
       };
-  keeps = record { others = refl; saved = calls.saved };
+  keeps = record { others = refl; saved = calls.keeps.saved };
 }
 
 -- ---- those of an addition

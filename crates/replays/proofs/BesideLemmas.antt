@@ -41,7 +41,7 @@ module _ (was : ℕ) (o : Origin) (journal : List Entry) where
 
   file_from : (content : List (List ℕ)) → LeavesFile o journal content →
       LeavesFile (counted_from was o) journal content
-  file_from content l = record { plain = journal_from l.plain; left = l.left }
+  file_from content l = record { plain = journal_from l.plain; left = l.left; pages = l.pages }
 
 -- ---- what each seat was told
 

@@ -31,3 +31,4 @@ pub mod PlanLemmas
 pub mod EndLemmas
 pub mod BesideLemmas
 pub mod NewLemmas
+pub mod SpelledLemmas

@@ -89,15 +89,17 @@ abbrev pub counted_from : ℕ → Origin → Origin
 counted_from was o = record o { faults = was; frames = length o.content }
 
 -- the lines of all seats were made, their replies were printed in the order of the script and handed on, and only then
--- the file was written; a fault is printed after the replies, or none
-pub record RunsBeside (script : Parts) (o : Origin) (c : Effects) (ending : Ending) : Type 0 where
+-- the file was written; a fault is printed after the replies, or none. Of an honest device their journal is so, and so
+-- are the pages that it leaves
+pub record RunsBesideBy (IsJournal : List Entry → Type 0) (Leaves : List Entry → List (List ℕ) → Type 0)
+    (script : Parts) (honest : Bool) (c : Effects) (ending : Ending) : Type 0 where
   pub replies : List Reply
   pub as_many : length replies ≡ length script.lines
   -- a stop as a stop, a call by its answer or by why it has none
   pub fits : AreFitting script.lines replies
   pub journal : List Entry
   pub fault : Option ℕ
-  pub plain : IsTrue o.honest → IsJournalOf o journal
+  pub plain : IsTrue honest → IsJournal journal
   pub mark : Marks script.lines replies journal
   -- each seat was told its own part
   pub parts : (seat : ℕ) → 1 ≤ seat → seat ≤ greatest_seat script.lines →
@@ -107,8 +109,8 @@ pub record RunsBeside (script : Parts) (o : Origin) (c : Effects) (ending : Endi
   -- the output refused a write, or all has come to the writer
   pub untold : c.untold ≡ told.refused
   pub handed : c.untold ≡ false → told.handed ≡ told.known
-  pub kept : c.untold ≡ false → fault ≡ None → IsTrue o.honest → LeavesFile o journal c.left
-  pub synced : c.untold ≡ false → fault ≡ None → IsTrue o.honest → IsTrue c.synced
+  pub kept : c.untold ≡ false → fault ≡ None → IsTrue honest → Leaves journal c.left
+  pub synced : c.untold ≡ false → fault ≡ None → IsTrue honest → IsTrue c.synced
   -- what can't be told has not happened, nor where a step has failed: the pages are those of before
   pub before : (c.untold ≡ true) ⊎ (fault ≡ Some FAILED) → c.left ≡ c.content
   pub number : (n : ℕ) → fault ≡ Some n → (n ≡ DEVICE) ⊎ (n ≡ FAILED)
@@ -116,8 +118,12 @@ pub record RunsBeside (script : Parts) (o : Origin) (c : Effects) (ending : Endi
   pub failed : list_any is_failure replies ≡ true → fault ≡ Some FAILED
   -- and 61 only where the entries, and one call at each seat, are as many as a session decides
   pub full : list_any is_session_full replies ≡ true → MAX_DECIDED ≤ length journal + greatest_seat script.lines
-  pub reason : HasReason o.honest c.was c.faults fault
+  pub reason : HasReason honest c.was c.faults fault
   pub ends : EndsWith fault told (ending_of replies) c.new ending
+
+-- from the file of a system
+abbrev pub RunsBeside : Parts → Origin → Effects → Ending → Type 0
+RunsBeside script o c ending = RunsBesideBy (IsJournalOf o) (LeavesFile o) script o.honest c ending
 
 -- or the file is not opened
 abbrev pub RunsFrom : Parts → Origin → Effects → Ending → Type 0

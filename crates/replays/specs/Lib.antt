@@ -14,3 +14,4 @@ pub mod Lines
 pub mod Desks
 pub mod Printing
 pub mod Beside
+pub mod Spelled

@@ -43,21 +43,18 @@ Fits (commands.Call call) (Failed fault) = IsOfCall fault
 
 -- it was replied that a step has failed
 abbrev pub is_failure : Reply → Bool
-is_failure (Answered answer) = false
-is_failure Stopped = false
 is_failure (Failed fault) = fault == FAILED
+is_failure reply = false
 
 -- or that the session is full
 abbrev pub is_session_full : Reply → Bool
-is_session_full (Answered answer) = false
-is_session_full Stopped = false
 is_session_full (Failed fault) = fault == SESSION_FULL
+is_session_full reply = false
 
 -- or that a stop is made
 abbrev pub is_stopped : Reply → Bool
-is_stopped (Answered answer) = false
 is_stopped Stopped = true
-is_stopped (Failed fault) = false
+is_stopped reply = false
 
 abbrev pub is_no_call : Command → Bool
 is_no_call commands.Stop = true

@@ -68,8 +68,9 @@ pub record RunsFile (script : Parts) (c : Effects) (replies : List Reply) (fault
   pub before : after ≡ None → c.left ≡ c.content
 
 -- a line was printed for each line of the script, and handed on; only then the file was written, and a fault was
--- printed, or none
-pub record IsPlainRun (script : Parts) (honest : Bool) (c : Effects) (ending : Ending) : Type 0 where
+-- printed, or none. On an honest device this is so of the replies and of that fault
+pub record IsPlainRunBy (Rules : List Reply → Option ℕ → Type 0) (script : Parts) (honest : Bool) (c : Effects)
+    (ending : Ending) : Type 0 where
   pub replies : List Reply
   pub told : OutputState
   pub prints : Prints c.old told (printed script.lines replies)
@@ -79,10 +80,14 @@ pub record IsPlainRun (script : Parts) (honest : Bool) (c : Effects) (ending : E
   pub fault : Option ℕ
   pub ends : EndsWith fault told (ending_of replies) c.new ending
   -- what was told has happened, on an honest device, which is synced behind the last write
-  pub rules : IsTrue honest → RunsFile script c replies fault
+  pub rules : IsTrue honest → Rules replies fault
   pub synced : c.untold ≡ false → fault ≡ None → IsTrue honest → IsTrue c.synced
   -- what can't be told has not
   pub before : c.untold ≡ true → c.left ≡ c.content
+
+-- by the rules, on the file of a system
+abbrev pub IsPlainRun : Parts → (honest : Bool) → Effects → Ending → Type 0
+IsPlainRun script honest c ending = IsPlainRunBy (RunsFile script c) script honest c ending
 
 -- or it is not opened
 abbrev pub RunsPlainly : Parts → (honest : Bool) → Effects → Ending → Type 0

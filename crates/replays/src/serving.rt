@@ -5,6 +5,7 @@ ghost use Rattle.interleavings.specs.LoneKernelWords.{State};
 ghost use Rattle.replays.specs.PlainRuns.{RunsPlainly};
 ghost use Rattle.replays.specs.Runs.{Stands};
 ghost use Rattle.replays.specs.Serves.{EndsWell, RunsInput, RunsOn, RunsText, RunsTextOn};
+ghost use Rattle.replays.specs.Spelled.{RunsSpelled};
 
 use crate::ending::{Ran, tell_end};
 use crate::opening::{FileKeys, leave_refused, open_kernel};
@@ -137,6 +138,18 @@ pub fn run_on<D: PageDevice + Drop, W: Write + Drop>(
         }) result.ending }
     // the same in words of the rules, of what is printed and of pages alone
     ensures plain { RunsPlainly script.now (D.is_honest device)
+        (record {
+          content = D.content device;
+          left = D.content result.device;
+          synced = D.is_synced result.device;
+          was = D.fault_count device;
+          faults = D.fault_count result.device;
+          old = output.old;
+          new = output.new;
+          untold = result.is_untold;
+        }) result.ending }
+    // and of what these mean, down to their bytes
+    ensures spelled { RunsSpelled script.now (D.is_honest device)
         (record {
           content = D.content device;
           left = D.content result.device;

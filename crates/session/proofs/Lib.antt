@@ -1,7 +1,10 @@
 pub mod FaultLemmas
 pub mod LoadLemmas
 pub mod RefusalLemmas
+pub mod KeepLemmas
+pub mod BeforeLemmas
 pub mod SessionLemmas
 pub mod SeatLemmas
 pub mod PageLemmas
 pub mod SaveLemmas
+pub mod CloseLemmas

@@ -1,5 +1,5 @@
 -- A session is opened, and what its pages are.
-use Rattle.std.proofs.Common.{arith, ℕ, suc, ◌≡◌, ◌≢◌, ◌<◌, IsTrue, refl, sym, ap, ◌∙◌, subst, true, false, List, [], ◌∷◌, None, Result, Ok, Err, IfOk, OnOk, length}
+use Rattle.std.proofs.Common.{arith, ℕ, suc, ◌≡◌, ◌≢◌, ◌<◌, ◌≤◌, Bool, Some, IsTrue, refl, sym, ap, ◌∙◌, subst, true, false, List, [], ◌∷◌, None, Result, Ok, Err, IfOk, OnOk, length}
 use Rattle.std.specs.Result.{is_err, result_ok}
 use Rattle.std.proofs.lemmas.Bool.{true≢false}
 use Rattle.std.proofs.lemmas.List.{ext_get_or, get_or-map, length-map}
@@ -27,22 +27,40 @@ use Rattle.interleaving_core.specs.Renewing.{FailsToRead, IsBetweenCalls, IsIdle
 use Rattle.interleaving_core.specs.xsi_calls.Words.{world}
 use Rattle.interleavings.specs.LoneKernelLaws.{ClosesAKernel, OpensAKernel}
 use Rattle.interleavings.specs.LoneKernelWords.{Caller, IsFileAtRest, IsFileOf, IsFlushedTo, State, caller_at}
-use Rattle.session.specs.Session.{AreItsPages, GivesPage, HasFailed, Holds, IsSession, Opens, OpensNew, PageBecomes, PagesAreTheFile, SessionState, pages_of}
-use Rattle.session.proofs.SessionLemmas.{KeepsSeat, same_caller, same_saved}
+use Rattle.session.specs.Session.{AreItsPages, GivesPage, HasFailed, Holds, IsSession, Opens, OpensAny, OpensNew, PageBecomes, PagesAreTheFile, SessionState, caller_of, pages_of, saved_of}
+use Rattle.session.proofs.KeepLemmas.{KeepsSeat, same_caller, same_saved}
 
 -- ---- it is opened
 
-pub is_opened : OpensAKernel ShaKey → (caller : Caller) (content : List (List ℕ)) (keys : ShaKey) (frames : ℕ)
-    (k : SessionState) → IsOpened keys content true (caller ∷ []) frames k → HasSystem sha_key content →
-    Opens caller content k
-is_opened opens caller content keys frames k opened has = record {
-  system = has.0;
-  file = has.1;
-  holds = opens sha_key keys content true (caller ∷ []) frames k opened refl has.0 has.1 (omega arith) (omega arith);
-  sits = ap (λ (cs : List Caller). caller_at cs 1) opened.callers;
-  many = ap (λ (p : PoolState). length p.images) opened.pool ∙ length-map content payload_of;
-  saved = ap (λ (p : PoolState). p.stored) opened.pool;
+pub is_opened : OpensAKernel ShaKey → (caller : Caller) (content : List (List ℕ)) (honest : Bool) (was : ℕ)
+    (keys : ShaKey) (frames : ℕ) (k : SessionState) → IsOpened keys content honest (caller ∷ []) frames k →
+    (IsTrue honest → HasSystem sha_key content) → was ≤ k.pool.faults → OpensAny caller content honest was k
+is_opened opens caller content honest was keys frames k opened has later = record {
+  honest_is = ap (λ (p : PoolState). p.honest) opened.pool;
+  sound = opened.failed;
+  sits = sits;
+  many = many;
+  saved = saved;
+  later = later;
+  opens = λ is. record {
+    system = (has is).0;
+    file = (has is).1;
+    holds = opens sha_key keys content honest (caller ∷ []) frames k opened is (has is).0 (has is).1 (omega arith)
+        (omega arith);
+    sits = sits;
+    many = many;
+    saved = saved;
+  };
 }
+  where
+    sits : caller_of k ≡ Some caller
+    sits = ap (λ (cs : List Caller). caller_at cs 1) opened.callers
+
+    many : pages_of k ≡ length content
+    many = ap (λ (p : PoolState). length p.images) opened.pool ∙ length-map content payload_of
+
+    saved : saved_of k ≡ content
+    saved = ap (λ (p : PoolState). p.stored) opened.pool
 
 -- a file of no queues is that of no other system
 pub is_new : (caller : Caller) (pages : ℕ) (content : List (List ℕ)) → IsFileOf sha_key content no_queues →
@@ -138,6 +156,8 @@ page_kept page (Ok bytes) old new read =
       callers = refl;
       seat = λ is. is;
       stored = read.stored;
+      pages = read.stay.keeps.as_many;
+      honest = read.stay.keeps.honest;
       later = read.stay.later;
     })
 page_kept page (Err fault) old new fails =
@@ -145,13 +165,10 @@ page_kept page (Err fault) old new fails =
       callers = refl;
       seat = λ is. is;
       stored = fails.stored;
+      pages = fails.by.keeps.as_many;
+      honest = fails.by.keeps.honest;
       later = fails.by.later;
     })
-
-as_many : (page : ℕ) (r : Result (List ℕ) PoolFault) (old new : SessionState) → Reads page r old new →
-    pages_of new ≡ pages_of old
-as_many page (Ok bytes) old new read = read.stay.keeps.as_many
-as_many page (Err fault) old new fails = fails.by.keeps.as_many
 
 becomes : (page : ℕ) (r : Result (List ℕ) PoolFault) (old new : SessionState) → page < pages_of old →
     Reads page r old new → (s : State) → Holds s old → PageBecomes page s (result_ok r) old new
@@ -167,7 +184,7 @@ pub is_given : (page : ℕ) (r : Result (List ℕ) PoolFault) (old new : Session
 is_given page r old new within is read = record {
   becomes = becomes page r old new within read;
   caller = same_caller old new (page_kept page r old new read);
-  many = as_many page r old new read;
+  many = (page_kept page r old new read).pages;
   saved = same_saved old new (page_kept page r old new read) is;
 }
 

@@ -38,23 +38,19 @@ never_fails : HasRisen 0 0 → ⊥
 never_fails (inl less) = absurd (omega (arith, less))
 never_fails (inr most) = absurd (omega (arith, most))
 
-unchecked : (content : List (List ℕ)) (fault : OpenFault) → MayRefuse sha_key content fault →
+pub unchecked : (content : List (List ℕ)) (fault : OpenFault) → MayRefuse sha_key content fault →
     MayRefuseUnchecked sha_key content fault
 unchecked content TooFewFrames may = tt
 unchecked content NoMemory may = tt
 unchecked content (Wrong fault) may = may
 
-pub is_refused : (content : List (List ℕ)) (fault : OpenFault) → MayRefuse sha_key content fault →
+pub is_refused : (content : List (List ℕ)) (fault : OpenFault) → MayRefuseUnchecked sha_key content fault →
     (fault ≡ TooFewFrames → ⊥) → (fault ≡ device_failed → HasRisen 0 0) → MayNotOpen content fault
 is_refused content fault may framed failed = record {
-  cause = unchecked content fault may;
+  cause = may;
   framed = framed;
   sound = λ is. never_fails (failed is);
 }
-
--- there is no memory for pseudokeys
-pub no_room : (content : List (List ℕ)) → MayNotOpen content NoMemory
-no_room content = record { cause = tt; framed = λ same. cc; sound = λ same. cc }
 
 -- nothing is wrong with a new file, so want of memory alone refuses it
 machine_alone : (content : List (List ℕ)) → IsFileOf sha_key content no_queues → (fault : OpenFault) →

@@ -1,47 +1,27 @@
--- What a session's call comes to, and that it keeps its seat.
-use Rattle.std.proofs.Common.{arith, ℕ, ◌≡◌, ◌≤◌, refl, sym, ap, ◌∙◌, subst, inl, inr, Bool, true, false, IsSome, List, Option, Some, None, Result, Ok, Err, length, nat_le, option_map, if◌then◌else◌}
+-- What a session's call comes to.
+use Rattle.std.proofs.Common.{ℕ, ◌≡◌, refl, sym, ap, ◌∙◌, subst, inl, inr, Bool, true, false, IsSome, Option, Some, None, Result, Err}
 use Rattle.std.proofs.lemmas.Bool.{cases_eq}
-use Rattle.std.proofs.lemmas.Bool.Decides.{nat_tests}
 use Rattle.bucket_page.specs.Pseudokeys.{sha_key}
 use Rattle.bucket_page.specs.declared.pseudokey.ShaKey.{ShaKey}
 use Rattle.page_device.specs.Device.{HasRisen}
-use Rattle.page_locks.proofs.ChangeLemmas.{IsSeat-with_row}
-use Rattle.page_locks.specs.Table.{Table}
-use Rattle.buffer_pool.specs.Pool.{PoolState, spared}
-use Rattle.buffer_pool.proofs.SparedLemmas.{stored_kept}
 use Rattle.queue_model.specs.Journal.{outcome_for}
 use Rattle.interleaving_core.proofs.PlaceLemmas.{at_other, at_same, seat_of_call}
-use Rattle.interleaving_core.proofs.RenewLemmas.{new_has_nothing, outlast_at}
+use Rattle.interleaving_core.proofs.RenewLemmas.{new_has_nothing}
 use Rattle.interleaving_core.specs.Beginning.{Refuses}
 use Rattle.interleaving_core.specs.Owing.{IsRun, is_failure}
-use Rattle.interleaving_core.specs.Renewing.{IsRenewed, Withdraws, outlasting}
-use Rattle.interleaving_core.specs.Words.{Entry}
+use Rattle.interleaving_core.specs.Renewing.{Withdraws}
 use Rattle.interleaving_core.specs.declared.fault.BeginFault.TheVariants as begins
 use Rattle.interleaving_core.specs.declared.fault.StepFault.TheVariants as faults
 use Rattle.interleaving_core.specs.declared.step.Step.TheVariants as steps
 use Rattle.interleavings.proofs.LoneRoomLemmas.{begun_with_room}
-use Rattle.interleavings.specs.LoneKernelLaws.{AnswersLoneCalls, RefusesAtRest, StandsBehind, StandsDriven, StopsAKernel}
+use Rattle.interleavings.specs.LoneKernelLaws.{AnswersLoneCalls, RefusesAtRest, StandsBehind, StandsDriven}
 use Rattle.interleavings.specs.Lone.{WaitsOver}
-use Rattle.interleavings.specs.LoneKernelWords.{ActiveView, Answer, BeginFault, Call, Caller, HasCall, IsDriven, IsMove, IsRefused, IsSeat, IsStopped, IsWhole, State, Step, call_at, caller_at, with_call}
-use Rattle.session.specs.Session.{Becomes, Calls, CallsLent, Holds, IsSession, IsShortened, SessionState, Stops, came_of, caller_of, is_waiting, saved_of, unanswered_by}
+use Rattle.interleavings.specs.LoneKernelWords.{ActiveView, Answer, BeginFault, Call, Caller, HasCall, IsDriven, IsMove, IsRefused, IsWhole, State, Step, call_at, with_call}
+use Rattle.session.specs.Making.{EndsDriven, Goes, IsTakenBack, SessionState, came_of, caller_of, is_waiting, unanswered_by}
+use Rattle.session.specs.Session.{Becomes, Holds, IsLeft, IsSession, MakesLent}
 use Rattle.session.specs.declared.unanswered.Unanswered.{Unanswered}
-use Rattle.session.specs.declared.unanswered.Unanswered.TheVariants.{Waits, NoRoom, NoMemory, Failed}
-
--- ---- its journal is let go
-
-pub renewed : (taken : List Entry) (old new : SessionState) → IsRenewed taken old new → IsShortened old new
-renewed taken old new went = subst (IsShortened old) (sym went.is) (record {
-  holds = λ s rests. record {
-    file = rests.file;
-    idle = λ seat.
-        outlast_at old.journal old.seats seat ∙ ap (option_map (outlasting old.journal)) (rests.idle seat);
-    sound = rests.sound;
-    mark = rests.mark;
-  };
-  pool = refl;
-  callers = refl;
-  locks = refl;
-})
+use Rattle.session.specs.declared.unanswered.Unanswered.TheVariants.{Waits, Failed}
+use Rattle.session.proofs.KeepLemmas.{KeepsSeat, apart, keeps_file, keeps_seat_back, keeps_seat_begun, keeps_seat_refused, keeps_seat_run, same_caller, then_keeps}
 
 -- ---- a call that waits is taken back
 
@@ -87,98 +67,21 @@ module _ (call : Call) (c : Caller) (s : State) (waiting : SessionState)
       } in
       subst (Holds s) (sym went.is) rests
 
--- callers, locks and what was saved stay, and no transfer that failed is forgotten
-pub record KeepsSeat (old new : SessionState) : Type 0 where
-  pub callers : new.callers ≡ old.callers
-  pub seat : IsSeat old.locks 1 → IsSeat new.locks 1
-  pub stored : spared new.pool ≡ spared old.pool
-  pub later : old.pool.faults ≤ new.pool.faults
-
-stays : (k : SessionState) → KeepsSeat k k
-stays k = record { callers = refl; seat = λ is. is; stored = refl; later = omega arith }
-
-pub keeps_seat_back : (back : Option Call) (old new : SessionState) → Withdraws 1 back old new → KeepsSeat old new
-keeps_seat_back None old new left = subst (KeepsSeat old) (sym left.same) (stays old)
-keeps_seat_back (Some back) old new went =
-    subst (KeepsSeat old) (sym went.is) (record { callers = refl; seat = λ is. is; stored = refl; later = omega arith })
-
--- ---- it keeps its seat
-
-pub keeps_seat_refused : (call : Call) (refusal : Call × BeginFault) (old new : SessionState) →
-    IsRefused 1 call refusal old new → KeepsSeat old new
-keeps_seat_refused call refusal old new refused =
-    subst (KeepsSeat old) (sym refused.same) (record {
-      callers = refl;
-      seat = λ is. is;
-      stored = refl;
-      later = omega arith;
-    })
-
-pub keeps_seat_begun : (call : Call) (old new : SessionState) → HasCall 1 call old new → KeepsSeat old new
-keeps_seat_begun call old new has =
-    subst (KeepsSeat old) (sym has.is) (record { callers = refl; seat = λ is. is; stored = refl; later = omega arith })
-
-pub keeps_seat_run : (answer : Option Answer) (old new : SessionState) → IsRun 1 answer old new → KeepsSeat old new
-keeps_seat_run answer old new run = record {
-  callers = run.rest.callers;
-  seat = λ is. subst (λ (t : Table). IsSeat t 1) (sym run.locks) (IsSeat-with_row old.locks 1 1 _ is);
-  stored = run.rest.stored;
-  later = run.rest.later;
-}
-
-pub then_keeps : (a b c : SessionState) → KeepsSeat a b → KeepsSeat b c → KeepsSeat a c
-then_keeps a b c first last = record {
-  callers = last.callers ∙ first.callers;
-  seat = λ is. last.seat (first.seat is);
-  stored = last.stored ∙ first.stored;
-  later = let begun = first.later in let ended = last.later in omega (arith, begun, ended);
-}
-
-pub same_caller : (old new : SessionState) → KeepsSeat old new → caller_of new ≡ caller_of old
-same_caller old new keeps = ap (λ (cs : List Caller). caller_at cs 1) keeps.callers
-
-abbrev IsRoomy : PoolState → Type 0
-IsRoomy p = length p.stored ≤ p.frames
-
-pub same_saved : (old new : SessionState) → KeepsSeat old new → IsSession old → saved_of new ≡ saved_of old
-same_saved old new keeps is = stored_kept old.pool new.pool keeps.stored is.roomy
-
-roomy_kept : (s t : PoolState) → spared t ≡ spared s → IsRoomy s → IsRoomy t
-unfolding spared
-roomy_kept s t same roomy =
-    let is : nat_le (length t.stored) t.frames ≡ true =
-    has_frames (nat_le (length t.stored) t.frames) (same ∙ rw there refl)
-    in
-    grind (arith, nat_tests)
-  where
-    there : nat_le (length s.stored) s.frames ≡ true
-    there = grind (arith, nat_tests)
-
-    has_frames : (b : Bool) → ◌≡◌ {A = Option (List (List ℕ))} (if b then Some t.stored else None) (Some s.stored) →
-        b ≡ true
-    has_frames true same = refl
-    has_frames false same = absurd cc
-
-pub still_session : (old new : SessionState) → KeepsSeat old new → IsSession old → IsSession new
-still_session old new keeps is = record {
-  seat = keeps.seat is.seat;
-  roomy = roomy_kept old.pool new.pool keeps.stored is.roomy;
-}
-
-pub driven_session : (call : Call) (told : Option Answer) (first begun last : SessionState) →
-    HasCall 1 call first begun → IsRun 1 told begun last → IsSession first → IsSession last
-driven_session call told first begun last has run is =
-    still_session first last (then_keeps first begun last (keeps_seat_begun call first begun has)
-    (keeps_seat_run told begun last run)) is
-
-pub withdrawn_session : (back : Option Call) (last new : SessionState) → Withdraws 1 back last new → IsSession last →
-    IsSession new
-withdrawn_session back last new went is = still_session last new (keeps_seat_back back last new went) is
-
 -- ---- what a call comes to
 
-apart : (k : SessionState) → k.failed ≡ false → k.failed ≡ true → ⊥
-apart k sound failed = absurd cc
+-- whatever the device gives
+module _ (call left : Call) (result : Result Answer Unanswered) (old new : SessionState) (is : IsSession old)
+    (keeps : KeepsSeat old new) (goes : Goes call result old new) where
+  -- and from a system that is held
+  pub lent : ((s : State) → Holds s old → Becomes (caller_of old) call s result old new) →
+      IsLeft call left result old → MakesLent call left result old new
+  lent becomes is_left = record {
+    becomes = becomes;
+    is_left = is_left;
+    keeps = keeps_file old new keeps is;
+    goes = goes;
+    caller = same_caller old new keeps;
+  }
 
 -- it does not begin
 module _ (refuses : RefusesAtRest ShaKey) (call left : Call) (refusal : Call × BeginFault) (old new : SessionState)
@@ -192,7 +95,7 @@ module _ (refuses : RefusesAtRest ShaKey) (call left : Call) (refusal : Call × 
       by : (fault : BeginFault) → Refuses 1 old fault →
           Becomes (caller_of old) call s (Err (unanswered_by fault)) old new
       by begins.Failed cause = absurd (apart old holds.sound cause)
-      by begins.Busy cause = same
+      by begins.Busy cause = absurd (cause.1 (holds.idle 1))
       by begins.SessionFull cause = same
       by begins.NoMemory cause = same
 
@@ -202,19 +105,11 @@ module _ (refuses : RefusesAtRest ShaKey) (call left : Call) (refusal : Call × 
   never_waits begins.SessionFull is = cc
   never_waits begins.NoMemory is = cc
 
-  refused_keeps : KeepsSeat old new
-  refused_keeps = keeps_seat_refused call refusal old new refused
-
-  pub is_refused : CallsLent call left (Err (unanswered_by refusal.1)) old new
-  is_refused = record {
-    calls = record {
-      becomes = not_begun;
-      caller = same_caller old new refused_keeps;
-      saved = same_saved old new refused_keeps is;
-    };
-    is_left = λ s holds waits. absurd (never_waits refusal.1 waits);
-    later = refused_keeps.later;
-  }
+  pub is_refused : MakesLent call left (Err (unanswered_by refusal.1)) old new
+  is_refused =
+      lent call left _ old new is (keeps_seat_refused call refusal old new refused)
+      (inl (record { refusal = refusal; refused = refused; told = refl }))
+      not_begun (λ s holds waits. absurd (never_waits refusal.1 waits))
 
 -- it is driven
 module _ (answers : AnswersLoneCalls ShaKey) (call : Call) (old begun last : SessionState)
@@ -247,33 +142,34 @@ module _ (answers : AnswersLoneCalls ShaKey) (call : Call) (old begun last : Ses
       keeps_back : (back : Option Call) (new : SessionState) → Withdraws 1 back last new → KeepsSeat old new
       keeps_back back new went = then_keeps old last new keeps (keeps_seat_back back last new went)
 
+      driven_back : (back : Option Call) (new : SessionState) (result : Result Answer Unanswered) →
+          Withdraws 1 back last new → IsTakenBack back result → Goes call result old new
+      driven_back back new result went told = inr (record {
+        begun = begun;
+        begins = has;
+        did = did;
+        last = last;
+        driven = driven;
+        ends = subst (λ (b : Bool). EndsDriven b did result last new) (sym waiting) (back, went, told);
+      })
+
       pub told_waiting : (back : Call) (new : SessionState) → Withdraws 1 (Some back) last new →
-          CallsLent call back (Err Waits) old new
-      told_waiting back new went = record {
-        calls = record {
-          becomes = λ s holds. (
+          MakesLent call back (Err Waits) old new
+      told_waiting back new went =
+          lent call back _ old new is (keeps_back (Some back) new went) (driven_back (Some back) new _ went refl)
+          (λ s holds. (
             ap (λ (c : Option Caller). outcome_for c call s) has.sits ∙ (waits s holds).none,
             withdrawn call has.caller s last (waits s holds) back new went,
-          );
-          caller = same_caller old new (keeps_back (Some back) new went);
-          saved = same_saved old new (keeps_back (Some back) new went) is;
-        };
-        is_left = λ s holds told. as_it_was call has.caller s last (waits s holds) back new went;
-        later = (keeps_back (Some back) new went).later;
-      }
+          ))
+          (λ s holds told. as_it_was call has.caller s last (waits s holds) back new went)
 
       -- it does not come back: it holds no system
       pub told_none : (left : Call) (new : SessionState) → Withdraws 1 None last new →
-          CallsLent call left (Err Failed) old new
-      told_none left new none = record {
-        calls = record {
-          becomes = λ s holds. absurd (comes call has.caller s last (waits s holds) new none);
-          caller = same_caller old new (keeps_back None new none);
-          saved = same_saved old new (keeps_back None new none) is;
-        };
-        is_left = λ s holds told. absurd (comes call has.caller s last (waits s holds) new none);
-        later = (keeps_back None new none).later;
-      }
+          MakesLent call left (Err Failed) old new
+      told_none left new none =
+          lent call left _ old new is (keeps_back None new none) (driven_back None new _ none refl)
+          (λ s holds. absurd (comes call has.caller s last (waits s holds) new none))
+          (λ s holds told. absurd (comes call has.caller s last (waits s holds) new none))
 
     faults_same : begun.pool.faults ≡ old.pool.faults
     faults_same = ap (λ (k : SessionState). k.pool.faults) has.is
@@ -320,89 +216,20 @@ module _ (answers : AnswersLoneCalls ShaKey) (call : Call) (old begun last : Ses
     comes_of (steps.Fault faults.NoRoom) over is = cc
     comes_of (steps.Fault (faults.File fault)) over is = cc
 
-    pub told_else : is_waiting did ≡ false → (left : Call) → CallsLent call left (came_of did) old last
-    told_else over left = record {
-      calls = record {
-        becomes = λ s holds. becomes_so s holds did refl over;
-        caller = same_caller old last keeps;
-        saved = same_saved old last keeps is;
-      };
-      is_left = λ s holds waits. absurd (comes_of did over waits);
-      later = keeps.later;
-    }
+    pub told_else : is_waiting did ≡ false → (left : Call) → MakesLent call left (came_of did) old last
+    told_else over left =
+        lent call left _ old last is keeps
+        (inr (record {
+          begun = begun;
+          begins = has;
+          did = did;
+          last = last;
+          driven = driven;
+          ends = subst (λ (b : Bool). EndsDriven b did (came_of did) last last) (sym over) (refl, refl);
+        }))
+        (λ s holds. becomes_so s holds did refl over) (λ s holds waits. absurd (comes_of did over waits))
 
 -- a call that was taken out of where it was lent
 pub of_lent : (made call left : Call) (result : Result Answer Unanswered) (old new : SessionState) → made ≡ call →
-    CallsLent made left result old new → CallsLent call left result old new
-of_lent made call left result old new same lent = subst (λ (x : Call). CallsLent x left result old new) same lent
-
--- ---- behind what was done before it was made
-
--- the same pages and locks, which hold what they held
-pub record IsBehind (old first : SessionState) : Type 0 where
-  pub holds : (s : State) → Holds s old → Holds s first
-  pub pool : first.pool ≡ old.pool
-  pub locks : first.locks ≡ old.locks
-
-pub from_first : (by : Option Caller) (call : Call) (s : State) (old first new : SessionState) → IsBehind old first →
-    (result : Result Answer Unanswered) → Becomes by call s result first new → Becomes by call s result old new
-from_first by call s old first new same (Ok answer) becomes = becomes
-from_first by call s old first new same (Err Waits) becomes = becomes
-from_first by call s old first new same (Err NoRoom) becomes = record {
-  caller = becomes.caller;
-  sits = becomes.sits;
-  first = becomes.first;
-  seated = record {
-    holds = λ t holds. becomes.seated.holds t (same.holds t holds);
-    pool = becomes.seated.pool ∙ same.pool;
-    locks = becomes.seated.locks ∙ same.locks;
-    sits = becomes.seated.sits;
-  };
-  begun = becomes.begun;
-  begins = becomes.begins;
-  lacks = becomes.lacks;
-  holds = becomes.holds;
-}
-from_first by call s old first new same (Err NoMemory) becomes = becomes
-from_first by call s old first new same (Err Failed) becomes = record {
-  failed = becomes.failed;
-  cause = subst (λ (p : PoolState). HasRisen p.faults new.pool.faults) same.pool becomes.cause;
-}
-
-pub shortened_calls : (call left : Call) (result : Result Answer Unanswered) (old first new : SessionState) →
-    IsShortened old first → CallsLent call left result first new → Calls call result old new
-shortened_calls call left result old first new same lent = record {
-  becomes = λ s holds.
-      from_first (caller_of old) call s old first new
-      (record { holds = same.holds; pool = same.pool; locks = same.locks }) result
-      (subst (λ (c : Option Caller). Becomes c call s result first new) its
-      (lent.calls.becomes s (same.holds s holds)));
-  caller = lent.calls.caller ∙ its;
-  saved = lent.calls.saved ∙ ap (λ (p : PoolState). p.stored) same.pool;
-}
-  where
-    its : caller_of first ≡ caller_of old
-    its = ap (λ (cs : List Caller). caller_at cs 1) same.callers
-
--- ---- it is stopped
-
-keeps_seat_stopped : (old new : SessionState) → IsStopped old new → (b : Bool) → old.stopped ≡ b → KeepsSeat old new
-keeps_seat_stopped old new stop true was =
-    subst (KeepsSeat old) (sym (stop.again was)) (stays old)
-keeps_seat_stopped old new stop false was =
-    subst (KeepsSeat old) (sym (stop.first was)) (record {
-      callers = refl;
-      seat = λ is. is;
-      stored = refl;
-      later = omega arith;
-    })
-
-pub keeps_seat_stop : (old new : SessionState) → IsStopped old new → KeepsSeat old new
-keeps_seat_stop old new stop = keeps_seat_stopped old new stop old.stopped refl
-
-pub is_stopped : StopsAKernel ShaKey → (old new : SessionState) → IsSession old → IsStopped old new → Stops old new
-is_stopped stops old new is stop = record {
-  stops = λ s holds. stops sha_key s old new holds stop;
-  caller = same_caller old new (keeps_seat_stop old new stop);
-  saved = same_saved old new (keeps_seat_stop old new stop) is;
-}
+    MakesLent made left result old new → MakesLent call left result old new
+of_lent made call left result old new same lent = subst (λ (x : Call). MakesLent x left result old new) same lent

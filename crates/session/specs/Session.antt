@@ -1,8 +1,7 @@
--- A session over the pages of a file in memory: the system that it holds, and what its calls are answered.
+-- A session over the pages of a device: the system that it holds, and what its calls are answered.
 -- docs/QUEUES.md, "Calls"; docs/FORMAT.md, "Pages".
-use Rattle.std.specs.Prelude.{ℕ, ◌≡◌, ◌≢◌, ◌⊎◌, ◌*◌, ◌/◌, ◌%◌, ◌<◌, ◌≤◌, Bool, true, false, List, [], Option, Some, None, Result, Ok, Err, drop, length, slice_index_or, take}
+use Rattle.std.specs.Prelude.{ℕ, ◌≡◌, ◌≢◌, ◌⊎◌, ◌*◌, ◌/◌, ◌%◌, ◌<◌, ◌≤◌, Bool, true, false, IsTrue, List, [], Option, Some, None, Result, Ok, Err, drop, length, slice_index_or, take}
 use Rattle.bucket_page.specs.Pseudokeys.{sha_key}
-use Rattle.bucket_page.specs.declared.pseudokey.ShaKey.{ShaKey}
 use Rattle.page_device.specs.Device.{HasRisen}
 use Rattle.page_device.specs.declared.fault.DeviceFault.{DeviceFault}
 use Rattle.page_device.specs.declared.fault.DeviceFault.TheVariants as devices
@@ -11,31 +10,27 @@ use Rattle.file_pages.specs.Files.{listed}
 use Rattle.queue_model.specs.Journal.{outcome_for}
 use Rattle.file_walk.specs.declared.fault.StructureFault.TheVariants as structure
 use Rattle.interleavings.specs.Files.{no_queues}
-use Rattle.interleaving_core.specs.Beginning.{MayRefuseUnchecked}
+use Rattle.interleaving_core.specs.Beginning.{IsStopped, MayRefuseUnchecked}
+use Rattle.interleaving_core.specs.Closing.{IsReleased}
 use Rattle.interleaving_core.specs.Fault.{device_failed}
 use Rattle.interleaving_core.specs.file_check.declared.fault.CheckFault.TheVariants.{Structure}
 use Rattle.interleaving_core.specs.Renewing.{IsPage}
-use Rattle.interleaving_core.specs.declared.fault.BeginFault.TheVariants as begins
+use Rattle.interleaving_core.specs.declared.fault.CloseFault.{CloseFault}
+use Rattle.interleaving_core.specs.declared.fault.CloseFault.TheVariants as closes
 use Rattle.interleaving_core.specs.declared.fault.OpenFault.{OpenFault}
 use Rattle.interleaving_core.specs.declared.fault.OpenFault.TheVariants as opens
-use Rattle.interleaving_core.specs.declared.fault.StepFault.TheVariants as faults
-use Rattle.interleaving_core.specs.declared.step.Step.TheVariants as steps
 use Rattle.interleavings.specs.Lone.{RestsOver}
 use Rattle.interleavings.specs.LoneKernelLaws.{LacksInPages}
-use Rattle.interleavings.specs.LoneKernelWords.{Answer, BeginFault, Call, Caller, HasCall, IsFileOf, IsSeat, KernelState, State, Step, caller_at, restarted}
+use Rattle.interleavings.specs.LoneKernelWords.{Answer, Call, Caller, HasCall, IsFileOf, IsSeat, State, restarted}
+pub use Rattle.session.specs.Making.{SessionState, caller_of}
+use Rattle.session.specs.Making.{Goes, Makes}
+use Rattle.session.specs.declared.session.TheConstants.{SEAT}
 use Rattle.session.specs.declared.unanswered.Unanswered.{Unanswered}
 use Rattle.session.specs.declared.unanswered.Unanswered.TheVariants.{Waits, NoRoom, NoMemory, Failed}
-
-abbrev pub SessionState : Type 0
-SessionState = KernelState ShaKey
 
 -- the file of the pages is at rest with this system, and no call is under way
 abbrev pub Holds : State → SessionState → Type 0
 Holds s k = RestsOver sha_key s k
-
--- whose calls they are
-abbrev pub caller_of : SessionState → Option Caller
-caller_of k = caller_at k.callers 1
 
 -- how many pages the file has
 abbrev pub pages_of : SessionState → ℕ
@@ -48,9 +43,17 @@ saved_of k = k.pool.stored
 -- what is so of each session
 pub record IsSession (k : SessionState) : Type 0 where
   -- its caller has a seat
-  pub seat : IsSeat k.locks 1
+  pub seat : IsSeat k.locks SEAT
   -- there is a frame for each page, so that no call brings a page to the device
   pub roomy : length (saved_of k) ≤ k.pool.frames
+
+-- the number of its pages, those that were saved, and whether its device is honest stay, and no transfer that failed is
+-- forgotten; whatever the device gives
+pub record KeepsFile (old new : SessionState) : Type 0 where
+  pub many : pages_of new ≡ pages_of old
+  pub saved : saved_of new ≡ saved_of old
+  pub honest : new.pool.honest ≡ old.pool.honest
+  pub later : old.pool.faults ≤ new.pool.faults
 
 -- ---- it is opened
 
@@ -66,6 +69,18 @@ pub record Opens (caller : Caller) (content : List (List ℕ)) (k : SessionState
   pub sits : caller_of k ≡ Some caller
   pub many : pages_of k ≡ length content
   pub saved : saved_of k ≡ content
+
+-- a session is opened for this caller over a device that had failed so often, whatever that gives
+pub record OpensAny (caller : Caller) (content : List (List ℕ)) (honest : Bool) (was : ℕ) (k : SessionState) : Type 0
+  where
+    pub honest_is : k.pool.honest ≡ honest
+    pub sound : k.failed ≡ false
+    pub sits : caller_of k ≡ Some caller
+    pub many : pages_of k ≡ length content
+    pub saved : saved_of k ≡ content
+    pub later : was ≤ k.pool.faults
+    -- an honest one has the file of a system
+    pub opens : IsTrue honest → Opens caller content k
 
 -- or those of a new file, which has no queue
 pub record OpensNew (caller : Caller) (pages : ℕ) (k : SessionState) : Type 0 where
@@ -110,44 +125,12 @@ MayNotOpenBytes bytes fault = MayNotLoad bytes fault ⊎ MayNotOpen (pages_in (l
 
 -- ---- its calls
 
--- its journal may have been let go: it holds what it held, and nothing else is changed but calls that wait
-pub record IsShortened (old new : SessionState) : Type 0 where
-  pub holds : (s : State) → Holds s old → Holds s new
-  pub pool : new.pool ≡ old.pool
-  pub callers : new.callers ≡ old.callers
-  pub locks : new.locks ≡ old.locks
-
 -- its calls are this caller's from here on; it holds what it held
 pub record IsSeated (caller : Caller) (old new : SessionState) : Type 0 where
   pub holds : (s : State) → Holds s old → Holds s new
   pub pool : new.pool ≡ old.pool
   pub locks : new.locks ≡ old.locks
   pub sits : caller_of new ≡ Some caller
-
--- why a call is not answered that does not begin
-abbrev pub unanswered_by : BeginFault → Unanswered
-unanswered_by begins.Failed = Failed
-unanswered_by begins.Busy = NoMemory
-unanswered_by begins.SessionFull = NoMemory
-unanswered_by begins.NoMemory = NoMemory
-
-abbrev pub is_waiting : Step → Bool
-is_waiting (steps.Moved kind) = false
-is_waiting (steps.Blocked other) = false
-is_waiting steps.Waiting = true
-is_waiting (steps.Answered answer) = false
-is_waiting steps.Idle = false
-is_waiting (steps.Fault fault) = false
-
--- what a call comes to of which its seat was told this; one that is not over has failed
-abbrev pub came_of : Step → Result Answer Unanswered
-came_of (steps.Moved kind) = Err Failed
-came_of (steps.Blocked other) = Err Failed
-came_of steps.Waiting = Err Waits
-came_of (steps.Answered answer) = Ok answer
-came_of steps.Idle = Err Failed
-came_of (steps.Fault faults.NoRoom) = Err NoRoom
-came_of (steps.Fault (faults.File fault)) = Err Failed
 
 -- the rules have this answer for whom the call is made, and the session holds the system after it
 pub record IsAnswered (by : Option Caller) (call : Call) (s : State) (answer : Answer) (new : SessionState) : Type 0
@@ -164,8 +147,8 @@ pub record LacksRoom (by : Option Caller) (call : Call) (s : State) (old new : S
   pub first : SessionState
   pub seated : IsSeated caller old first
   pub begun : SessionState
-  pub begins : HasCall 1 call first begun
-  pub lacks : LacksInPages sha_key 1 caller call s begun
+  pub begins : HasCall SEAT call first begun
+  pub lacks : LacksInPages sha_key SEAT caller call s begun
   pub holds : Holds s new
 
 -- the file has failed, as a transfer of its device did
@@ -183,43 +166,56 @@ Becomes by call s (Err NoRoom) old new = LacksRoom by call s old new
 Becomes by call s (Err NoMemory) old new = Holds s new
 Becomes by call s (Err Failed) old new = HasFailed old new
 
-pub record Calls (call : Call) (result : Result Answer Unanswered) (old new : SessionState) : Type 0 where
-  pub becomes : (s : State) → Holds s old → Becomes (caller_of old) call s result old new
-  pub caller : caller_of new ≡ caller_of old
-  pub saved : saved_of new ≡ saved_of old
+-- no call is answered once it has failed, and it stays so, with the same pages
+pub record IsLost (result : Result Answer Unanswered) (old new : SessionState) : Type 0 where
+  pub told : result ≡ Err Failed
+  pub failed : new.failed ≡ true
+  pub pool : new.pool ≡ old.pool
+
+abbrev pub StaysFailed : Result Answer Unanswered → (old new : SessionState) → Type 0
+StaysFailed result old new = old.failed ≡ true → IsLost result old new
 
 -- what is left of it where it was lent: one that has to wait is as it was
 abbrev pub IsLeft : Call → (left : Call) → Result Answer Unanswered → SessionState → Type 0
 IsLeft call left result old = (s : State) → Holds s old → result ≡ Err Waits → left ≡ call
 
--- the same of a call that is lent
-pub record CallsLent (call left : Call) (result : Result Answer Unanswered) (old new : SessionState) : Type 0 where
-  pub calls : Calls call result old new
+-- whoever sits there makes a call that is lent
+pub record MakesLent (call left : Call) (result : Result Answer Unanswered) (old new : SessionState) : Type 0 where
+  pub becomes : (s : State) → Holds s old → Becomes (caller_of old) call s result old new
   pub is_left : IsLeft call left result old
-  pub later : old.pool.faults ≤ new.pool.faults
+  pub keeps : KeepsFile old new
+  pub goes : Goes call result old new
+  pub caller : caller_of new ≡ caller_of old
 
--- of one that is made for this caller
-pub record CallsAs (caller : Caller) (call left : Call) (result : Result Answer Unanswered) (old new : SessionState)
-    : Type 0 where
-  pub becomes : (s : State) → Holds s old → Becomes (Some caller) call s result old new
+-- it is made for somebody
+pub record CallsLent (by : Option Caller) (call left : Call) (result : Result Answer Unanswered)
+    (old new : SessionState) : Type 0 where
+  -- from a system that is held it is answered by the rules
+  pub becomes : (s : State) → Holds s old → Becomes by call s result old new
   pub is_left : IsLeft call left result old
-  pub later : old.pool.faults ≤ new.pool.faults
-  pub saved : saved_of new ≡ saved_of old
+  -- and whatever the device gives
+  pub keeps : KeepsFile old new
+  pub lost : StaysFailed result old new
+  pub made : Makes by call result old new
 
--- a caller has no seat at a session that holds no system
-pub record IsNotSeated (old new : SessionState) : Type 0 where
-  pub same : new ≡ old
-  pub holds_none : (s : State) → Holds s old → ⊥
+-- for this caller, whose the session is from here on
+abbrev pub CallsAs : Caller → (call left : Call) → Result Answer Unanswered → (old new : SessionState) → Type 0
+CallsAs caller call left result old new = CallsLent (Some caller) call left result old new
 
-abbrev pub Seats : Caller → Bool → (old new : SessionState) → Type 0
-Seats caller true old new = IsSeated caller old new
-Seats caller false old new = IsNotSeated old new
+-- or for whose it was
+pub record Calls (call : Call) (result : Result Answer Unanswered) (old new : SessionState) : Type 0 where
+  pub left : Call
+  pub calls : CallsLent (caller_of old) call left result old new
+  pub caller : caller_of new ≡ caller_of old
 
 -- it is stopped: from here on a call that would wait is refused
 pub record Stops (old new : SessionState) : Type 0 where
   pub stops : (s : State) → Holds s old → Holds (record s { stopped = true }) new
   pub caller : caller_of new ≡ caller_of old
-  pub saved : saved_of new ≡ saved_of old
+  -- and whatever the device gives
+  pub pool : new.pool ≡ old.pool
+  pub failed : new.failed ≡ old.failed
+  pub stopped : IsStopped old new
 
 -- ---- its pages
 
@@ -286,3 +282,24 @@ pub record NotesSave (saved : Bool) (old new : SessionState) : Type 0 where
   pub becomes : (s : State) → Holds s old → SaveBecomes s saved old new
   pub caller : caller_of new ≡ caller_of old
   pub many : pages_of new ≡ pages_of old
+
+-- ---- it is closed
+
+-- an honest device has the file of its system, with as many pages, or has failed
+abbrev pub ClosesOn : State → SessionState → Option CloseFault → List (List ℕ) → (faults : ℕ) → Type 0
+ClosesOn s k None content faults = IsFileOf sha_key content (restarted s) × (length content ≡ pages_of k)
+ClosesOn s k (Some closes.Device) content faults = HasRisen k.pool.faults faults
+ClosesOn s k (Some closes.Failed) content faults = ⊥
+
+-- what the device has that comes back, and why it was not written well, if it was not
+pub record IsClosed (k : SessionState) (fault : Option CloseFault) (content : List (List ℕ)) (honest is_synced : Bool)
+    (faults : ℕ) : Type 0 where
+  pub ends : (s : State) → Holds s k → ClosesOn s k fault content faults
+  -- and whatever the device gives: of a session that has failed nothing is written
+  pub released : IsReleased k fault content honest is_synced faults
+  pub failed : k.failed ≡ true → fault ≡ Some closes.Failed
+
+-- what is so of the device that comes back, in either case
+abbrev pub OnDevice : {D : Type 0} → (Option CloseFault → D → Type 0) → Result D (D × CloseFault) → Type 0
+OnDevice Is (Ok device) = Is None device
+OnDevice Is (Err refusal) = Is (Some refusal.1) refusal.0

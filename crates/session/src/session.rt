@@ -1,27 +1,29 @@
 //! A session, and what is asked of it.
 
-ghost use Rattle.std.specs.Prelude.{◌≡◌, ◌/◌, ◌<◌, IfErr, IfOk, length};
-ghost use Rattle.page_device.specs.declared.page.TheConstants.{PAGE_BYTES};
-ghost use Rattle.session.specs.Session.{Calls, CallsAs, CallsLent, GivesPage, IsShortened, MayNotOpen, MayNotOpenBytes, NotesSave, Opens, OpensNew, Seats, Stops, TellsChanges, pages_in, pages_of, saved_of};
-ghost use Rattle.session.specs.Words.{CanHavePages, NO_MEMORY, open_number_of};
+ghost use Rattle.std.specs.Prelude.{◌≡◌, ◌≢◌, ◌<◌, IfErr, IfOk, IsTrue, length};
+ghost use Rattle.bucket_page.specs.Pseudokeys.{sha_key};
+ghost use Rattle.page_device.specs.Device.{HasRisen};
+ghost use Rattle.interleaving_core.specs.Beginning.{MayRefuseUnchecked};
+ghost use Rattle.interleaving_core.specs.Fault.{device_failed};
+ghost use Rattle.session.specs.Making.{MayBeShortened, Seats};
+ghost use Rattle.session.specs.Session.{Calls, CallsAs, GivesPage, IsClosed, MakesLent, NotesSave, OnDevice, OpensAny, Stops, TellsChanges, pages_of, saved_of};
 
-use crate::loading::loaded;
 use crate::unanswered::{Unanswered, came_of, is_waiting};
 use bucket_page::{KeptKeys, ShaKey};
-use interleaving_core::{Kernel, OpenFault};
+use interleaving_core::{CloseFault, Failure, Kernel, NotClosed, OpenFault};
 use interleavings::{
-    a_kernel_at_rest_is_stopped, a_kernel_opens_at_rest, a_lone_call_is_answered_by_the_rules,
-    a_new_file_has_no_queues, a_refusal_leaves_a_kernel_at_rest,
+    a_kernel_at_rest_closes_on_its_file, a_kernel_at_rest_is_stopped, a_kernel_opens_at_rest,
+    a_lone_call_is_answered_by_the_rules, a_refusal_leaves_a_kernel_at_rest,
 };
 use page_device::{MemDevice, Page, PageDevice};
 use queue_model::{Answer, Call, Caller};
-use record_file::format;
 use std::alloc::Global;
 use std::marker::Model;
 use std::mem;
 
-/// How the keys of a file are spread over its buckets.
-type FileKeys = KeptKeys<ShaKey>;
+/// How the keys of a file are spread over its buckets: by digests, which are kept for their next
+/// use.
+pub type FileKeys = KeptKeys<ShaKey>;
 
 /// The one seat of a session.
 const SEAT: u8 = 1;
@@ -33,13 +35,13 @@ const LEAST_FRAMES: usize = 12;
 /// at hand for the next ones.
 const LONG_JOURNAL: usize = 12;
 
-/// The calls of one caller, one at a time, over the pages of a file in memory.
+/// The calls of one caller, one at a time, over the pages of a device.
 #[derive(Drop)]
-pub struct Session {
-    kernel: Kernel<MemDevice, FileKeys>,
+pub struct Session<D: PageDevice = MemDevice> {
+    kernel: Kernel<D, FileKeys>,
 }
 
-impl Model for Session {
+impl<D: PageDevice> Model for Session<D> {
     ghost use Rattle.session.specs.Session.{IsSession, SessionState};
 
     ghost Value = { SessionState };
@@ -49,57 +51,33 @@ impl Model for Session {
     ghost invariant = { λ s. IsSession s.kernel };
 }
 
-impl Session {
-    /// Opens a file for a caller, from its bytes. The file is checked.
+impl<D: PageDevice + Drop> Session<D> {
+    /// Opens the pages of a device for a caller. The file is checked. There is a frame for each page,
+    /// so nothing is written before the session is closed, or its pages are noted as saved. Each
+    /// refusal gives the device back, and nothing was written.
     ///
     /// # Errors
     ///
-    /// The first thing that is wrong with it; `PastEnd` where the bytes are no whole pages, and
-    /// `BadHeader` where they are more pages than a file has. A fault of no memory where there is
-    /// none.
-    pub fn open(alloc: Global, bytes: &[u8], caller: Caller) -> Result<Session, OpenFault>
-        ensures ok { IfOk result
-            (Opens caller (pages_in (length bytes.now / PAGE_BYTES) bytes.now)) }
-        ensures refused { IfErr result (MayNotOpenBytes bytes.now) }
-    {
-        Session::on(alloc, loaded(alloc, bytes)?, caller)
-    }
-
-    /// Opens a new file of so many pages for a caller.
-    ///
-    /// # Errors
-    ///
-    /// A fault of no memory alone.
-    pub fn create(alloc: Global, pages: u32, caller: Caller) -> Result<Session, OpenFault>
-        requires { CanHavePages pages }
-        ensures ok { IfOk result (OpensNew caller pages) }
-        ensures refused { IfErr result (λ fault. open_number_of fault ≡ NO_MEMORY) }
-    {
-        a_new_file_has_no_queues();
-        let mut device = MemDevice::new(alloc);
-        if format(&mut device, pages).is_err() {
-            return Err(OpenFault::NoMemory);
-        }
-        Session::on(alloc, device, caller)
-    }
-
-    /// Opens the pages of a device in memory for a caller. The file is checked.
-    ///
-    /// # Errors
-    ///
-    /// The first thing that is wrong with it, or a fault of no memory.
-    pub fn on(alloc: Global, device: MemDevice, caller: Caller) -> Result<Session, OpenFault>
-        ensures ok { IfOk result (Opens caller device) }
-        ensures refused { IfErr result (MayNotOpen device) }
+    /// The first thing that is wrong with the file, or a fault of no memory; never `TooFewFrames`.
+    pub fn on(alloc: Global, device: D, caller: Caller) -> Result<Session<D>, (D, OpenFault)>
+        ensures ok { IfOk result (OpensAny caller (D.content device) (D.is_honest device)
+            (D.fault_count device)) }
+        ensures refused { IsTrue (D.is_honest device) → IfErr result (λ refusal.
+            MayRefuseUnchecked sha_key (D.content device) refusal.1) }
+        ensures enough { IfErr result (λ refusal. refusal.1 ≢ OpenFault.TooFewFrames) }
+        ensures err { IfErr result (λ refusal. (D.content refusal.0 ≡ D.content device)
+            × (D.is_honest refusal.0 ≡ D.is_honest device)) }
+        ensures cause { IfErr result (λ refusal. refusal.1 ≡ device_failed →
+            HasRisen (D.fault_count device) (D.fault_count refusal.0)) }
     {
         a_kernel_opens_at_rest::<FileKeys>();
         let frames = LEAST_FRAMES.max(device.pages() as usize);
         let Ok(keys) = KeptKeys::new(alloc, ShaKey) else {
-            return Err(OpenFault::NoMemory);
+            return Err((device, OpenFault::NoMemory));
         };
         match Kernel::open(alloc, device, keys, &[caller], frames) {
             Ok(kernel) => Ok(Session { kernel }),
-            Err((_, fault)) => Err(fault),
+            Err(refusal) => Err(refusal),
         }
     }
 
@@ -130,6 +108,20 @@ impl Session {
     {
         a_kernel_at_rest_is_stopped::<FileKeys>();
         self.kernel.stop();
+    }
+
+    /// Whether the file has failed: then no call is answered.
+    pub fn has_failed(&self) -> bool
+        ensures { result ≡ self.now.failed }
+    {
+        self.kernel.has_failed()
+    }
+
+    /// What failed it, if it has failed.
+    pub fn failure(&self) -> Option<Failure>
+        ensures { result ≡ self.now.failure }
+    {
+        self.kernel.failure()
     }
 
     /// How many pages the file has, and how many were saved.
@@ -174,9 +166,37 @@ impl Session {
         is_saved
     }
 
+    /// Writes what has changed to the device, syncs it, and gives it back. An honest one then has the
+    /// file of the system that the session held. Of a session that has failed nothing is written.
+    ///
+    /// # Errors
+    ///
+    /// `Device` where a transfer failed now, `Failed` where one did before. The device comes back.
+    pub fn close(self) -> Result<D, (D, CloseFault)>
+        ensures { OnDevice (λ fault d. IsClosed self fault (D.content d) (D.is_honest d)
+            (D.is_synced d) (D.fault_count d)) result }
+    {
+        a_kernel_at_rest_closes_on_its_file::<FileKeys>();
+        match self.kernel.close() {
+            Ok(closed) => Ok(closed.device),
+            Err(NotClosed::Fault(closed, fault)) => Err((closed.device, fault)),
+            // a device that is not honest may leave a call that is never answered
+            Err(NotClosed::Busy(kernel)) => Err((kernel.abandon().device, CloseFault::Failed)),
+        }
+    }
+
+    /// The device, which has the pages that were saved last: what has changed since is let go.
+    pub fn abandon(self) -> D
+        ensures content { D.content result ≡ saved_of self }
+        ensures honest { D.is_honest result ≡ self.pool.honest }
+        ensures faults { D.fault_count result ≡ self.pool.faults }
+    {
+        self.kernel.abandon().device
+    }
+
     /// Makes a call that is lent, for whoever sits at the seat.
     fn make(&mut self, call: &mut Call) -> Result<Answer, Unanswered>
-        ensures { CallsLent call.old call.new result self.old self.new }
+        ensures { MakesLent call.old call.new result self.old self.new }
     {
         a_refusal_leaves_a_kernel_at_rest::<FileKeys>();
         a_lone_call_is_answered_by_the_rules::<FileKeys>();
@@ -212,7 +232,7 @@ impl Session {
 
     /// Lets the journal go where it is long: nobody reads it.
     fn shorten(&mut self)
-        ensures { IsShortened self.old self.new }
+        ensures { MayBeShortened self.old self.new }
     {
         if self.kernel.journal().len() < LONG_JOURNAL || !self.kernel.is_between_calls() {
             return;

@@ -1,7 +1,7 @@
 //! Why a call is not answered.
 
 ghost use Rattle.std.specs.Prelude.{◌≡◌};
-ghost use Rattle.session.specs.Session.{came_of, is_waiting, unanswered_by};
+ghost use Rattle.session.specs.Making.{came_of, is_waiting, unanswered_by};
 
 use interleaving_core::{BeginFault, Step, StepFault};
 use queue_model::Answer;
@@ -25,15 +25,14 @@ pub enum Unanswered {
 }
 
 impl Unanswered {
-    /// Why a call is not answered that does not begin.
+    /// Why a call is not answered that does not begin. A seat has a call left only where a device is
+    /// not honest.
     pub(crate) fn of(fault: BeginFault) -> Unanswered
         ensures { result ≡ unanswered_by fault }
     {
         match fault {
-            BeginFault::Failed => Unanswered::Failed,
-            BeginFault::Busy | BeginFault::SessionFull | BeginFault::NoMemory => {
-                Unanswered::NoMemory
-            }
+            BeginFault::Failed | BeginFault::Busy => Unanswered::Failed,
+            BeginFault::SessionFull | BeginFault::NoMemory => Unanswered::NoMemory,
         }
     }
 }

@@ -3,10 +3,12 @@ use Rattle.std.proofs.Common.{◌≡◌, ◌≢◌, ◌≤◌, ◌<◌, ◌↔�
 use Rattle.std.specs.Prelude.{is_some, slice_index_or}
 use Rattle.std.specs.List.{list_any}
 use Rattle.std.proofs.lemmas.Bool.{cases_lt, eqb-true}
+use Rattle.std.proofs.lemmas.List.{length-map}
 use Rattle.interleaving_core.specs.Closing.{IsBusy, has_one}
 use Rattle.interleaving_core.specs.declared.fault.CloseFault.{CloseFault}
 use Rattle.interleaving_core.specs.declared.fault.CloseFault.TheVariants as closes
 use Rattle.page_device.specs.Device.{HasRisen}
+use Rattle.page_device.specs.Sealed.{payload_of}
 use Rattle.interleavings.specs.Laws.{AnswersAsPlainLists, ClosesRefine}
 use Rattle.workers.specs.Views.{calls_in, no_place, nobody, place_at}
 use Rattle.workers.specs.Views as passes
@@ -175,11 +177,11 @@ module _ {K : Type 0} (of_key : K → RecordKey → ℕ) (o : Origin) (k : Kerne
       unfailed = unfailed;
     }
 
-    -- the file is that of the system after the journal
+    -- the file is that of the system after the journal, of as many pages
     pub leaves_file : AnswersAsPlainLists K → ClosesRefine K → (content : List (List ℕ)) (journal : List Entry) →
-        journal ≡ k.journal → (IsTrue k.pool.honest → IsFlushedTo k.pool content) → IsTrue o.honest →
-        LeavesFile o journal content
-    leaves_file plain closes content journal is flushed honest =
+        journal ≡ k.journal → (IsTrue k.pool.honest → IsFlushedTo k.pool content) →
+        length k.pool.images ≡ length o.content → IsTrue o.honest → LeavesFile o journal content
+    leaves_file plain closes content journal is flushed size honest =
         let was = h.led honest in
         subst (λ (l : List Entry). LeavesFile o l content) (sym is)
         record {
@@ -189,15 +191,18 @@ module _ {K : Type 0} (of_key : K → RecordKey → ℕ) (o : Origin) (k : Kerne
               h.callers
               (closes o.hash was.base content k was.led rests_all sound
               (flushed (subst IsTrue (sym h.honest) honest)));
+          pages = sym (length-map content payload_of)
+              ∙ ap length (flushed (subst IsTrue (sym h.honest) honest)).images ∙ size;
         }
 
     pub is_closed : (used : Bool) → AnswersAsPlainLists K → ClosesRefine K → IsMarked used d.journal →
         (left : Remains) → left.journal ≡ k.journal → left.seats ≡ given → left.honest ≡ k.pool.honest →
         left.failure ≡ None → (IsTrue k.pool.honest → IsFlushedTo k.pool left.content) →
-        (IsTrue k.pool.honest → IsTrue left.synced) → IsClosed o given used left
-    is_closed used plain closes mark left is same honest unfailed flushed synced = record {
+        (IsTrue k.pool.honest → IsTrue left.synced) → length k.pool.images ≡ length o.content →
+        IsClosed o given used left
+    is_closed used plain closes mark left is same honest unfailed flushed synced size = record {
       sound = is_sound used left (is_left used plain mark left is same honest) is unfailed;
-      file = leaves_file plain closes left.content left.journal is flushed;
+      file = leaves_file plain closes left.content left.journal is flushed size;
       synced = λ true_to_it. synced (subst IsTrue (sym h.honest) true_to_it);
     }
 

@@ -37,6 +37,7 @@ module _ {K : Type 0} (o : Origin) (old new : KernelState K) (was : KeepsDevice 
   -- no page was read or written
   pub device_same : new.pool ≡ old.pool → new.failed ≡ old.failed → KeepsDevice o new.pool new.failed
   device_same pool failed = record {
+    size = ap (λ (p : PoolState). length p.images) pool ∙ was.size;
     pages = λ roomy. ap spared pool ∙ was.pages roomy;
     later = subst (λ (p : PoolState). o.faults ≤ p.faults) (sym pool) was.later;
     cause = λ honest broken.
@@ -56,10 +57,12 @@ module _ {K : Type 0} (o : Origin) (old new : KernelState K) (was : KeepsDevice 
       by true e = risen_within (omega arith) from later (was.cause honest e)
       by false e = risen_since from (first honest e)
 
-  device_after : spared new.pool ≡ spared old.pool → old.pool.faults ≤ new.pool.faults →
+  device_after : length new.pool.images ≡ length old.pool.images → spared new.pool ≡ spared old.pool →
+      old.pool.faults ≤ new.pool.faults →
       (IsTrue o.honest → old.failed ≡ false → new.failed ≡ true → HasRisen old.pool.faults new.pool.faults) →
       KeepsDevice o new.pool new.failed
-  device_after stored later first = record {
+  device_after as_many stored later first = record {
+    size = as_many ∙ was.size;
     pages = λ roomy. stored ∙ was.pages roomy;
     later = let from = was.later in omega (arith, from, later);
     cause = λ honest broken. cause_by later (λ true_to_it sound. first true_to_it sound broken) honest;
@@ -70,7 +73,7 @@ module _ {K : Type 0} (o : Origin) (old new : KernelState K) (was : KeepsDevice 
       (turn : IsTurn seat did old new) → (IsTrue o.honest → IsStep hash seat did old new) →
       (IsTrue o.honest → (base : State) × Refines hash base old) → KeepsDevice o new.pool new.failed
   device_by_turn hash seat did does turn step led =
-      device_after turn.run.rest.stored turn.run.rest.later
+      device_after turn.run.rest.pages turn.run.rest.stored turn.run.rest.later
       (λ honest sound broken. let from = led honest in
       step_risen does hash from.0 seat did old new from.1 (step honest) sound
       (sym (turn.failed ∙ ap (λ (b : Bool). b || is_failure did) sound) ∙ broken))

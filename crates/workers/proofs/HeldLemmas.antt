@@ -9,6 +9,8 @@ use Rattle.interleaving_core.specs.Kernel.{IsWhole, due_for_stop}
 use Rattle.interleaving_core.specs.Owing.{is_failure}
 use Rattle.interleaving_core.specs.declared.kernel.TheConstants.{MAX_DECIDED}
 use Rattle.interleavings.specs.Laws.{BeginsRefine, RefusalsRefine, StepsRefine, StepsRefineAndDo}
+use Rattle.interleavings.proofs.InsertLemmas.{begin_inserting, step_inserting}
+use Rattle.interleavings.specs.Inserting.{AreInserting}
 use Rattle.interleavings.specs.Moments.{once_if}
 use Rattle.interleavings.specs.Refining.{Refines}
 use Rattle.interleavings.specs.Words.{IsStep}
@@ -191,6 +193,8 @@ module _ {K : Type 0} (seat : ℕ) (did : Step) (old new : KernelState K)
         };
         device = device_by_turn o old new k.device o.hash seat did does t (λ _. made)
             (λ honest. let was = h.led honest in (was.base, was.led));
+        rooms = λ honest. step_inserting does o.hash (h.led honest).base seat did old new (h.led honest).led made
+            (k.rooms honest);
       }
 
 -- the calls are no more than the entries
@@ -296,6 +300,8 @@ module _ {K : Type 0} (seat : ℕ) (call : Call) (old new : KernelState K)
         };
         device = device_same o old new kept.device (ap (λ (k : KernelState K). k.pool) h.is)
             (ap (λ (k : KernelState K). k.failed) h.is);
+        rooms = λ honest. begin_inserting o.hash (held.led honest).base seat call old new (begun, within) h
+            (kept.rooms honest);
       }
 
 -- ---- or is refused
@@ -329,6 +335,7 @@ module _ {K : Type 0} (seat : ℕ) (call : Call) (refusal : Call × BeginFault) 
         };
         device = device_same o old new kept.device (ap (λ (k : KernelState K). k.pool) refused.same)
             (ap (λ (k : KernelState K). k.failed) refused.same);
+        rooms = λ honest. subst (AreInserting (h.led honest).base) (sym refused.same) (kept.rooms honest);
       }
 
   change_by_refusal : IsChange seat_of seat [] (known_of old) (known_of new)
@@ -352,11 +359,12 @@ module _ {K : Type 0} (seat : ℕ) (call : Call) (refusal : Call × BeginFault) 
   -- its seat is shown why
   pub is_turned_away : (many : ℕ) (fault : Fault) (d : Desk Entry Call) (x y : Sitter) →
       (fault ≡ faults.Failed → old.failed ≡ true) →
-      (fault ≡ faults.SessionFull → MAX_DECIDED ≤ calls_in seat_of old.journal + many) → d ≡ known_of old →
+      (fault ≡ faults.SessionFull → MAX_DECIDED ≤ calls_in seat_of old.journal + many) →
+      (fault ≡ faults.NoRoom → ⊥) → d ≡ known_of old →
       IsRight seat_of d x →
       y ≡ moved seat_of (known_of new) (entry_of x.seat (place_at d.places x.seat).call None) x →
       IsTurnedAway many fault x y
-  is_turned_away many fault d x y broken full known right now =
+  is_turned_away many fault d x y broken full early known right now =
       let before : IsRight seat_of (known_of old) x = subst (λ (b : Desk Entry Call). IsRight seat_of b x) known right
       in
       let failed : new.failed ≡ old.failed = ap (λ (k : KernelState K). k.failed) refused.same in
@@ -373,6 +381,7 @@ module _ {K : Type 0} (seat : ℕ) (call : Call) (refusal : Call × BeginFault) 
         place = ap (λ (e : Desk Entry Call). place_at e.places x.seat) (known_at_refusal ∙ sym known) ∙ right.place;
         failed = λ is. failed ∙ broken is;
         full = λ is. subst (λ (n : ℕ). MAX_DECIDED ≤ n + many) calls (full is);
+        early = early;
       }
 
 one_for_stop : (stopped : Bool) → due_for_stop stopped + once_if stopped ≡ 1

@@ -1,20 +1,23 @@
 -- A service begins: its kernel was just opened, and passes are dealt to the seats.
 use Rattle.std.proofs.Common.{◌≡◌, ◌≤◌, ◌<◌, ℕ, zero, suc, ◌+◌, Bool, true, false, IsTrue, List, [], ◌∷◌, ◌++◌, length, Option, None, refl, sym, ap, ◌∙◌, subst, arith, length-append}
 use Rattle.std.specs.Prelude.{replicate, slice_index_or}
-use Rattle.std.proofs.lemmas.List.{length-replicate}
+use Rattle.std.proofs.lemmas.List.{length-map, length-replicate}
 use Rattle.atomic_table.specs.Seated.{TableId}
+use Rattle.page_device.specs.Sealed.{payload_of}
+use Rattle.interleaving_core.proofs.BeginLemmas.{idle_at}
 use Rattle.interleavings.specs.Laws.{OpensRefine}
 use Rattle.interleavings.specs.Moments.{once_if}
 use Rattle.interleavings.specs.Words.{HasSystem, MAX_SEATS}
 use Rattle.workers.specs.Views.{calls_in, newcomer, no_place, part_of, place_at, with_one_more}
 use Rattle.workers.specs.Entries.{seat_of}
 use Rattle.workers.proofs.DeviceLemmas.{all_spared}
+use Rattle.workers.proofs.RoomLemmas.{none_inserting}
 use Rattle.workers.specs.Held.{IsHeld, IsKept, KeepsDevice, places_from}
 use Rattle.workers.specs.Opening.{IsOpenedOn, IsPrepared, PreparedView, dealt_desk, newcomers, origin_of}
 use Rattle.workers.specs.Origins.{Origin}
 use Rattle.workers.specs.Stopping.{IsStopper}
 use Rattle.workers.specs.Told.{IsSeated, Sitter}
-use Rattle.workers.specs.Words.{ActiveView, Call, Caller, Desk, Entry, RefinesFile, IsOpened, KernelState, Place, RecordKey}
+use Rattle.workers.specs.Words.{ActiveView, Call, Caller, Desk, Entry, RefinesFile, IsOpened, KernelState, Place, RecordKey, call_at}
 
 -- ---- a kernel that was just opened
 
@@ -57,6 +60,7 @@ module _ {K : Type 0} (of_key : K → RecordKey → ℕ) (keys : K) (content : L
           (subst (λ (pages : List (List ℕ)). RefinesFile (of_key keys) pages k) (sym stored)
           (opens (of_key keys) keys content honest callers frames k opened honest_too (has honest_too) some few));
       rows = ap length opened.locks ∙ length-replicate (length callers) [] ∙ sym (ap length opened.callers);
+      size = ap (λ p. length p.images) opened.pool ∙ length-map content payload_of ∙ sym (ap length stored);
       seats_are = opened.seats ∙ ap (λ (n : ℕ). replicate n None) (sym (ap length opened.callers));
       journal = opened.journal;
       stopped = opened.stopped;
@@ -154,10 +158,12 @@ held_at_start {K} of_key o name table many k d p origin is =
 
 -- the device has what it had
 device_at_start : {K : Type 0} (of_key : K → RecordKey → ℕ) (o : Origin) (name : TableId) (k : KernelState K) →
-    k.failed ≡ false → origin_of of_key (view_of name k) ≡ o → KeepsDevice o k.pool k.failed
-device_at_start of_key o name k sound origin =
+    k.failed ≡ false → length k.pool.images ≡ length k.pool.stored → origin_of of_key (view_of name k) ≡ o →
+    KeepsDevice o k.pool k.failed
+device_at_start of_key o name k sound size origin =
     subst (λ (from : Origin). KeepsDevice from k.pool k.failed) origin
     record {
+      size = size;
       pages = λ roomy. all_spared k.pool roomy;
       later = omega arith;
       cause = λ honest broken. let no : false ≡ true = sym sound ∙ broken in absurd cc;
@@ -168,7 +174,9 @@ pub kept_at_start : {K : Type 0} (of_key : K → RecordKey → ℕ) (o : Origin)
     origin_of of_key (view_of name k) ≡ o → d ≡ dealt_desk many (suc many) → IsKept of_key o k d 0
 kept_at_start of_key o name table many k d p origin is = record {
   held = held_at_start of_key o name table many k d p origin is;
-  device = device_at_start of_key o name k p.failed origin;
+  device = device_at_start of_key o name k p.failed p.size origin;
+  rooms = λ honest. none_inserting _ k (λ seat.
+      ap (λ (seats : List (Option ActiveView)). call_at seats seat) p.seats_are ∙ idle_at (length k.callers) seat);
 }
 
 -- ---- who stops it

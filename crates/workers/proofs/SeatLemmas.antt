@@ -12,8 +12,6 @@ use Rattle.workers.specs.Words.{Answer, Call, Entry, Step, answer_told, entry_of
 use Rattle.workers.specs.Fault.{fault_of_step}
 use Rattle.workers.specs.declared.fault.Fault.{Fault}
 use Rattle.workers.specs.declared.fault.Fault.TheVariants as calls
-use Rattle.workers.specs.declared.unanswered.Unanswered.{Unanswered}
-use Rattle.workers.specs.declared.unanswered.Unanswered.TheVariants as unanswered
 
 told_nothing : (seat : ℕ) (call : Option Call) → entry_of seat call None ≡ []
 told_nothing seat None = refl
@@ -134,12 +132,6 @@ never_full (faults.File fault) told is full =
 
 pub same_error : {T E : Type 0} (a b : E) → IsErrOf {T = T} {E = E} (Err a) b → a ≡ b
 same_error {T} {E} a b told = let same : ◌≡◌ {A = Result T E} (Err a) (Err b) = told in cc
-
-pub same_fault : {T : Type 0} (a b : Fault) →
-    IsErrOf {T = T} {E = Unanswered} (Err (unanswered.Fault a)) (unanswered.Fault b) → a ≡ b
-same_fault {T} a b told =
-    let same : ◌≡◌ {A = Unanswered} (unanswered.Fault a) (unanswered.Fault b) =
-    same_error {T = T} (unanswered.Fault a) (unanswered.Fault b) told in cc
 
 module _ (call : Call) (many number filled room : ℕ) (hand : List Entry)
     (old x : Sitter) (w : IsUnderWay call many number filled room hand old x) where

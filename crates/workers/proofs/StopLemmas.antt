@@ -3,6 +3,7 @@ use Rattle.std.proofs.Common.{◌≡◌, ◌≢◌, ℕ, zero, suc, Bool, true, 
 use Rattle.std.proofs.Math.Seq.{drop-append_seam}
 use Rattle.buffer_pool.specs.Pool.{PoolState}
 use Rattle.interleavings.specs.Laws.{StopsRefine}
+use Rattle.interleavings.proofs.InsertLemmas.{stop_inserting}
 use Rattle.interleavings.specs.Moments.{once_if}
 use Rattle.queue_model.specs.declared.entry.Entry.TheVariants.{Stopped}
 use Rattle.workers.proofs.PartLemmas.{calls_append, part_append}
@@ -136,6 +137,7 @@ module _ {K : Type 0} (old new : KernelState K) (stops : IsStopped old new) wher
           marked = marked_then old.stopped refl h.marked;
         };
         device = device_same o old new was.device pool failed;
+        rooms = λ honest. stop_inserting o.hash (h.led honest).base old new stops (was.rooms honest) old.stopped refl;
       }
 
       by : (b : Bool) → old.stopped ≡ b → IsKept of_key o new d' n

@@ -4,6 +4,7 @@ use Rattle.interleaving_core.proofs.PlaceLemmas.{at_other, at_same, length-with_
 use Rattle.interleaving_core.specs.Renewing.{IsWithdrawn}
 use Rattle.interleavings.specs.Moments.{once_if}
 use Rattle.interleavings.specs.Renewing.{WithdrawsRefine}
+use Rattle.workers.proofs.RoomLemmas.{withdrawn_inserting}
 use Rattle.workers.proofs.DeviceLemmas.{device_same}
 use Rattle.workers.proofs.HeldLemmas.{carried, nothing_told, place_is, stays_below, told_none}
 use Rattle.workers.specs.Rule.{IsChange, IsRight, moved}
@@ -95,4 +96,7 @@ module _ {K : Type 0} (seat : ℕ) (call : Call) (old new : KernelState K)
         };
         device = device_same o old new kept.device (ap (λ (k : KernelState K). k.pool) w.is)
             (ap (λ (k : KernelState K). k.failed) w.is);
+        rooms = λ honest. withdrawn_inserting (h.led honest).base seat old new
+            (ap (λ (k : KernelState K). k.callers) w.is) (ap (λ (k : KernelState K). k.journal) w.is)
+            (ap (λ (k : KernelState K). k.failed) w.is) seats_then call_then (kept.rooms honest);
       }

@@ -2,6 +2,7 @@
 use Rattle.std.specs.Prelude.{ℕ, suc, ◌≡◌, ◌≤◌, Bool, true, IsTrue, List, [], ◌∷◌, Option, Some, length}
 use Rattle.page_device.specs.Device.{HasRisen}
 use Rattle.buffer_pool.specs.Pool.{PoolState, spared}
+use Rattle.interleavings.specs.Inserting.{AreInserting}
 use Rattle.interleavings.specs.Moments.{once_if}
 use Rattle.workers.specs.Views.{calls_in, part_of}
 use Rattle.workers.specs.Entries.{seat_of}
@@ -43,6 +44,8 @@ pub record IsHeld {K : Type 0} (of_key : K → RecordKey → ℕ) (o : Origin) (
 
 -- what its device has come to since then
 pub record KeepsDevice (o : Origin) (pool : PoolState) (failed : Bool) : Type 0 where
+  -- its file has as many pages as it had
+  pub size : length pool.images ≡ length o.content
   -- one that is spared has the pages that it had
   pub pages : HasFrames o → spared pool ≡ Some o.content
   -- transfers that failed are counted; and of an honest device a step has failed only where one of them did
@@ -54,3 +57,5 @@ pub record IsKept {K : Type 0} (of_key : K → RecordKey → ℕ) (o : Origin) (
     (count : ℕ) : Type 0 where
   pub held : IsHeld of_key o k d count
   pub device : KeepsDevice o k.pool k.failed
+  -- a call that lacks room has something to insert
+  pub rooms : (honest : IsTrue o.honest) → AreInserting (held.led honest).base k

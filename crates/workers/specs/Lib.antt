@@ -5,9 +5,9 @@ pub mod Words
 pub mod Origins
 pub mod Entries
 pub mod Fault
-pub mod Unanswered
 pub mod Held
 pub mod Told
+pub mod Causes
 pub mod Stopping
 pub mod Opening
 pub mod Closing

@@ -41,6 +41,7 @@ pub record IsOpenedOn {K : Type 0} (keys : K) (content : List (List ℕ)) (hones
 pub record IsPrepared {K : Type 0} (of_key : K → RecordKey → ℕ) (k : KernelState K) (table seats : ℕ) : Type 0 where
   pub led : IsTrue k.pool.honest → RefinesFile (of_key k.keys) k.pool.stored k
   pub rows : length k.locks ≡ length k.callers
+  pub size : length k.pool.images ≡ length k.pool.stored
   pub seats_are : k.seats ≡ replicate (length k.callers) None
   pub journal : k.journal ≡ []
   pub stopped : k.stopped ≡ false

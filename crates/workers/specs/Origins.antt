@@ -1,5 +1,5 @@
 -- From what a service began.
-use Rattle.std.specs.Prelude.{ℕ, ◌≤◌, Bool, false, List, [], length}
+use Rattle.std.specs.Prelude.{ℕ, ◌≡◌, ◌≤◌, Bool, false, List, [], length}
 use Rattle.workers.specs.Words.{Caller, Entry, IsFifo, IsFileOf, IsLegal, RecordKey, State, after, restarted}
 
 pub record Origin : Type 0 where
@@ -30,7 +30,8 @@ pub record IsJournalOf (o : Origin) (journal : List Entry) : Type 0 where
   pub legal : IsLegal o.callers journal base
   pub fifo : IsFifo o.callers journal base
 
--- and these pages are the file of the system after it
+-- and these pages are the file of the system after it, as many as before
 pub record LeavesFile (o : Origin) (journal : List Entry) (content : List (List ℕ)) : Type 0 where
   pub plain : IsJournalOf o journal
   pub left : IsFileOf o.hash content (restarted (after o.callers journal plain.base))
+  pub pages : length content ≡ length o.content

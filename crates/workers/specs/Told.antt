@@ -6,7 +6,7 @@ use Rattle.interleaving_core.specs.declared.step.Step.TheVariants as steps
 use Rattle.workers.specs.Views.{no_place}
 use Rattle.workers.specs.Words.{Call, Entry, Sitting, Step, answer_told, entry_of}
 use Rattle.workers.specs.declared.fault.Fault.{Fault}
-use Rattle.workers.specs.declared.fault.Fault.TheVariants.{Failed, SessionFull}
+use Rattle.workers.specs.declared.fault.Fault.TheVariants.{Failed, NoRoom, SessionFull}
 
 abbrev pub Sitter : Type 0
 Sitter = Sitting Entry Call
@@ -31,13 +31,15 @@ pub record HasBegun (call : Call) (old new : Sitter) : Type 0 where
 abbrev pub SeesFull : ℕ → Sitter → Type 0
 SeesFull many x = MAX_DECIDED ≤ x.seen + many
 
--- or does not: where a step has failed the seat knows it, and where the session is full it was shown that
+-- or does not: where a step has failed the seat knows it, and where the session is full it was shown that; there is no
+-- record yet that could have no room
 pub record IsTurnedAway (many : ℕ) (fault : Fault) (old new : Sitter) : Type 0 where
   pub same : IsSameSeat old new
   pub list : new.list ≡ old.list
   pub place : new.place ≡ old.place
   pub failed : fault ≡ Failed → new.failed ≡ true
   pub full : fault ≡ SessionFull → SeesFull many new
+  pub early : fault ≡ NoRoom → ⊥
 
 -- a step of its call
 pub record IsTold (did : Step) (old new : Sitter) : Type 0 where

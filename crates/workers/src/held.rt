@@ -4,6 +4,7 @@ ghost use Rattle.std.specs.Prelude.{◌≡◌, ◌≤◌, IfErr, IfOk, IsTrue, d
 ghost use Rattle.interleaving_core.specs.Renewing.{Withdraws};
 ghost use Rattle.interleavings.specs.Words.{answer_told, entry_of};
 ghost use Rattle.workers.specs.Rule.{IsChange, IsRight, moved};
+ghost use Rattle.workers.specs.Causes.{TellsNoRoom};
 ghost use Rattle.workers.specs.Views.{calls_in, place_at};
 ghost use Rattle.workers.specs.Entries.{seat_of};
 ghost use Rattle.workers.specs.Held.{known_of};
@@ -94,6 +95,7 @@ impl<D: PageDevice + Drop, K: PseudoKey + Drop, N: Room + Base> Held<D, K, N> {
         requires seat { pass.old.seat ≡ seat }
         requires within { (1 ≤ seat) × (seat ≤ length N.origin.callers) }
         ensures told { IsTold result pass.old pass.new }
+        ensures room { TellsNoRoom N.origin result pass.old.place.call }
     {
         steps_refine::<K>();
         a_step_does_what_its_seat_is_told::<K>();
@@ -118,6 +120,7 @@ impl<D: PageDevice + Drop, K: PseudoKey + Drop, N: Room + Base> Held<D, K, N> {
         requires seat { pass.old.seat ≡ seat }
         requires within { (1 ≤ seat) × (seat ≤ length N.origin.callers) }
         ensures told { IsTold result pass.old pass.new }
+        ensures room { TellsNoRoom N.origin result pass.old.place.call }
     {
         for done in 1..most {
             match self.step_and_note(gauge, pass, seat) {
@@ -141,6 +144,7 @@ impl<D: PageDevice + Drop, K: PseudoKey + Drop, N: Room + Base> Held<D, K, N> {
         requires seat { pass.old.seat ≡ seat }
         requires within { (1 ≤ seat) × (seat ≤ length N.origin.callers) }
         ensures told { IsTold result pass.old pass.new }
+        ensures room { TellsNoRoom N.origin result pass.old.place.call }
     {
         let had_names_alone = self.is_between_accesses(seat);
         let did = self.step(gauge, pass, seat);

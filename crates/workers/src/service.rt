@@ -1,9 +1,9 @@
 //! A service: a kernel that threads share.
 
-ghost use Rattle.std.specs.Prelude.{◌≡◌, ◌≤◌, ◌∷◌, ◌++◌, [], IfErr, IfOk, IsErrOf, OnErr, length, true};
+ghost use Rattle.std.specs.Prelude.{◌≡◌, ◌≤◌, ◌∷◌, ◌++◌, [], IfErr, IfOk, IsErrOf, IsTrue, OnErr, length, true};
 ghost use Rattle.queue_model.specs.declared.entry.Entry.TheVariants.{Decided};
+ghost use Rattle.workers.specs.Causes.{HadToInsert, HasCauseOrTime, TellsNoRoom};
 ghost use Rattle.workers.specs.Told.{GoesOn, HasBegun, IsSameSeat, IsTold, IsTurnedAway, Rests, SeesFull};
-ghost use Rattle.workers.specs.Unanswered.{MayReturn};
 
 use crate::draft::Draft;
 use crate::entries::{Passes, Sitter};
@@ -63,6 +63,8 @@ impl<D: PageDevice + Drop, K: PseudoKey + Drop, G: Gate, N: Room + Base> Service
         ensures failed { IsErrOf result Fault.Failed → seat.new.failed ≡ true }
         ensures full { IsErrOf result Fault.SessionFull →
             SeesFull (length N.origin.callers) seat.new }
+        ensures room { IsErrOf result Fault.NoRoom → IsTrue N.origin.honest →
+            HadToInsert N.origin call }
         ensures same { IsSameSeat seat.old seat.new }
     {
         let Ok(draft) = Draft::of(&mut seat.list, &call) else {
@@ -113,12 +115,8 @@ impl<D: PageDevice + Drop, K: PseudoKey + Drop, G: Gate, N: Room + Base> Service
     ) -> Result<Answer, Unanswered>
         ensures ok { IfOk result (λ answer.
             seat.new.list ≡ seat.old.list ++ Decided seat.old.seat call answer ∷ []) }
-        ensures back { IfErr result (MayReturn call) }
+        ensures cause { IfErr result (HasCauseOrTime N.origin call seat.new) }
         ensures err { OnErr result (seat.new.list ≡ seat.old.list) }
-        ensures failed { IsErrOf result (Unanswered.Fault Fault.Failed) →
-            seat.new.failed ≡ true }
-        ensures full { IsErrOf result (Unanswered.Fault Fault.SessionFull) →
-            SeesFull (length N.origin.callers) seat.new }
         ensures same { IsSameSeat seat.old seat.new }
     {
         let limit = Limit::new(rt, limit);
@@ -222,6 +220,7 @@ impl<D: PageDevice + Drop, K: PseudoKey + Drop, G: Gate, N: Room + Base> Service
         requires seat { pass.old.seat ≡ number }
         requires within { (1 ≤ number) × (number ≤ length N.origin.callers) }
         ensures told { IsTold result.1 pass.old pass.new }
+        ensures room { TellsNoRoom N.origin result.1 pass.old.place.call }
         ensures rests { GoesOn result.1 → ⊥ }
     {
         for _ in rt.forever() {

@@ -1,6 +1,6 @@
 use Rattle.std.proofs.Common.{refl, subst, sym, IsTrue, Ok, Err}
 use Rattle.command_runs.specs.Memory.{AsksFile}
-use Rattle.command_runs.specs.Sessions.{Pages}
+use Rattle.command_runs.specs.Asking.{Pages}
 use Rattle.command_runs.proofs.RunLemmas.{ends_as, never_unprinted, undone_as}
 use Rattle.command_runs.proofs.running.run_on.Goals as goal
 

@@ -3,7 +3,8 @@ use Rattle.std.proofs.Common.{ℕ, sym, ap, ◌∙◌, subst, [], length}
 use Rattle.std.proofs.lemmas.List.{length-replicate}
 use Rattle.interleavings.specs.Runs.{AreOfSeats}
 use Rattle.interleavings.specs.Words.{PoolState}
-use Rattle.interleavings.proofs.PlayedLemmas.{has_played, has_reason, plays_plain}
+use Rattle.interleavings.proofs.PlayedLemmas.{has_played, has_reason, plays_plain, plays_so}
+use Rattle.interleavings.proofs.SpelledLemmas.{spells}
 use Rattle.interleavings.proofs.EventLemmas.{places_along}
 use Rattle.interleavings.proofs.playing.play_on.Goals as goal
 
@@ -14,17 +15,25 @@ run-requires g c =
     (sym (ap length c.in_ok-kernel.ensures.ok.locks ∙ length-replicate (length c.args.callers.now) []))
     c.requires.seats
 
+pub returns-clause-checked : goal.returns-clause-checked
+returns-clause-checked g c = λ true_to_it. (
+  plays_plain g.K.PseudoKey.of_key c.args.keys (g.D.PageDevice.content c.args.device)
+      (g.D.PageDevice.is_honest c.args.device) c.args.callers.now c.args.frames c.args.events.items
+      c.in_ok-kernel.kernel c.run.new.kernel _ _ _ _ _ c.in_ok-kernel.ensures.ok c.requires.seats
+      c.in-Ok.ensures.runs c.end-closed.ensures c.in-Ok.ensures.told c.in-Ok.ensures.linear c.events_refine.ensures
+      true_to_it (c.an_opened_kernel_refines.ensures (g.K.PseudoKey.of_key c.args.keys) c.args.keys
+      (g.D.PageDevice.content c.args.device) (g.D.PageDevice.is_honest c.args.device) c.args.callers.now
+      c.args.frames c.in_ok-kernel.kernel c.in_ok-kernel.ensures.ok true_to_it
+      (c.in_ok-kernel.ensures.file true_to_it) c.requires.some c.requires.few)
+      c.a_step_does_what_its_seat_is_told.ensures c.steps_refine.ensures
+      c.a_refining_kernel_answers_as_plain_lists.ensures c.a_refining_kernel_closes_on_its_file.ensures,
+  tt,
+)
+
+-- and what is so of files is so of what their pages mean
 pub returns-clause-headline : goal.returns-clause-headline
 returns-clause-headline g c = λ true_to_it.
-    plays_plain g.K.PseudoKey.of_key c.args.keys (g.D.PageDevice.content c.args.device)
-    (g.D.PageDevice.is_honest c.args.device) c.args.callers.now c.args.frames c.args.events.items
-    c.in_ok-kernel.kernel c.run.new.kernel _ _ _ _ _ c.in_ok-kernel.ensures.ok c.requires.seats c.in-Ok.ensures.runs
-    c.end-closed.ensures c.in-Ok.ensures.told c.in-Ok.ensures.linear c.events_refine.ensures true_to_it
-    (c.an_opened_kernel_refines.ensures (g.K.PseudoKey.of_key c.args.keys) c.args.keys
-    (g.D.PageDevice.content c.args.device) (g.D.PageDevice.is_honest c.args.device) c.args.callers.now c.args.frames
-    c.in_ok-kernel.kernel c.in_ok-kernel.ensures.ok true_to_it (c.in_ok-kernel.ensures.file true_to_it)
-    c.requires.some c.requires.few) c.a_step_does_what_its_seat_is_told.ensures c.steps_refine.ensures
-    c.a_refining_kernel_answers_as_plain_lists.ensures c.a_refining_kernel_closes_on_its_file.ensures
+    plays_so (spells (g.K.PseudoKey.of_key c.args.keys)) _ _ _ _ _ _ (returns-clause-checked g c true_to_it).0
 
 pub returns-clause-played : goal.returns-clause-played
 returns-clause-played g c =

@@ -5,6 +5,7 @@ use Rattle.msgq_cli.specs.Scripts.{Parts}
 use Rattle.msgq_cli.specs.declared.ending.Ending.{Ending}
 use Rattle.replays.specs.Texts.{Effects}
 use Rattle.replays.proofs.BesideLemmas.{as_several, from_prepared, no_room}
+use Rattle.replays.proofs.SpelledLemmas.{script_spelled}
 use Rattle.replays.specs.Beside.{RunsFrom, counted_from, origin_on}
 use Rattle.workers.specs.Opening.{origin_of}
 use Rattle.msgq.proofs.runs.run_on.Goals as goal
@@ -53,3 +54,11 @@ returns-in-Ok-prepare-clause-ran g c =
     (subst (λ (s : Parts). RunsFrom s (counted_from effects.was (origin_of (λ _. sha_key) prepared))
     (record effects { content = prepared.content }) c.run_prepared.result.ending) c.in-Ok.ensures.script_is
     (c.run_prepared.ensures.ran effects.was c.in-Ok-prepare.ensures.cause.0)))
+
+-- ---- told of what pages mean
+
+pub returns-in_default-clause-spelled : goal.returns-in_default-clause-spelled
+returns-in_default-clause-spelled g c = script_spelled _ _ _ _ (returns-in_default-clause-ran g c)
+
+pub returns-in-Ok-prepare-clause-spelled : goal.returns-in-Ok-prepare-clause-spelled
+returns-in-Ok-prepare-clause-spelled g c = script_spelled _ _ _ _ (returns-in-Ok-prepare-clause-ran g c)

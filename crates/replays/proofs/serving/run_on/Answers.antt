@@ -9,6 +9,7 @@ use Rattle.replays.proofs.OpeningLemmas.{greatest_within, length-callers_of, sto
 use Rattle.replays.proofs.CallLemmas.{opened_decided}
 use Rattle.replays.proofs.ServeLemmas.{ends_since}
 use Rattle.replays.proofs.PlainRunLemmas.{plainly}
+use Rattle.replays.proofs.SpelledLemmas.{spelled}
 use Rattle.replays.proofs.serving.run_on.Goals as goal
 
 -- the kernel that was opened rests over the file's system
@@ -87,3 +88,9 @@ returns-clause-plain g c = plainly _ _ _ _ (returns-clause-served g c)
 
 pub returns-in-Err-clause-plain : goal.returns-in-Err-clause-plain
 returns-in-Err-clause-plain g c = plainly _ _ _ _ (returns-in-Err-clause-served g c)
+
+pub returns-clause-spelled : goal.returns-clause-spelled
+returns-clause-spelled g c = spelled _ _ _ _ (returns-clause-plain g c)
+
+pub returns-in-Err-clause-spelled : goal.returns-in-Err-clause-spelled
+returns-in-Err-clause-spelled g c = spelled _ _ _ _ (returns-in-Err-clause-plain g c)

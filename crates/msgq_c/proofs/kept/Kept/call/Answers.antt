@@ -11,5 +11,5 @@ returns c = record {
       c.begin.new.self c.end_with.new.log c.begin.ensures c.end_with.ensures;
   room = c.has_lacked_room-self.ensures;
   caller = refl;
-  saved = c.call_as-result.ensures.saved;
+  saved = c.call_as-result.ensures.keeps.saved;
 }

@@ -1,10 +1,11 @@
 use Rattle.std.proofs.Common.{rules, ◌≡◌, ◌∙◌, sym}
-use Rattle.session.proofs.SessionLemmas.{driven_session, is_refused, of_lent, told_else, told_none, told_waiting, withdrawn_session}
+use Rattle.session.proofs.KeepLemmas.{driven_session, withdrawn_session}
+use Rattle.session.proofs.SessionLemmas.{is_refused, of_lent, told_else, told_none, told_waiting}
 use Rattle.session.proofs.session.Session.make.Goals as goal
 
 -- it does not begin
 pub returns-in-Err : goal.returns-in-Err
-returns-in-Err c =
+returns-in-Err g c =
     let same : c.replace-made.result ≡ c.args.call.now = search (rules) in
     rw (← c.self.view_is, c.of.ensures) (of_lent _ _ _ _ _ _ same
     (is_refused c.a_refusal_leaves_a_kernel_at_rest.ensures c.replace-made.result _
@@ -12,7 +13,7 @@ returns-in-Err c =
 
 -- it is driven, and does not wait
 pub returns-then-not-is_waiting : goal.returns-then-not-is_waiting
-returns-then-not-is_waiting c =
+returns-then-not-is_waiting g c =
     let same : c.replace-made.result ≡ c.args.call.now = search (rules) in
     rw (← c.self.view_is, c.came_of.ensures) (of_lent _ _ _ _ _ _ same
     (told_else c.a_lone_call_is_answered_by_the_rules.ensures c.replace-made.result
@@ -22,7 +23,7 @@ returns-then-not-is_waiting c =
 
 -- it does not come back
 pub returns-in_default-withdraw : goal.returns-in_default-withdraw
-returns-in_default-withdraw c =
+returns-in_default-withdraw g c =
     let same : c.replace-made.result ≡ c.args.call.now = search (rules) in
     rw (← c.self.view_is) (of_lent _ _ _ _ _ _ same
     (told_none c.a_lone_call_is_answered_by_the_rules.ensures c.replace-made.result
@@ -32,7 +33,7 @@ returns-in_default-withdraw c =
 
 -- it waits
 pub returns : goal.returns
-returns c =
+returns g c =
     let same : c.replace-made.result ≡ c.args.call.now = search (rules) in
     rw (← c.self.view_is) (of_lent _ _ _ _ _ _ same
     (told_waiting c.a_lone_call_is_answered_by_the_rules.ensures c.replace-made.result
@@ -42,18 +43,18 @@ returns c =
 
 -- it keeps its seat and what was saved
 pub invariant_of-self-then-not-is_waiting : goal.invariant_of-self-then-not-is_waiting
-invariant_of-self-then-not-is_waiting c =
+invariant_of-self-then-not-is_waiting g c =
     driven_session c.replace-made.result _ c.self.inside.kernel c.begin.new.self c.drive-told.new.self
     c.in_default.ensures.ok c.drive-told.ensures.run c.self.invariant
 
 pub invariant_of-self-in_default-withdraw : goal.invariant_of-self-in_default-withdraw
-invariant_of-self-in_default-withdraw c =
+invariant_of-self-in_default-withdraw g c =
     withdrawn_session _ c.drive-told.new.self _ c.withdraw.ensures.call
     (driven_session c.replace-made.result _ c.self.inside.kernel c.begin.new.self c.drive-told.new.self
     c.in_default.ensures.ok c.drive-told.ensures.run c.self.invariant)
 
 pub invariant_of-self-2 : goal.invariant_of-self-2
-invariant_of-self-2 c =
+invariant_of-self-2 g c =
     withdrawn_session _ c.drive-told.new.self _ c.withdraw.ensures.call
     (driven_session c.replace-made.result _ c.self.inside.kernel c.begin.new.self c.drive-told.new.self
     c.in_default.ensures.ok c.drive-told.ensures.run c.self.invariant)

@@ -1,5 +1,5 @@
-use Rattle.session.proofs.SessionLemmas.{renewed}
+use Rattle.std.proofs.Common.{inr}
 use Rattle.session.proofs.session.Session.shorten.Goals as goal
 
 pub returns : goal.returns
-returns c = rw (← c.self.view_is) (renewed _ _ _ c.forget.ensures.renewed)
+returns g c = rw (← c.self.view_is) (inr c.forget.ensures.renewed)

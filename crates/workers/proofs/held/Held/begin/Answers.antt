@@ -49,7 +49,7 @@ returns-in-Failed-clause-err g c =
     let broken = subst (λ fault. Refuses c.args.seat c.self.inside.kernel fault) c.in-Failed.is
     c.in-Err.ensures.err.cause in
     is_turned_away _ _ _ _ _ c.in-Err.ensures.err _ _ c.self.inside.pass _ _ (λ _. broken) (λ full. absurd cc)
-    c.self.invariant.held.known c.tell-in-Err.ensures.right c.tell-in-Err.ensures.seat
+    (λ early. absurd cc) c.self.invariant.held.known c.tell-in-Err.ensures.right c.tell-in-Err.ensures.seat
 
 pub invariant_of-self-in-SessionFull : goal.invariant_of-self-in-SessionFull
 invariant_of-self-in-SessionFull g c =
@@ -61,7 +61,7 @@ returns-in-SessionFull-clause-err g c =
     let full = subst (λ fault. Refuses c.args.seat c.self.inside.kernel fault) c.in-SessionFull.is
     c.in-Err.ensures.err.cause in
     is_turned_away _ _ _ _ _ c.in-Err.ensures.err _ _ c.self.inside.pass _ _ (λ broken. absurd cc)
-    (λ _. full_by _ _ _ _ _ c.self.invariant.held full.2)
+    (λ _. full_by _ _ _ _ _ c.self.invariant.held full.2) (λ early. absurd cc)
     c.self.invariant.held.known c.tell-in-Err.ensures.right c.tell-in-Err.ensures.seat
 
 pub invariant_of-self-in-NoMemory : goal.invariant_of-self-in-NoMemory
@@ -72,7 +72,7 @@ invariant_of-self-in-NoMemory g c =
 pub returns-in-NoMemory-clause-err : goal.returns-in-NoMemory-clause-err
 returns-in-NoMemory-clause-err g c =
     is_turned_away _ _ _ _ _ c.in-Err.ensures.err _ _ c.self.inside.pass _ _ (λ broken. absurd cc) (λ full. absurd cc)
-    c.self.invariant.held.known c.tell-in-Err.ensures.right c.tell-in-Err.ensures.seat
+    (λ early. absurd cc) c.self.invariant.held.known c.tell-in-Err.ensures.right c.tell-in-Err.ensures.seat
 
 -- a seat that rests is not busy
 pub unreachable-requires : goal.unreachable-requires

@@ -1,5 +1,6 @@
 use Rattle.std.proofs.Common.{◌≤◌, ◌<◌, ◌+◌, ◌-◌, length, sym, ap, subst, rules}
 use Rattle.workers.proofs.HeldLemmas.{change_at_desk, counted_after, fits_after, journal_few, kept_after, told_at_desk}
+use Rattle.workers.proofs.RoomLemmas.{told_no_room}
 use Rattle.workers.proofs.held.Held.step.Goals as goal
 
 -- the calls are no more than the entries of the journal, whose length fits
@@ -32,8 +33,12 @@ invariant_of-self g c =
     (record { turn = c.step-did.ensures.turn; makes = c.step-did.ensures.makes }) c.self.invariant c.tell.ensures.own
     now
 
-pub returns : goal.returns
-returns g c = record {
-  told = told_at_desk _ _ _ _ c.step-did.ensures.turn _ _ _ c.self.invariant.held.known c.requires.seat
-      c.tell.ensures.right c.tell.ensures.seat;
-}
+pub returns-clause-told : goal.returns-clause-told
+returns-clause-told g c =
+    told_at_desk _ _ _ _ c.step-did.ensures.turn _ _ _ c.self.invariant.held.known c.requires.seat
+    c.tell.ensures.right c.tell.ensures.seat
+
+pub returns-clause-room : goal.returns-clause-room
+returns-clause-room g c =
+    told_no_room _ _ _ _ _ _ _ _ c.self.invariant c.tell.ensures.right c.requires.seat _
+    (record { turn = c.step-did.ensures.turn; makes = c.step-did.ensures.makes })

@@ -1,6 +1,8 @@
-use Rattle.std.proofs.Common.{[], ◌∷◌, ◌++◌, refl, ap, ◌∙◌}
+use Rattle.std.proofs.Common.{[], ◌∷◌, ◌++◌, refl, ap, ◌∙◌, subst}
 use Rattle.queue_model.specs.declared.entry.Entry.TheVariants.{Decided}
 use Rattle.workers.specs.Words.{Call, Entry}
+use Rattle.workers.proofs.RoomLemmas.{cause_of_step}
+use Rattle.workers.specs.Causes.{HasCause}
 use Rattle.workers.proofs.SeatLemmas.{fault_ends, never_full, same_error, seated_answered, seated_faulted, told_failed, way_begins}
 use Rattle.workers.proofs.service.Service.call.Goals as goal
 
@@ -31,3 +33,10 @@ returns-in-Fault-clause-failed g c =
 
 pub returns-in-Fault-clause-full : goal.returns-in-Fault-clause-full
 returns-in-Fault-clause-full g c full = absurd (never_full _ _ c.of_step.ensures (same_error _ _ full))
+
+pub returns-in-Fault-clause-room : goal.returns-in-Fault-clause-room
+returns-in-Fault-clause-room g c full =
+    let told = rw c.in-Fault.is at c.advance-last.ensures.told in
+    let room = rw c.in-Fault.is at c.advance-last.ensures.room in
+    subst (HasCause _ _ _) (same_error _ _ full)
+    (cause_of_step _ _ _ _ _ _ c.of_step.ensures told room c.loop.invariant.under_way)

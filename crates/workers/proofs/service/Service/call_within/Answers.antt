@@ -1,7 +1,8 @@
 use Rattle.std.proofs.Common.{[], ◌∷◌, ◌++◌, refl, ap, ◌∙◌}
 use Rattle.queue_model.specs.declared.entry.Entry.TheVariants.{Decided}
 use Rattle.workers.specs.Words.{Call, Entry}
-use Rattle.workers.proofs.SeatLemmas.{fault_ends, list_taken_back, never_full, same_fault, seated_answered, seated_faulted, seated_taken_back, told_failed, way_begins, way_goes}
+use Rattle.workers.proofs.RoomLemmas.{cause_of_step}
+use Rattle.workers.proofs.SeatLemmas.{fault_ends, list_taken_back, seated_answered, seated_faulted, seated_taken_back, way_begins, way_goes}
 use Rattle.workers.proofs.service.Service.call_within.Goals as goal
 
 pub loop-init : goal.loop-init
@@ -16,8 +17,8 @@ invariant_of-seat-then-is_back g c =
     let way = way_goes _ _ _ _ _ _ _ _ c.loop.invariant _ _ told refl refl in
     seated_taken_back _ _ _ _ _ _ _ _ way _ (c.take_back-is_back.ensures.back c.if-is_back.true)
 
-pub returns-then-is_back-clause-back : goal.returns-then-is_back-clause-back
-returns-then-is_back-clause-back g c = c.into_call.ensures ∙ c.in-Ok.ensures.call
+pub returns-then-is_back-clause-cause : goal.returns-then-is_back-clause-cause
+returns-then-is_back-clause-cause g c = c.into_call.ensures ∙ c.in-Ok.ensures.call
 
 pub returns-then-is_back-clause-err : goal.returns-then-is_back-clause-err
 returns-then-is_back-clause-err g c =
@@ -40,10 +41,8 @@ invariant_of-seat-in-Fault g c =
     let told = rw c.in-Fault.is at c.advance-last.ensures.told in
     seated_faulted _ _ _ _ _ _ _ _ c.loop.invariant _ _ told refl (fault_ends c.in-Fault.fault)
 
-pub returns-in-Fault-clause-failed : goal.returns-in-Fault-clause-failed
-returns-in-Fault-clause-failed g c =
+pub returns-in-Fault-clause-cause : goal.returns-in-Fault-clause-cause
+returns-in-Fault-clause-cause g c =
     let told = rw c.in-Fault.is at c.advance-last.ensures.told in
-    λ broken. told_failed _ _ _ _ c.of_step.ensures told (same_fault _ _ broken)
-
-pub returns-in-Fault-clause-full : goal.returns-in-Fault-clause-full
-returns-in-Fault-clause-full g c full = absurd (never_full _ _ c.of_step.ensures (same_fault _ _ full))
+    let room = rw c.in-Fault.is at c.advance-last.ensures.room in
+    cause_of_step _ _ _ _ _ _ c.of_step.ensures told room c.loop.invariant.under_way

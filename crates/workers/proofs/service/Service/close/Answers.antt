@@ -34,7 +34,7 @@ returns-in-Ok g c =
     _ c.a_refining_kernel_answers_as_plain_lists.ensures c.a_refining_kernel_closes_on_its_file.ensures mark _
     c.in-Ok.ensures.journal c.compare_all.ensures.seats c.in-Ok.ensures.device.same
     (unfailed_by _ _ _ c.failure-failure.ensures c.is_whole.ensures.blamed sound) c.in-Ok.ensures.ok
-    (λ honest. c.in-Ok.ensures.device.synced honest refl)
+    (λ honest. c.in-Ok.ensures.device.synced honest refl) c.held.invariant.device.size
 
 -- a step has failed, or the device as the pages were written
 pub returns-in-Err-Fault : goal.returns-in-Err-Fault
