@@ -30,7 +30,8 @@ module _ (seat : ℕ) (s : CountsState) (sound : AreSoundCounts s) (is : IsCount
   at_first = again s.counts (seat - 1) no_count
 
   begun_sound : AreSoundCounts begun
-  begun_sound = own_sound seat kinds.Grant s sound is refl true false false first (begun_count s.under_way) at_first refl
+  begun_sound = own_sound seat kinds.Grant s sound is refl true false false first (begun_count s.under_way) at_first
+      refl
 
   is_begun : IsCountedSeat begun.counts seat
   is_begun = (is.0, subst (λ (n : ℕ). seat ≤ n) (sym (length-set s.counts (seat - 1) (begun_count s.under_way))) is.1)
@@ -50,7 +51,8 @@ module _ (seat : ℕ) (s : CountsState) (sound : AreSoundCounts s) (is : IsCount
     search_noted = record {
       begun = begun;
       sound = begun_sound;
-      begins = own_notes seat kinds.Grant s sound is refl true false false first (begun_count s.under_way) at_first refl;
+      begins = own_notes seat kinds.Grant s sound is refl true false false first (begun_count s.under_way) at_first
+          refl;
       ends = subst (Notes seat kinds.Look false false true begun) twice
           (own_notes seat kinds.Look begun begun_sound is_begun refl false false true (begun_count s.under_way) own
           at_begun is_own);

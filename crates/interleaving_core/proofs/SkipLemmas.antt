@@ -143,7 +143,8 @@ module _ {K : Type 0} (of : K → RecordKey → ℕ) (seat : ℕ) (old : KernelS
     -- by the first one a search begins
     locked : HasLed 1 noted w.locked
     locked = first kinds.Grant (λ e. absurd cc) noted w.locked moves.0
-        (subst (λ (b : Bool). Notes seat kinds.Grant b false false old.searches noted) (sym counted.begins) notes.begins)
+        (subst (λ (b : Bool). Notes seat kinds.Grant b false false old.searches noted) (sym counted.begins)
+        notes.begins)
 
     deep : HasLed 2 noted w.deep
     deep = next 1 kinds.ReadDepth (λ e. absurd cc) noted noted w.locked w.deep locked moves.1.0

@@ -11,7 +11,7 @@ use Rattle.type_chains.proofs.Members.{in_map}
 use Rattle.type_chains.proofs.Unique.{types_ascend}
 use Rattle.record_walk.specs.declared.queue_links.QueueLinks.{QueueLinks}
 use Rattle.record_walk.specs.declared.queue_links.TypeEnds.{TypeEnds}
-use Rattle.record_walk.specs.Links.{AreLinksOf, IsAscending, ends_in, ends_of, link_of, next_of_type}
+use Rattle.record_walk.specs.Links.{AreLinksOf, IsAscending, IsPlaceOf, ends_in, ends_of, link_of, next_of_type}
 use Rattle.record_walk.specs.Words.{Message, MessageEntry, Queue, Record, TypeEntry, message_entry, message_records, serials, type_entry, type_records, types}
 use Rattle.record_walk.proofs.LinkLemmas.{first_or, last_or, next_is, previous_is, type_before_is, type_behind_is}
 
@@ -56,24 +56,24 @@ module _ (q : Queue) (links : QueueLinks) (are : AreLinksOf q.messages links) wh
         ∙ ap (λ (xs : List (Option ℕ)). slice_index_or xs place no_link) are.next
         ∙ get_or-map f ms place m no_link within ∙ ap f (sym at)
 
-    pub message_there : (mtype : ℤ) (previous next next_of_type : Option ℕ) (body : List ℕ) (n : ℕ) →
+    abbrev entry_of : (mtype : ℤ) (previous next next_of_type : Option ℕ) (body : List ℕ) → MessageEntry
+    entry_of mtype previous next next_of_type body = record {
+      id = q.id;
+      serial = m.serial;
+      mtype = mtype;
+      sender = m.sender;
+      previous = previous;
+      next = next;
+      next_of_type = next_of_type;
+      body = body;
+    }
+
+    pub message_is : (mtype : ℤ) (previous next next_of_type : Option ℕ) (body : List ℕ) (n : ℕ) →
         mtype ≡ m.mtype → previous ≡ before_place (serials q.messages) place →
         next ≡ slice_get (serials q.messages) (place + 1) → n ≡ slice_index_or links.next.items place n →
         next_of_type ≡ link_of n → body ≡ m.bytes →
-        Contains (message_records q) (records.Message (record {
-          id = q.id;
-          serial = m.serial;
-          mtype = mtype;
-          sender = m.sender;
-          previous = previous;
-          next = next;
-          next_of_type = next_of_type;
-          body = body;
-        }))
-    message_there mtype previous next next_of_type body n t p x number y b =
-        let f : Message → Record = λ z. records.Message (message_entry q z) in
-        let before = p ∙ previous_is q.messages place m ascend within (serials q.messages) refl in
-        let behind = x ∙ next_is q.messages place m ascend within (serials q.messages) refl in
+        message_entry q m ≡ entry_of mtype previous next next_of_type body
+    message_is mtype previous next next_of_type body n t p x number y b =
         let e : MessageEntry = message_entry q (slice_index_or q.messages place m) in
         let here : before_place (serials q.messages) place ≡ e.previous =
         previous_is q.messages place m ascend within (serials q.messages) refl in
@@ -85,8 +85,7 @@ module _ (q : Queue) (links : QueueLinks) (are : AreLinksOf q.messages links) wh
         let second : (message_entry q m).next ≡ next =
         sym (x ∙ there ∙ ap (λ (z : MessageEntry). z.next) same) in
         let third : (message_entry q m).next_of_type ≡ next_of_type = sym (y ∙ next_there n number) in
-        subst (λ (z : MessageEntry). Contains (message_records q) (records.Message z))
-        (λ i. record {
+        λ i. record {
           id = q.id;
           serial = m.serial;
           mtype = sym t i;
@@ -95,8 +94,17 @@ module _ (q : Queue) (links : QueueLinks) (are : AreLinksOf q.messages links) wh
           next = second i;
           next_of_type = third i;
           body = sym b i;
-        })
-        (in_map f q.messages m (place, within, sym at))
+        }
+
+    pub message_there : (e : MessageEntry) → message_entry q m ≡ e → Contains (message_records q) (records.Message e)
+    message_there e is = subst (λ (z : MessageEntry). Contains (message_records q) (records.Message z)) is
+        (in_map (λ (z : Message). records.Message (message_entry q z)) q.messages m (place, within, sym at))
+
+    -- whatever stands for a message past the last
+    pub message_which : (e : MessageEntry) → message_entry q m ≡ e → (d : Message) →
+        e ≡ message_entry q (slice_index_or q.messages place d)
+    message_which e is d =
+        sym is ∙ ap (message_entry q) (at ∙ get_or_default q.messages place m d within)
 
   -- ---- a Type
 
@@ -115,21 +123,23 @@ module _ (q : Queue) (links : QueueLinks) (are : AreLinksOf q.messages links) wh
         ∙ ap (λ (xs : List ℤ). ends_in (ends_of ms (slice_index_or xs place t))) (sym are.kinds)
         ∙ ap (λ (u : ℤ). ends_in (ends_of ms u)) (sym at)
 
-    pub type_there : (ends : TypeEnds) (mtype : ℤ) (lower higher : Option ℤ) →
+    abbrev type_of : (ends : TypeEnds) (mtype : ℤ) (lower higher : Option ℤ) → TypeEntry
+    type_of ends mtype lower higher = record {
+      id = q.id;
+      mtype = mtype;
+      first = ends.first;
+      last = ends.last;
+      lower = lower;
+      higher = higher;
+    }
+
+    pub type_is : (ends : TypeEnds) (mtype : ℤ) (lower higher : Option ℤ) →
         ends ≡ slice_index_or links.ends.items place ends → mtype ≡ t →
         lower ≡ before_place links.kinds.items place → higher ≡ slice_get links.kinds.items (place + 1) →
-        Contains (type_records q) (records.Type (record {
-          id = q.id;
-          mtype = mtype;
-          first = ends.first;
-          last = ends.last;
-          lower = lower;
-          higher = higher;
-        }))
-    type_there ends mtype lower higher is m l h =
+        type_entry q t ≡ type_of ends mtype lower higher
+    type_is ends mtype lower higher is m l h =
         let ts = links.kinds.items in
         let us = types q.messages in
-        let f : ℤ → Record = λ z. records.Type (type_entry q z) in
         let ascend = subst (λ (xs : List ℤ). AllPairs (λ (a b : ℤ). a <ℤ b) xs) (sym are.kinds)
         (types_ascend q.messages) in
         let zero_is : slice_index_or ts place (pos 0) ≡ t = get_or_default ts place (pos 0) t within ∙ sym at in
@@ -145,13 +155,21 @@ module _ (q : Queue) (links : QueueLinks) (are : AreLinksOf q.messages links) wh
         type_behind_is ts place ascend within us are.kinds in
         let lower_is : (e t).lower ≡ lower = sym (l ∙ low ∙ ap (λ (z : ℤ). (e z).lower) zero_is) in
         let higher_is : (e t).higher ≡ higher = sym (h ∙ high ∙ ap (λ (z : ℤ). (e z).higher) zero_is) in
-        subst (λ (z : TypeEntry). Contains (type_records q) (records.Type z))
-        (λ i. record {
+        λ i. record {
           id = q.id;
           mtype = sym m i;
           first = first i;
           last = last i;
           lower = lower_is i;
           higher = higher_is i;
-        })
-        (in_map f us t (subst (λ (xs : List ℤ). Contains xs t) are.kinds (place, within, sym at)))
+        }
+
+    pub type_there : (e : TypeEntry) → type_entry q t ≡ e → Contains (type_records q) (records.Type e)
+    type_there e is = subst (λ (z : TypeEntry). Contains (type_records q) (records.Type z)) is
+        (in_map (λ (z : ℤ). records.Type (type_entry q z)) (types q.messages) t
+        (subst (λ (xs : List ℤ). Contains xs t) are.kinds (place, within, sym at)))
+
+    pub type_which : (e : TypeEntry) → type_entry q t ≡ e → (mtype : ℤ) → IsPlaceOf links.kinds.items mtype place →
+        e ≡ type_entry q mtype
+    type_which e is mtype stands =
+        sym is ∙ ap (type_entry q) (at ∙ get_or_default links.kinds.items place t mtype within ∙ stands.is)

@@ -1,5 +1,5 @@
 -- The links between messages of one type.
-use Rattle.std.specs.Prelude.{◌≡◌, ℕ, zero, suc, ◌<◌, ℤ, List, map, Option, Some, None}
+use Rattle.std.specs.Prelude.{◌≡◌, ℕ, zero, suc, ◌<◌, ℤ, List, length, map, slice_index_or, Option, Some, None}
 use Rattle.std.specs.Option.{unwrap_or}
 use Rattle.std.specs.List.{AllPairs}
 use Rattle.record_walk.specs.declared.of_type.Ends.{Ends}
@@ -53,6 +53,11 @@ link_of (suc n) = Some (suc n)
 
 abbrev pub ends_in : Ends → TypeEnds
 ends_in ends = record { first = unwrap_or ends.first 0; last = unwrap_or ends.last 0 }
+
+-- at a place of the types stands this one
+pub record IsPlaceOf (kinds : List ℤ) (mtype : ℤ) (place : ℕ) : Type 0 where
+  pub within : place < length kinds
+  pub is : slice_index_or kinds place mtype ≡ mtype
 
 -- the types, both ends of each, and of each message the next of its type
 pub record AreLinksOf (ms : List Message) (links : QueueLinks) : Type 0 where

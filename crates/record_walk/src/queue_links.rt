@@ -1,11 +1,11 @@
 //! The links of a queue in few bytes, and the records that it has to have.
 
-ghost use Rattle.std.specs.Prelude.{◌≡◌, ◌+◌, ◌<◌, length, map, slice_get, slice_index, IfSome};
+ghost use Rattle.std.specs.Prelude.{◌≡◌, ◌+◌, ◌<◌, ℤ, length, map, slice_get, slice_index_or, IfSome};
 ghost use Rattle.std.specs.List.{Contains};
 ghost use Rattle.queue_records.specs.declared.record.Record.TheVariants as records;
 ghost use Rattle.type_chains.specs.Neighbours.{before_place};
-ghost use Rattle.record_walk.specs.Links.{AreLinksOf, IsAscending, ends_in, link_of};
-ghost use Rattle.record_walk.specs.Words.{IsLawfulQueue, message_records, queue_entry, serials, type_records, types};
+ghost use Rattle.record_walk.specs.Links.{AreLinksOf, IsAscending, IsPlaceOf, ends_in, link_of};
+ghost use Rattle.record_walk.specs.Words.{IsLawfulQueue, Message, message_entry, message_records, queue_entry, serials, type_entry, type_records, types};
 
 use crate::entries::queue_entry;
 use crate::lists::{serials_of, type_before, type_behind, types_of};
@@ -63,7 +63,9 @@ impl QueueLinks {
     /// The Type of a type; none where no message has it.
     pub fn type_entry(&self, queue: &Queue, mtype: i64) -> Option<TypeEntry>
         requires { AreLinksOf queue.now.messages self.now }
-        ensures { IfSome result (λ entry. Contains (type_records queue.now) (records.Type entry)) }
+        ensures stands {
+            IfSome result (λ entry. Contains (type_records queue.now) (records.Type entry)) }
+        ensures which { IfSome result (λ entry. entry ≡ type_entry queue.now mtype) }
     {
         let place = self.place_of_type(mtype)?;
         Some(self.type_at(queue, place))
@@ -72,7 +74,7 @@ impl QueueLinks {
     /// The place of a type. Types ascend, so where some are missing each look halves the places
     /// that are left.
     fn place_of_type(&self, mtype: i64) -> Option<usize>
-        ensures { IfSome result (λ place. place < length self.now.kinds.items) }
+        ensures { IfSome result (IsPlaceOf self.now.kinds.items mtype) }
     {
         match self.place_without_gaps(mtype) {
             Some(place) => Some(place),
@@ -82,7 +84,7 @@ impl QueueLinks {
 
     /// The place of a type, where none between it and the first is missing.
     fn place_without_gaps(&self, mtype: i64) -> Option<usize>
-        ensures { IfSome result (λ place. place < length self.now.kinds.items) }
+        ensures { IfSome result (IsPlaceOf self.now.kinds.items mtype) }
     {
         let first = *self.kinds.first()?;
         let place = usize::try_from(mtype.checked_sub(first)?).ok()?;
@@ -97,7 +99,9 @@ impl QueueLinks {
     fn type_at(&self, queue: &Queue, place: usize) -> TypeEntry
         requires within { place < length self.now.kinds.items }
         requires links { AreLinksOf queue.now.messages self.now }
-        ensures { Contains (type_records queue.now) (records.Type result) }
+        ensures stands { Contains (type_records queue.now) (records.Type result) }
+        ensures which { (mtype : ℤ) → IsPlaceOf self.now.kinds.items mtype place →
+            result ≡ type_entry queue.now mtype }
     {
         let ends = self.ends[place];
         TypeEntry {
@@ -115,7 +119,9 @@ impl QueueLinks {
         requires within { place < length queue.now.messages }
         requires ascend { IsAscending queue.now.messages }
         requires links { AreLinksOf queue.now.messages self.now }
-        ensures { Contains (message_records queue.now) (records.Message result) }
+        ensures stands { Contains (message_records queue.now) (records.Message result) }
+        ensures which { (m : Message) →
+            result ≡ message_entry queue.now (slice_index_or queue.now.messages place m) }
     {
         let message = queue.messages.get(place);
         MessageEntry {
