@@ -22,18 +22,23 @@ pub fn program<'a>(alloc: Global) -> Result<Command<'a>, AllocError> {
     with_commands(alloc, program, FILE_COMMANDS)
 }
 
-/// Adds the commands of these rows. One at a time is made and added, so that a growth that is refused
-/// leaves one of them at most to be dropped.
+/// Adds the commands of these rows.
 pub fn with_commands<'a>(
     alloc: Global,
     program: Command<'a>,
     rows: &[CommandRow],
 ) -> Result<Command<'a>, AllocError> {
-    let mut program = program;
+    program.subcommands(commands(alloc, rows)?)
+}
+
+/// The commands of these rows. The loop owns a list and not the program, whose drop would be proved on
+/// each way out of it.
+fn commands<'a>(alloc: Global, rows: &[CommandRow]) -> Result<Vec<Command<'a>>, AllocError> {
+    let mut commands = Vec::new(alloc);
     for row in rows {
-        program = program.subcommand(command(alloc, row)?)?;
+        commands.push(command(alloc, row)?)?;
     }
-    Ok(program)
+    Ok(commands)
 }
 
 /// What is said of a command line that the parser takes, with the usage of its command.
@@ -58,18 +63,26 @@ pub fn wrong_word(
 
 /// What the command line of a command may say.
 fn command<'a>(alloc: Global, row: &CommandRow) -> Result<Command<'a>, AllocError> {
-    let mut command = Command::new(alloc, row.name)
+    let arguments = arguments(alloc, row)?;
+    let command = Command::new(alloc, row.name)
         .about(row.about)
-        .after_help(row.ending);
+        .after_help(row.ending)
+        .args(arguments)?;
+    with_choice(alloc, command, row)
+}
+
+/// Its operands, and the options that it takes.
+fn arguments<'a>(alloc: Global, row: &CommandRow) -> Result<Vec<Arg<'a>>, AllocError> {
+    let mut arguments = Vec::new(alloc);
     for operand in row.operands {
-        command = command.arg(argument(alloc, operand))?;
+        arguments.push(argument(alloc, operand))?;
     }
     for option in OPTIONS {
         if option.of.contains(&row.verb) {
-            command = command.arg(option_argument(alloc, option)?)?;
+            arguments.push(option_argument(alloc, option)?)?;
         }
     }
-    with_choice(alloc, command, row)
+    Ok(arguments)
 }
 
 /// An operand.
