@@ -57,7 +57,7 @@ module _ (lane : ℕ) (within : lane < 4) where
   pub rotated-lane : (x down up : List ℕ) (by : ℕ) → length x ≡ 4 → length down ≡ 4 → length up ≡ 4
       → 0 < by → by < 32 → slice_index down lane ≡ by → slice_index up lane ≡ 32 - by
       → slice_index (zip2 bit_or (zip2 (λ (a b : ℕ). a / 2 ^ b) x down)
-          (zip2 (λ (a b : ℕ). a * 2 ^ b % 2 ^ 32) x up)) lane
+      (zip2 (λ (a b : ℕ). a * 2 ^ b % 2 ^ 32) x up)) lane
       ≡ rotate_right w32 (slice_index x lane) by
   rotated-lane x down up by wide_x wide_down wide_up low high is_down is_up =
       let f : ℕ → ℕ → ℕ = λ (a b : ℕ). a / 2 ^ b in
@@ -68,6 +68,6 @@ module _ (lane : ℕ) (within : lane < 4) where
       zip2-lane bit_or (zip2 f x down) (zip2 g x up) (zip2-wide f x down wide_x wide_down)
       (zip2-wide g x up wide_x wide_up) lane within
       ∙ (λ i. bit_or (zip2-lane f x down wide_x wide_down lane within i)
-          (zip2-lane g x up wide_x wide_up lane within i))
+      (zip2-lane g x up wide_x wide_up lane within i))
       ∙ (λ i. bit_or (n / 2 ^ is_down i) (n * 2 ^ is_up i % 2 ^ 32))
       ∙ (λ i. bit_or (n / 2 ^ sym same i) (n * 2 ^ sym rest i % 2 ^ 32))
