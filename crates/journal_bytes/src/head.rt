@@ -61,7 +61,8 @@ pub fn spell_end(number: u64) -> [u8; HEAD_BYTES]
 
 /// All of a head before its digest.
 fn spell_front(magic: &[u8; 8], count: u32, number: u64, seal: &Seal) -> [u8; FRONT_BYTES]
-    ensures { result ≡ (magic.now ++ (four NEW_VERSION ++ four count)) ++ (eight number ++ seal.now) }
+    ensures { result
+        ≡ (magic.now ++ (four NEW_VERSION ++ four count)) ++ (eight number ++ seal.now) }
 {
     let mut version_bytes = [0; 4];
     write_four(&mut version_bytes, NEW_VERSION);

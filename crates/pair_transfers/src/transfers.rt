@@ -155,7 +155,8 @@ impl Transfers {
 
     /// The transfer that is to be made next; none where the save is over.
     pub fn next<S: Unsaved>(&mut self, pages: &mut S) -> Result<Option<Transfer>, SaveFault>
-        ensures { IfOk result (Asks S.saved S.wants S.turned pages.old pages.new self.old self.new) }
+        ensures { IfOk result
+            (Asks S.saved S.wants S.turned pages.old pages.new self.old self.new) }
     {
         if let Step::Ask = self.step {
             let Some(act) = self.save.next(pages)? else {

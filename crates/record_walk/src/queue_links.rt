@@ -63,7 +63,8 @@ impl QueueLinks {
     /// The Type of a type; none where no message has it.
     pub fn type_entry(&self, queue: &Queue, mtype: i64) -> Option<TypeEntry>
         requires { AreLinksOf queue.now.messages self.now }
-        ensures stands { IfSome result (λ entry. Contains (type_records queue.now) (records.Type entry)) }
+        ensures stands { IfSome result
+            (λ entry. Contains (type_records queue.now) (records.Type entry)) }
         ensures which { IfSome result (λ entry. entry ≡ type_entry queue.now mtype) }
     {
         let place = self.place_of_type(mtype)?;
