@@ -112,16 +112,12 @@ pub enum Value {
 }
 
 impl Value {
-    /// How it is shown, where there is one. Patterns that are joined by `|` and bind are dear to prove.
+    /// How it is shown, where there is one.
     pub(crate) fn shown(self) -> Option<&'static str> {
         match self {
             Value::Nothing => None,
-            Value::Word(shown) => Some(shown),
-            Value::Signed(shown) => Some(shown),
-            Value::Perhaps(shown) => Some(shown),
-            Value::User(shown) => Some(shown),
-            Value::Group(shown) => Some(shown),
-            Value::Path(shown) => Some(shown),
+            Value::Word(shown) | Value::Signed(shown) | Value::Perhaps(shown) => Some(shown),
+            Value::User(shown) | Value::Group(shown) | Value::Path(shown) => Some(shown),
         }
     }
 }
