@@ -14,7 +14,7 @@ use clap::{ArgMatches, Error};
 use msgq_cli::argument_names::{
     ALL, FILE, GROUP, HEADER, JSON, LINES, NOERROR, OWNER, QBYTES, SIZE, VERBOSE,
 };
-use msgq_cli::{SHELL_COMMANDS, ShellVerb, Verb, command_named, program, with_commands};
+use msgq_cli::{SHELL_COMMANDS, ShellVerb, Verb, command_named, program};
 use queue_commands::{Framing, Receiving, Setting, Settings};
 use queue_model::{MAX_BODY, MAX_MESSAGES};
 use std::alloc::Global;
@@ -31,7 +31,7 @@ use std::alloc::Global;
 pub fn read_command<'a>(alloc: Global, words: &'a [String]) -> Result<Option<ShellTask<'a>>, Error>
     ensures pages { IfOk result (λ task. IfSome task HasPages) }
 {
-    let program = with_commands(alloc, program(alloc)?, SHELL_COMMANDS)?;
+    let program = program(alloc, SHELL_COMMANDS)?;
     let matches = program.try_get_matches_from(words)?;
     let Some((name, given)) = matches.subcommand() else {
         return Ok(None);

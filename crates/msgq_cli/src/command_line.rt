@@ -119,7 +119,7 @@ pub fn read_command_line<'a>(alloc: Global, words: &'a [String]) -> Result<Task<
     ensures pages { IfOk result HasPages }
     ensures input { IfOk result ReadsInputOnce }
 {
-    let matches = program(alloc)?.try_get_matches_from(words)?;
+    let matches = program(alloc, &[])?.try_get_matches_from(words)?;
     let Some((name, arguments)) = matches.subcommand() else {
         return Ok(Task::Serve);
     };

@@ -61,7 +61,7 @@ pub use metrics::{Metric, print_metrics};
 pub use mistake::{Expected, Mistake, Optional};
 pub use new_files::{CANT_BE_MADE, Unmade, Unnamed, create_file};
 pub use output::Output;
-pub use parser::{program, with_commands, wrong_word};
+pub use parser::{program, wrong_word};
 pub use plain::Plain;
 pub use progress::{Progress, Shown};
 pub use record_file;

@@ -13,27 +13,29 @@ use std::alloc::{AllocError, Global};
 /// The version of the program, which its manual page and the changelog have too.
 const VERSION: &str = "0.2.0";
 
-/// What the command line may say of scripts and whole files, to which more commands can be added.
-pub fn program<'a>(alloc: Global) -> Result<Command<'a>, AllocError> {
-    let program = Command::new(alloc, "msgq")
+/// What the command line may say of scripts and whole files, and by the commands of these rows.
+pub fn program<'a>(alloc: Global, more: &[CommandRow]) -> Result<Command<'a>, AllocError> {
+    // The program is made last: to drop it where a growth is refused would be dear to prove.
+    let mut commands = Vec::new(alloc);
+    add_commands(alloc, FILE_COMMANDS, &mut commands)?;
+    add_commands(alloc, more, &mut commands)?;
+    Command::new(alloc, "msgq")
         .version(VERSION)
         .about("Message queues (XSI, POSIX.1-2017) kept in one file")
-        .after_help(ENDING);
-    with_commands(alloc, program, FILE_COMMANDS)
+        .after_help(ENDING)
+        .subcommands(commands)
 }
 
-/// Adds the commands of these rows. One at a time is made and added, so that a growth that is refused
-/// leaves one of them at most to be dropped.
-pub fn with_commands<'a>(
+/// Adds the commands of these rows.
+fn add_commands<'a>(
     alloc: Global,
-    program: Command<'a>,
     rows: &[CommandRow],
-) -> Result<Command<'a>, AllocError> {
-    let mut program = program;
+    commands: &mut Vec<Command<'a>>,
+) -> Result<(), AllocError> {
     for row in rows {
-        program = program.subcommand(command(alloc, row)?)?;
+        commands.push(command(alloc, row)?)?;
     }
-    Ok(program)
+    Ok(())
 }
 
 /// What is said of a command line that the parser takes, with the usage of its command.
@@ -58,18 +60,27 @@ pub fn wrong_word(
 
 /// What the command line of a command may say.
 fn command<'a>(alloc: Global, row: &CommandRow) -> Result<Command<'a>, AllocError> {
-    let mut command = Command::new(alloc, row.name)
+    let arguments = arguments(alloc, row)?;
+    let choices = choices(alloc, row)?;
+    Command::new(alloc, row.name)
         .about(row.about)
-        .after_help(row.ending);
+        .after_help(row.ending)
+        .args(arguments)?
+        .groups(choices)
+}
+
+/// Its operands, and the options that it takes.
+fn arguments<'a>(alloc: Global, row: &CommandRow) -> Result<Vec<Arg<'a>>, AllocError> {
+    let mut arguments = Vec::new(alloc);
     for operand in row.operands {
-        command = command.arg(argument(alloc, operand))?;
+        arguments.push(argument(alloc, operand))?;
     }
     for option in OPTIONS {
         if option.of.contains(&row.verb) {
-            command = command.arg(option_argument(alloc, option)?)?;
+            arguments.push(option_argument(alloc, option)?)?;
         }
     }
-    with_choice(alloc, command, row)
+    Ok(arguments)
 }
 
 /// An operand.
@@ -112,15 +123,12 @@ fn with_value<'a>(argument: Arg<'a>, value: Value) -> Arg<'a> {
         .default_missing_value(FOR_EVER)
 }
 
-/// The options of which at least one is given.
-fn with_choice<'a>(
-    alloc: Global,
-    command: Command<'a>,
-    row: &CommandRow,
-) -> Result<Command<'a>, AllocError> {
-    if row.one_of.is_empty() {
-        return Ok(command);
+/// The options of which at least one is given, if there are such.
+fn choices<'a>(alloc: Global, row: &CommandRow) -> Result<Vec<ArgGroup<'a>>, AllocError> {
+    let mut choices = Vec::new(alloc);
+    if !row.one_of.is_empty() {
+        let choice = ArgGroup::new(alloc, "what").args(row.one_of)?;
+        choices.push(choice.required(true).multiple(true))?;
     }
-    let choice = ArgGroup::new(alloc, "what").args(row.one_of)?;
-    command.group(choice.required(true).multiple(true))
+    Ok(choices)
 }
