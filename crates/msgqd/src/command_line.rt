@@ -13,7 +13,7 @@ const USUAL_WAITS: usize = 4_096;
 const MOST_WAITS: usize = 65_536;
 
 /// What the command line asks for.
-#[derive(Debug, Drop)]
+#[derive(Drop)]
 pub struct Task<'a> {
     /// The file.
     pub file: &'a str,
@@ -24,7 +24,7 @@ pub struct Task<'a> {
 }
 
 /// What is wrong with a command line.
-#[derive(Clone, Copy, Debug, PartialEq, Eq, Error)]
+#[derive(Clone, Copy, Debug, Error)]
 pub enum WrongWord {
     /// No file is named.
     #[error("no FILE is named")]

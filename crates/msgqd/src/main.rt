@@ -19,25 +19,34 @@ fn main(rt: HostRuntime) -> ExitCode {
     let _input = hold(&rt, 0);
     let _output = hold(&rt, 1);
     let _errors = hold(&rt, 2);
-    let mut errors = rt.stderr();
-    let words = match std::env::args(&rt) {
+    start(&rt)
+}
+
+/// Does what the command line asks for, and gives the exit status.
+fn start(rt: &HostRuntime) -> ExitCode {
+    let words = match std::env::args(rt) {
         Ok(words) => words,
         Err(error) => {
-            let _ = writeln!(errors, "msgqd: the command line can't be read: {error}");
+            let _ = writeln!(rt.stderr(), "msgqd: the command line can't be read: {error}");
             return ExitCode::from(2);
         }
     };
     let words: Vec<String> = match words.collect(rt.alloc()) {
         Ok(words) => words,
         Err(_) => {
-            let _ = writeln!(errors, "msgqd: out of memory");
+            let _ = writeln!(rt.stderr(), "msgqd: out of memory");
             return ExitCode::FAILURE;
         }
     };
-    match read_command_line(&words) {
-        Ok(task) => run(&rt, &task),
+    obey(rt, &words)
+}
+
+/// The same by its words.
+fn obey(rt: &HostRuntime, words: &[String]) -> ExitCode {
+    match read_command_line(words) {
+        Ok(task) => run(rt, &task),
         Err(why) => {
-            let _ = writeln!(errors, "msgqd: {why}\n{USAGE}");
+            let _ = writeln!(rt.stderr(), "msgqd: {why}\n{USAGE}");
             ExitCode::from(2)
         }
     }

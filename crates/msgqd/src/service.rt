@@ -93,7 +93,7 @@ fn attend(rt: &HostRuntime, server: &mut FileServer, inbox: &mut Inbox) -> Resul
 }
 
 /// What a read of the relay's records came to.
-#[derive(Clone, Copy, Debug, PartialEq, Eq)]
+#[derive(Clone, Copy)]
 enum Came {
     /// Nothing is there yet, or a signal has ended it.
     Nothing,

@@ -1,22 +1,24 @@
 //! Where deeds are done: a file in memory, and whoever works on it.
 
+mod changes;
 mod files;
 mod looks;
 
 use crate::alone::Alone;
-use crate::deed::{Deed, SeatDeed};
-use crate::events::{play, play_file};
+use crate::events::{play, play_file, read_events};
 use crate::keys::Keys;
 use crate::line::Line;
 use crate::lists::Lists;
-use crate::machines::Machines;
-use crate::seats::Seats;
-use crate::tables;
-use crate::words::Wrong;
-use interleavings::Event;
+use crate::machines::{Machines, OPERATIONS};
+use crate::seats::{SEAT_DEEDS, SeatDeed, Seats};
+use crate::tables::{LOCK_DEEDS, LockDeed};
+use crate::words::{Words, Wrong, named};
+use crate::{calls, tables};
+use changes::CHANGES;
+use files::{FILE_DEEDS, NO_FILE};
+use looks::LOOKS;
 use page_device::MemDevice;
 use page_locks::LockTable;
-use queue_model::Call;
 use std::alloc::Global;
 
 /// Who works on the file.
@@ -59,77 +61,127 @@ impl Bench {
         }
     }
 
-    /// Does a deed, and tells what it came to.
-    pub fn does(&mut self, alloc: Global, deed: Deed, line: &mut Line) -> Result<(), Wrong> {
-        match deed {
-            Deed::File(deed) => self.file(alloc, deed, line),
-            Deed::Seat(deed) => {
-                let deed = self.timed(deed);
-                self.seat(alloc, deed, line)
-            }
-            Deed::Look(look) => self.look(look, line),
-            Deed::Play(events) => self.play(alloc, events, line),
-            Deed::Record(deed) => match &mut self.stage {
-                Stage::Machines(machines) => machines.operate(deed, line),
-                _ => Err(Wrong::Elsewhere("records")),
-            },
-            Deed::Lock(deed) => match &mut self.stage {
-                Stage::Table(table) => tables::does(table, deed, line),
-                _ => Err(Wrong::Elsewhere("locks")),
-            },
+    /// Does the deed of a verb, and tells what it came to; nothing where that is what it says.
+    pub fn does(
+        &mut self,
+        alloc: Global,
+        verb: &[u8],
+        words: &mut Words<'_>,
+        line: &mut Line,
+    ) -> Result<(), Wrong> {
+        if let Some(deed) = named(&FILE_DEEDS, verb) {
+            return self.file(alloc, deed, words, line);
         }
+        if let Some(deed) = named(&CHANGES, verb) {
+            return self.change(alloc, deed, words);
+        }
+        if let Some(deed) = named(&SEAT_DEEDS, verb) {
+            return self.seat(alloc, deed, words, line);
+        }
+        if let Some(look) = named(&LOOKS, verb) {
+            return self.look(look, words, line);
+        }
+        if let Some(deed) = named(&LOCK_DEEDS, verb) {
+            return self.lock_deed(deed, words, line);
+        }
+        if verb == b"play".as_slice() {
+            return self.play(alloc, words, line);
+        }
+        self.record_deed(verb, words, line)
+    }
+
+    /// Whoever works on the file from here on takes the place of who did.
+    fn put(&mut self, stage: Stage) {
+        self.stage = stage;
     }
 
     /// Plays events on a kernel, or on the file.
-    fn play(&mut self, alloc: Global, events: Vec<Event>, line: &mut Line) -> Result<(), Wrong> {
-        if let Stage::Seats(seats) = &mut self.stage {
-            return play(alloc, &mut seats.kernel, events, line);
+    fn play(&mut self, alloc: Global, words: &mut Words<'_>, line: &mut Line) -> Result<(), Wrong> {
+        let events = read_events(alloc, words)?;
+        match &mut self.stage {
+            Stage::Seats(seats) => play(alloc, &mut seats.kernel, events, line),
+            Stage::File(device) => {
+                play_file(alloc, device, self.keys, &mut self.lists, events, line)
+            }
+            _ => Err(NO_FILE),
         }
-        let device = self.take()?;
-        let device = play_file(alloc, device, self.keys, &mut self.lists, events, line)?;
-        self.stage = Stage::File(device);
-        Ok(())
-    }
-
-    /// The same deed, where a call that it begins is made at its moment.
-    fn timed(&mut self, deed: SeatDeed) -> SeatDeed {
-        match deed {
-            SeatDeed::Begin(seat, call) => SeatDeed::Begin(seat, self.at_moment(call)),
-            SeatDeed::Call(seat, call) => SeatDeed::Call(seat, self.at_moment(call)),
-            other => other,
-        }
-    }
-
-    /// A call at the moment of its number.
-    fn at_moment(&mut self, call: Call) -> Call {
-        self.calls = self.calls.saturating_add(1);
-        let mut call = call;
-        match &mut call {
-            Call::Get(arguments) => arguments.moment = self.calls,
-            Call::Send(arguments) => arguments.moment = self.calls,
-            Call::Receive(arguments) => arguments.moment = self.calls,
-            Call::Set(arguments) => arguments.moment = self.calls,
-            Call::Stat { .. } | Call::Remove { .. } => {}
-        }
-        call
     }
 
     /// A deed of a seat.
-    fn seat(&mut self, alloc: Global, deed: SeatDeed, line: &mut Line) -> Result<(), Wrong> {
-        match (&mut self.stage, deed) {
-            (Stage::Seats(seats), deed) => seats.does(alloc, deed, &mut self.lists, line),
-            (Stage::Machines(machines), deed) => machines.does(deed, line),
-            (Stage::Alone(alone), SeatDeed::Call(seat, call)) => {
-                let Some(caller) = self.lists.callers(seat).last() else {
-                    return Err(Wrong::Wanted("a seat"));
-                };
-                if alone.begin(alloc, *caller, call).is_err() {
-                    return Err(Wrong::NoMemory);
+    fn seat(
+        &mut self,
+        alloc: Global,
+        deed: SeatDeed,
+        words: &mut Words<'_>,
+        line: &mut Line,
+    ) -> Result<(), Wrong> {
+        match &mut self.stage {
+            Stage::Seats(seats) => {
+                if !deed.begins() {
+                    return seats.does(alloc, deed, words, &mut self.lists, line);
                 }
-                alone.run(self.keys, line);
-                Ok(())
+                self.calls = self.calls.saturating_add(1);
+                seats.make(alloc, deed, words, self.calls, line)
             }
+            Stage::Machines(machines) => machines.does(deed, words, line),
+            Stage::Alone(_) => self.call_alone(alloc, deed, words, line),
             _ => Err(Wrong::Elsewhere("seats")),
+        }
+    }
+
+    /// A call is made as the machine that it is.
+    fn call_alone(
+        &mut self,
+        alloc: Global,
+        deed: SeatDeed,
+        words: &mut Words<'_>,
+        line: &mut Line,
+    ) -> Result<(), Wrong> {
+        let (Stage::Alone(alone), SeatDeed::Call) = (&mut self.stage, deed) else {
+            return Err(Wrong::Elsewhere("a kernel"));
+        };
+        let seat = words.seat()?;
+        let Some(caller) = self.lists.callers(seat).last() else {
+            return Err(Wrong::Wanted("a seat"));
+        };
+        self.calls = self.calls.saturating_add(1);
+        let call = calls::read(alloc, words, self.calls)?;
+        if alone.begin(alloc, *caller, call).is_err() {
+            return Err(Wrong::NoMemory);
+        }
+        alone.run(self.keys, line);
+        Ok(())
+    }
+
+    /// A deed with a record.
+    fn record_deed(
+        &mut self,
+        verb: &[u8],
+        words: &mut Words<'_>,
+        line: &mut Line,
+    ) -> Result<(), Wrong> {
+        let ends = verb != b"start".as_slice();
+        let operation = if ends {
+            named(&OPERATIONS, verb).ok_or(Wrong::Wanted("a deed"))?
+        } else {
+            words.one_of(&OPERATIONS, "search, find, insert or delete")?
+        };
+        match &mut self.stage {
+            Stage::Machines(machines) => machines.operate(operation, ends, words, line),
+            _ => Err(Wrong::Elsewhere("records")),
+        }
+    }
+
+    /// A deed with locks.
+    fn lock_deed(
+        &mut self,
+        deed: LockDeed,
+        words: &mut Words<'_>,
+        line: &mut Line,
+    ) -> Result<(), Wrong> {
+        match &mut self.stage {
+            Stage::Table(table) => tables::does(table, deed, words, line),
+            _ => Err(Wrong::Elsewhere("locks")),
         }
     }
 }

@@ -11,34 +11,55 @@ const DEFAULT_MODE: u16 = 0o666;
 /// More options than any call has.
 const MOST_OPTIONS: u32 = 8;
 
-/// The call that the words behind a seat are. Its moment is 0.
-pub fn read(alloc: Global, words: &mut Words<'_>) -> Result<Call, Wrong> {
-    let call = match words.next() {
-        Some(b"get") => get(words)?,
-        Some(b"snd") => send(alloc, words)?,
-        Some(b"rcv") => receive(words)?,
-        Some(b"stat") => Call::Stat {
-            id: words.number("a queue")?,
-        },
-        Some(b"set") => set(words)?,
-        Some(b"rm") => Call::Remove {
-            id: words.number("a queue")?,
-        },
-        _ => return Err(Wrong::Wanted("get, snd, rcv, stat, set or rm")),
-    };
-    words.end()?;
-    Ok(call)
+/// Which call is made.
+#[derive(Clone, Copy)]
+enum Verb {
+    Get,
+    Send,
+    Receive,
+    Stat,
+    Set,
+    Remove,
+}
+
+/// The calls by their names.
+const VERBS: [(&[u8], Verb); 6] = [
+    (b"get", Verb::Get),
+    (b"snd", Verb::Send),
+    (b"rcv", Verb::Receive),
+    (b"stat", Verb::Stat),
+    (b"set", Verb::Set),
+    (b"rm", Verb::Remove),
+];
+
+/// The call that the words behind a seat are, made at this moment.
+pub fn read(alloc: Global, words: &mut Words<'_>, moment: u64) -> Result<Call, Wrong> {
+    let verb = words.one_of(&VERBS, "get, snd, rcv, stat, set or rm")?;
+    match verb {
+        Verb::Get => get(words, moment),
+        Verb::Send => send(alloc, words, moment),
+        Verb::Receive => receive(words, moment),
+        Verb::Stat => {
+            let id = words.number("a queue")?;
+            Ok(Call::Stat { id })
+        }
+        Verb::Set => set(words, moment),
+        Verb::Remove => {
+            let id = words.number("a queue")?;
+            Ok(Call::Remove { id })
+        }
+    }
 }
 
 /// `KEY` or `private`, then any of `create`, `excl`, `mode=OOO`.
-fn get(words: &mut Words<'_>) -> Result<Call, Wrong> {
+fn get(words: &mut Words<'_>, moment: u64) -> Result<Call, Wrong> {
     let wrong = Wrong::Wanted("a key or private, and create, excl or mode=OOO");
     let mut arguments = GetArguments {
         key: key(words.next().ok_or(wrong)?).ok_or(wrong)?,
         create: false,
         excl: false,
         mode: DEFAULT_MODE,
-        moment: 0,
+        moment,
     };
     for _ in 0..MOST_OPTIONS {
         match words.next() {
@@ -61,7 +82,7 @@ fn mtype(words: &mut Words<'_>) -> Result<i64, Wrong> {
 }
 
 /// `ID TYPE HEX`, then optionally `nowait`.
-fn send(alloc: Global, words: &mut Words<'_>) -> Result<Call, Wrong> {
+fn send(alloc: Global, words: &mut Words<'_>, moment: u64) -> Result<Call, Wrong> {
     let id = words.number("a queue")?;
     let mtype = mtype(words)?;
     let body = words.bytes(alloc)?;
@@ -75,12 +96,12 @@ fn send(alloc: Global, words: &mut Words<'_>) -> Result<Call, Wrong> {
         mtype,
         body,
         nowait,
-        moment: 0,
+        moment,
     }))
 }
 
 /// `ID SIZE TYPE`, then any of `nowait`, `noerror`.
-fn receive(words: &mut Words<'_>) -> Result<Call, Wrong> {
+fn receive(words: &mut Words<'_>, moment: u64) -> Result<Call, Wrong> {
     let id = words.number("a queue")?;
     let size = words.number("a number of bytes")?;
     let mut arguments = ReceiveArguments {
@@ -89,7 +110,7 @@ fn receive(words: &mut Words<'_>) -> Result<Call, Wrong> {
         mtype: mtype(words)?,
         nowait: false,
         noerror: false,
-        moment: 0,
+        moment,
     };
     for _ in 0..MOST_OPTIONS {
         match words.next() {
@@ -103,7 +124,7 @@ fn receive(words: &mut Words<'_>) -> Result<Call, Wrong> {
 }
 
 /// `ID QBYTES`, then any of `uid=N`, `gid=N`, `mode=OOO`.
-fn set(words: &mut Words<'_>) -> Result<Call, Wrong> {
+fn set(words: &mut Words<'_>, moment: u64) -> Result<Call, Wrong> {
     let wrong = Wrong::Wanted("uid=N, gid=N or mode=OOO");
     let id = words.number("a queue")?;
     let mut arguments = SetArguments {
@@ -112,7 +133,7 @@ fn set(words: &mut Words<'_>) -> Result<Call, Wrong> {
         uid: None,
         gid: None,
         mode: None,
-        moment: 0,
+        moment,
     };
     for _ in 0..MOST_OPTIONS {
         let Some(word) = words.next() else {

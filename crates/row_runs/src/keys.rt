@@ -10,6 +10,13 @@ pub enum Keys {
     Zero,
 }
 
+/// These by their names.
+pub const KEYS: [(&[u8], Keys); 3] = [
+    (b"sha", Keys::Sha),
+    (b"number", Keys::Number),
+    (b"zero", Keys::Zero),
+];
+
 impl PseudoKey for Keys {
     ghost use Rattle.row_runs.specs.Keys.{pseudokey};
     ghost use Rattle.row_runs.specs.KeyLaws.{pseudokey_small};

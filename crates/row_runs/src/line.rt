@@ -30,6 +30,11 @@ impl Line {
         Some(self.text.as_slice())
     }
 
+    /// Whether it has no words.
+    pub fn is_empty(&self) -> bool {
+        self.text.is_empty()
+    }
+
     /// No words again.
     pub fn clear(&mut self) {
         self.text.clear();
@@ -49,6 +54,15 @@ impl Line {
             self.put(b" ");
         }
         self.put(word.as_bytes());
+    }
+
+    /// Adds the words of another line.
+    pub fn add(&mut self, other: &Line) {
+        if !self.text.is_empty() {
+            self.put(b" ");
+        }
+        self.put(other.text.as_slice());
+        self.lacks = self.lacks || other.lacks;
     }
 
     /// Adds a mark behind the last word.

@@ -1,11 +1,11 @@
 //! Seats at work on the records of a file, with no call above them.
 
-use crate::deed::{Operation, RecordDeed, SeatDeed};
 use crate::keys::Keys;
 use crate::kinds::Made;
 use crate::line::Line;
+use crate::seats::SeatDeed;
 use crate::told::{tell_blocked, tell_fault, tell_move};
-use crate::words::Wrong;
+use crate::words::{Words, Wrong};
 use file_pages::FileFault;
 use machine_trials::{Trial, Value};
 use page_device::MemDevice;
@@ -18,6 +18,25 @@ const MOST_STEPS: u32 = 100_000;
 
 /// What a deed of a seat that has no work is told.
 const NO_SEAT: Wrong = Wrong::Wanted("a seat that has work");
+
+/// What a seat does with a record.
+#[derive(Clone, Copy)]
+pub enum Operation {
+    /// A search alone, which stays on the page that answers.
+    Search,
+    Find,
+    /// A value of so many bytes.
+    Insert,
+    Delete,
+}
+
+/// These by their verbs.
+pub const OPERATIONS: [(&[u8], Operation); 4] = [
+    (b"search", Operation::Search),
+    (b"find", Operation::Find),
+    (b"insert", Operation::Insert),
+    (b"delete", Operation::Delete),
+];
 
 /// Seats at work, and how many steps of each kind they have made.
 #[derive(Drop)]
@@ -37,55 +56,67 @@ impl Machines {
 
     /// The next idle seat begins an operation, and the seat is told; and what it comes to, where it
     /// is stepped to its end.
-    pub fn operate(&mut self, deed: RecordDeed, line: &mut Line) -> Result<(), Wrong> {
-        let key = deed.key;
-        let begun = match deed.operation {
-            Operation::Search => self.trial.search(key),
-            Operation::Find => self.trial.find(key),
-            Operation::Insert(bytes) => self.trial.insert(
-                key,
-                Value {
-                    mark: 7,
-                    bytes: bytes as usize,
-                },
-            ),
-            Operation::Delete => self.trial.delete(key),
-        };
-        let Some(seat) = begun else {
+    pub fn operate(
+        &mut self,
+        operation: Operation,
+        ends: bool,
+        words: &mut Words<'_>,
+        line: &mut Line,
+    ) -> Result<(), Wrong> {
+        let Some(seat) = self.begin(operation, words)? else {
             line.word("none");
             return Ok(());
         };
         line.word("seat");
         line.number(u64::from(seat));
-        if deed.ends {
+        if ends {
             let did = self.run(seat, None)?;
             self.tell(seat, did, line);
         }
         Ok(())
     }
 
+    /// The idle seat that begins an operation, if there is one.
+    fn begin(&mut self, operation: Operation, words: &mut Words<'_>) -> Result<Option<u8>, Wrong> {
+        let key = words.one_key()?;
+        Ok(match operation {
+            Operation::Search => self.trial.search(key),
+            Operation::Find => self.trial.find(key),
+            Operation::Insert => {
+                let bytes = words.number("a number of bytes")? as usize;
+                self.trial.insert(key, Value { mark: 7, bytes })
+            }
+            Operation::Delete => self.trial.delete(key),
+        })
+    }
+
     /// Does a deed of a seat, and tells what it came to.
-    pub fn does(&mut self, deed: SeatDeed, line: &mut Line) -> Result<(), Wrong> {
+    pub fn does(
+        &mut self,
+        deed: SeatDeed,
+        words: &mut Words<'_>,
+        line: &mut Line,
+    ) -> Result<(), Wrong> {
+        let seat = words.seat()?;
         match deed {
-            SeatDeed::Step(seat) => {
+            SeatDeed::Step => {
                 let did = self.step(seat)?;
                 self.tell(seat, did, line);
             }
-            SeatDeed::Run(seat) => {
+            SeatDeed::Run => {
                 let did = self.run(seat, None)?;
                 self.tell(seat, did, line);
             }
-            SeatDeed::Reach(seat, kind) => {
+            SeatDeed::Reach => {
+                let kind = words.kind()?;
                 let did = self.run(seat, Some(kind))?;
                 self.tell(seat, did, line);
             }
-            SeatDeed::Made(seat, kind) => {
-                match self.made.get(usize::from(seat).saturating_sub(1)) {
-                    Some(made) => line.number(u64::from(made.of(kind))),
-                    None => return Err(NO_SEAT),
-                }
+            SeatDeed::Made => {
+                let kind = words.kind()?;
+                line.number(u64::from(self.made(seat, kind)?));
             }
-            SeatDeed::Searched(seat) => {
+            SeatDeed::Searched => {
                 let hops = self.trial.hops(seat).ok_or(NO_SEAT)?;
                 line.word("hops");
                 line.number(hops);
@@ -93,6 +124,14 @@ impl Machines {
             _ => return Err(Wrong::Elsewhere("a kernel")),
         }
         Ok(())
+    }
+
+    /// How many steps of a kind a seat has made since its work began.
+    fn made(&self, seat: u8, kind: Kind) -> Result<u32, Wrong> {
+        match self.made.get(usize::from(seat).saturating_sub(1)) {
+            Some(made) => Ok(made.of(kind)),
+            None => Err(NO_SEAT),
+        }
     }
 
     /// One step of a seat, which is counted where it moves.

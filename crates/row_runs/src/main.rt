@@ -7,7 +7,6 @@ mod alone;
 mod bench;
 mod bytes;
 mod calls;
-mod deed;
 mod events;
 mod file;
 mod keys;
@@ -29,50 +28,73 @@ use std::process::ExitCode;
 use words::{Words, Wrong};
 
 fn main(rt: HostRuntime) -> ExitCode {
-    let alloc = rt.alloc();
-    let mut text = Vec::new(alloc);
+    let mut text = Vec::new(rt.alloc());
     if rt.reader().read_to_end(&mut text).is_err() {
         return fail(&rt, 0, Wrong::Unread);
     }
-    let Ok(mut output) = BufWriter::new(alloc, io::writer(&rt)) else {
-        return fail(&rt, 0, Wrong::NoMemory);
+    run(&rt, text.as_slice())
+}
+
+/// Does the deeds of all lines, and prints what each came to.
+fn run(rt: &HostRuntime, text: &[u8]) -> ExitCode {
+    let Ok(mut output) = BufWriter::new(rt.alloc(), io::writer(rt)) else {
+        return fail(rt, 0, Wrong::NoMemory);
     };
-    let ended = rows(alloc, text.as_slice(), &mut output);
+    let ended = rows(rt.alloc(), text, &mut output);
     if output.flush().is_err() {
         return ExitCode::FAILURE;
     }
     match ended {
         Ok(()) => ExitCode::SUCCESS,
-        Err((number, wrong)) => fail(&rt, number, wrong),
+        Err((number, wrong)) => fail(rt, number, wrong),
     }
 }
 
-/// Does the deeds of all lines, and prints of each its number and what it came to. Where a line is
-/// none of the language, or can't be done, its number is given and why.
+/// Does the deeds of all lines over no file, and prints of each its number and what it came to. Where
+/// a line is none of the language, or can't be done, its number is given and why.
 fn rows<W: Write>(alloc: Global, text: &[u8], output: &mut W) -> Result<(), (u64, Wrong)> {
     let mut bench = Bench::new(alloc);
     let mut told = Line::new(alloc);
+    rows_on(&mut bench, alloc, text, &mut told, output)
+}
+
+/// The same over what was done before.
+fn rows_on<W: Write>(
+    bench: &mut Bench,
+    alloc: Global,
+    text: &[u8],
+    told: &mut Line,
+    output: &mut W,
+) -> Result<(), (u64, Wrong)> {
     let mut number: u64 = 0;
     for line in text.split(|byte| *byte == b'\n') {
         number = number.wrapping_add(1);
         told.clear();
-        match does(alloc, &mut bench, line, &mut told) {
+        match does(alloc, bench, line, told) {
             Ok(true) => {}
             Ok(false) => continue,
             Err(wrong) => return Err((number, wrong)),
         }
-        let Some(words) = told.text() else {
-            return Err((number, Wrong::NoMemory));
-        };
-        let Ok(()) = print(number, words, output) else {
-            return Err((number, Wrong::Unwritten));
-        };
+        if let Err(wrong) = print(number, told, output) {
+            return Err((number, wrong));
+        }
     }
     Ok(())
 }
 
-/// Prints a line of words behind its number.
-fn print<W: Write>(number: u64, words: &[u8], output: &mut W) -> io::Result<()> {
+/// Prints a line behind its number.
+fn print<W: Write>(number: u64, told: &Line, output: &mut W) -> Result<(), Wrong> {
+    let Some(words) = told.text() else {
+        return Err(Wrong::NoMemory);
+    };
+    match write_line(number, words, output) {
+        Ok(()) => Ok(()),
+        Err(_) => Err(Wrong::Unwritten),
+    }
+}
+
+/// Writes words behind a number.
+fn write_line<W: Write>(number: u64, words: &[u8], output: &mut W) -> io::Result<()> {
     write!(output, "{number} ")?;
     output.write_all(words)?;
     output.write_all(b"\n")
@@ -87,8 +109,11 @@ fn does(alloc: Global, bench: &mut Bench, line: &[u8], told: &mut Line) -> Resul
     if verb.starts_with(b"#") {
         return Ok(false);
     }
-    let deed = deed::read(alloc, verb, &mut words)?;
-    bench.does(alloc, deed, told)?;
+    bench.does(alloc, verb, &mut words, told)?;
+    words.end()?;
+    if told.is_empty() {
+        told.word("ok");
+    }
     Ok(true)
 }
 

@@ -34,6 +34,11 @@ pub fn tell_fault(line: &mut Line, number: u8) {
     line.number(u64::from(number));
 }
 
+/// Whether something is so.
+pub fn tell_truth(line: &mut Line, is: bool) {
+    line.word(if is { "yes" } else { "no" });
+}
+
 /// A seat that stands in the way.
 pub fn tell_blocked(line: &mut Line, other: u8) {
     line.word("blocked");

@@ -1,6 +1,5 @@
 //! The words of a line, up to a colon.
 
-use crate::keys::Keys;
 use crate::kinds::kind_named;
 use bucket_page::RecordKey;
 use memchr::memchr;
@@ -12,7 +11,7 @@ use step_rules::Kind;
 use thiserror::Error;
 
 /// Why a line is not done.
-#[derive(Clone, Copy, Debug, PartialEq, Eq, Error)]
+#[derive(Clone, Copy, Debug, Error)]
 pub enum Wrong {
     /// The grammar has something else here.
     #[error("{0} is wanted")]
@@ -31,12 +30,22 @@ pub enum Wrong {
     NoMemory,
 }
 
-/// A kind of lock by its name.
+/// The kinds of lock by their names.
 const LOCK_KINDS: [(&[u8], LockKind); 3] = [
     (b"Read", LockKind::Read),
     (b"Selective", LockKind::Selective),
     (b"Exclusive", LockKind::Exclusive),
 ];
+
+/// What a word names in a table.
+pub fn named<T: Copy>(table: &[(&[u8], T)], word: &[u8]) -> Option<T> {
+    for (name, it) in table {
+        if *name == word {
+            return Some(*it);
+        }
+    }
+    None
+}
 
 /// What is left of a line.
 #[derive(Clone, Copy)]
@@ -116,16 +125,6 @@ impl<'a> Words<'a> {
         kind_named(self.next().ok_or(wrong)?).ok_or(wrong)
     }
 
-    /// The next word, which says how keys become pseudokeys.
-    pub fn keys(&mut self) -> Result<Keys, Wrong> {
-        match self.next() {
-            Some(b"sha") => Ok(Keys::Sha),
-            Some(b"number") => Ok(Keys::Number),
-            Some(b"zero") => Ok(Keys::Zero),
-            _ => Err(Wrong::Wanted("sha, number or zero")),
-        }
-    }
-
     /// The key of the record that the next word names: `Counter`, or the number of a record of the
     /// queue of that number.
     pub fn one_key(&mut self) -> Result<RecordKey, Wrong> {
@@ -162,16 +161,19 @@ impl<'a> Words<'a> {
         })
     }
 
+    /// The next word, which is one of a table's.
+    pub fn one_of<T: Copy>(
+        &mut self,
+        table: &[(&[u8], T)],
+        what: &'static str,
+    ) -> Result<T, Wrong> {
+        let word = self.next().ok_or(Wrong::Wanted(what))?;
+        named(table, word).ok_or(Wrong::Wanted(what))
+    }
+
     /// The next word, which is a kind of lock.
     pub fn lock_kind(&mut self) -> Result<LockKind, Wrong> {
-        let wrong = Wrong::Wanted("Read, Selective or Exclusive");
-        let word = self.next().ok_or(wrong)?;
-        for (name, kind) in &LOCK_KINDS {
-            if *name == word {
-                return Ok(*kind);
-            }
-        }
-        Err(wrong)
+        self.one_of(&LOCK_KINDS, "Read, Selective or Exclusive")
     }
 
     /// The next word, which is the name of a lock: `Counter`, `Directory`, or `Key(N)`, `Queue(N)`,

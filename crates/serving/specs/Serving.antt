@@ -1,8 +1,8 @@
 -- A server: what it does, one after another, and what it then holds for the relay. docs/PROTOCOL.md.
-use Rattle.std.specs.Prelude.{ℕ, ◌≡◌, ◌++◌, Bool, false, List, [], ◌∷◌}
+use Rattle.std.specs.Prelude.{ℕ, ◌≡◌, ◌++◌, Bool, List, [], ◌∷◌}
 use Rattle.safe_device.specs.Left.{Left}
 use Rattle.durable_desk.specs.Durable.{DurableState}
-use Rattle.durable_desk.specs.History.{Commit, Does, Event, HappenAlong, Happens, NoneFails, is_failure}
+use Rattle.durable_desk.specs.History.{Commit, Does, Event, HappenAlong, NoneFails}
 use Rattle.serving.specs.Told.{note_parts, record_to, told_by}
 use Rattle.serving.specs.declared.durability.Durability.{Durability}
 use Rattle.serving.specs.declared.note.Note.{Note}

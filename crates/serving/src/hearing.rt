@@ -1,11 +1,11 @@
 //! The records of the relay are heard.
 
-ghost use Rattle.std.specs.Prelude.{OnOk};
+ghost use Rattle.std.specs.Prelude.{◌≡◌, OnOk};
 ghost use Rattle.serving.specs.Serving.{GoesOn};
 
 use crate::client::{client_of, connection_of, is_own};
 use crate::durability::Durability;
-use crate::note::Note;
+use crate::note::{Note, refusal_code};
 use crate::server::Server;
 use crate::trouble::Unheard;
 use durable_desk::desk::session::Unanswered;
@@ -40,11 +40,11 @@ impl<P: PagePair> Server<P> {
             Ok(incoming) => self.attend(incoming, moment),
             Err(Unread::Broken) => Err(Unheard::Broken),
             Err(Unread::Wrong { connection, number }) => {
-                self.say(client_of(connection, number), &Note::code(WRONG))?;
+                self.say_code(client_of(connection, number), WRONG)?;
                 Ok(Heard::Going)
             }
             Err(Unread::NoMemory { connection, number }) => {
-                self.say(client_of(connection, number), &Note::code(NO_MEMORY))?;
+                self.say_code(client_of(connection, number), NO_MEMORY)?;
                 Ok(Heard::Going)
             }
         }
@@ -61,18 +61,23 @@ impl<P: PagePair> Server<P> {
             kind,
         } = incoming;
         match kind {
-            Kind::Request(_) if connection == 0 => return Err(Unheard::Broken),
-            Kind::Request(request) => self.serve(connection, caller, request, moment)?,
-            Kind::Gone => self.leave(connection, moment)?,
-            Kind::Tick => {
-                if self.durability == Durability::NowAndThen {
-                    self.save()?;
-                }
+            Kind::Request(request) => {
+                self.serve(connection, caller, request, moment)?;
+                Ok(Heard::Going)
             }
-            Kind::End => {
-                self.end(moment)?;
-                return Ok(Heard::Ending);
-            }
+            Kind::Gone => self.leave(connection, moment),
+            Kind::Tick => self.tick(),
+            Kind::End => self.end(moment),
+        }
+    }
+
+    /// A second has passed: where the file is written now and then, it is now.
+    fn tick(&mut self) -> Result<Heard, Unheard>
+        ensures { OnOk result (GoesOn P.is_honest P.moment P.left_since P.may_leave
+            self.old self.new) }
+    {
+        if self.durability == Durability::NowAndThen {
+            self.save()?;
         }
         Ok(Heard::Going)
     }
@@ -88,36 +93,84 @@ impl<P: PagePair> Server<P> {
         ensures { OnOk result (GoesOn P.is_honest P.moment P.left_since P.may_leave
             self.old self.new) }
     {
-        let client = client_of(connection, request.number);
-        match request.operation {
-            Operation::Call(call) => {
-                let _ = self.make(client, caller, call)?;
-                self.settle(moment)
-            }
+        let Request { number, operation } = request;
+        if connection == 0 {
+            return Err(Unheard::Broken);
+        }
+        let client = client_of(connection, number);
+        match operation {
+            Operation::Call(call) => self.serve_call(client, caller, call, moment),
+            other => self.serve_other(client, caller, &other, moment),
+        }
+    }
+
+    /// A client's call.
+    fn serve_call(
+        &mut self,
+        client: u64,
+        caller: Caller,
+        call: Call,
+        moment: u64,
+    ) -> Result<(), Unheard>
+        ensures { OnOk result (GoesOn P.is_honest P.moment P.left_since P.may_leave
+            self.old self.new) }
+    {
+        let _ = self.make(client, caller, call)?;
+        self.settle(moment)
+    }
+
+    /// What a client asks for that is no call.
+    fn serve_other(
+        &mut self,
+        client: u64,
+        caller: Caller,
+        operation: &Operation,
+        moment: u64,
+    ) -> Result<(), Unheard>
+        ensures { OnOk result (GoesOn P.is_honest P.moment P.left_since P.may_leave
+            self.old self.new) }
+    {
+        match operation {
             Operation::Next { after } => {
-                let note = found(self.queues.behind(after));
-                self.say(client, &note)
+                let id = self.queues.behind(*after);
+                self.say_queue(client, id)
             }
             Operation::Nth { place } => {
-                let note = found(self.queues.nth(place));
-                self.say(client, &note)
+                let id = self.queues.nth(*place);
+                self.say_queue(client, id)
             }
             // (so that who reads the file sees all of it)
             Operation::Save => {
                 self.checkpoint()?;
-                self.say(client, &Note::code(DONE))
+                self.say_code(client, DONE)
             }
-            Operation::Info => {
-                let note = Note::Counts(self.counts());
-                self.say(client, &note)
+            Operation::Info => self.say_counts(client),
+            Operation::Cancel { number } => {
+                self.cancel(client_of(connection_of(client), *number), moment)
             }
-            Operation::Cancel { number } => self.cancel(client_of(connection, number), moment),
-            Operation::Reserve { .. } | Operation::Acknowledge { .. } | Operation::Release { .. } =>
-                {
-                    self.serve_worker(client, caller, request.operation, moment)?;
-                    self.settle(moment)
-                }
+            _ => {
+                self.serve_worker(client, caller, operation, moment)?;
+                self.settle(moment)
+            }
         }
+    }
+
+    /// A client is told the id of a queue that was looked for.
+    fn say_queue(&mut self, client: u64, id: Option<u32>) -> Result<(), Unheard>
+        ensures { OnOk result (GoesOn P.is_honest P.moment P.left_since P.may_leave
+            self.old self.new) }
+    {
+        let note = found(id);
+        self.say(client, &note)
+    }
+
+    /// A client is told about the server.
+    fn say_counts(&mut self, client: u64) -> Result<(), Unheard>
+        ensures { OnOk result (GoesOn P.is_honest P.moment P.left_since P.may_leave
+            self.old self.new) }
+    {
+        let note = Note::Counts(self.counts());
+        self.say(client, &note)
     }
 
     /// A call is made, whose client is told what came of it; and it is noted which queues are alive.
@@ -135,16 +188,28 @@ impl<P: PagePair> Server<P> {
             _ => None,
         };
         let reply = self.ask(client, caller, call)?;
-        match (&reply, removed) {
-            (Ok(Answer::Id(id)), _) => {
-                let Ok(()) = self.queues.insert(*id) else {
-                    return Err(Unheard::NoMemory);
-                };
-            }
-            (Ok(Answer::Done), Some(id)) => self.queues.remove(id),
-            _ => {}
+        if self.note_alive(&reply, removed) {
+            Ok(reply)
+        } else {
+            Err(Unheard::NoMemory)
         }
-        Ok(reply)
+    }
+
+    /// Notes which queue is alive by what a call came to, or is no more where it was to be removed;
+    /// false where there is no memory.
+    fn note_alive(&mut self, reply: &Result<Answer, Unanswered>, removed: Option<u32>) -> bool
+        ensures { self.new ≡ self.old }
+    {
+        match reply {
+            Ok(Answer::Id(id)) => self.queues.insert(*id).is_ok(),
+            Ok(Answer::Done) => {
+                if let Some(id) = removed {
+                    self.queues.remove(id);
+                }
+                true
+            }
+            _ => true,
+        }
     }
 
     /// Those are told who waited and have an answer now; and messages go back to their queues for
@@ -166,14 +231,26 @@ impl<P: PagePair> Server<P> {
             self.old self.new) }
     {
         for _ in 0..=self.desk.waiting() {
-            let Some(told) = self.next()? else {
+            if !self.tell_next(moment)? {
                 break;
-            };
-            if is_own(told.client) {
-                self.go_on_with(told, moment)?;
             }
         }
         Ok(())
+    }
+
+    /// The first of these is told. Whether there was one.
+    fn tell_next(&mut self, moment: u64) -> Result<bool, Unheard>
+        ensures { OnOk result (GoesOn P.is_honest P.moment P.left_since P.may_leave
+            self.old self.new) }
+    {
+        let Some(told) = self.next()? else {
+            return Ok(false);
+        };
+        if !is_own(told.client) {
+            return Ok(true);
+        }
+        self.go_on_with(told, moment)?;
+        Ok(true)
     }
 
     /// A client waits no longer.
@@ -184,17 +261,17 @@ impl<P: PagePair> Server<P> {
         if let Some(holding) = self.holdings.awaited_by(client) {
             self.withdraw(holding.queue as u64);
             self.undo(holding.queue)?;
-            self.say(client, &Note::code(CANCELLED))?;
+            self.say_code(client, CANCELLED)?;
             return self.settle(moment);
         }
         if self.withdraw(client) {
-            self.say(client, &Note::code(CANCELLED))?;
+            self.say_code(client, CANCELLED)?;
         }
         Ok(())
     }
 
     /// A connection is gone: its calls wait no longer, and its messages in hand go back.
-    fn leave(&mut self, connection: u32, moment: u64) -> Result<(), Unheard>
+    fn leave(&mut self, connection: u32, moment: u64) -> Result<Heard, Unheard>
         ensures { OnOk result (GoesOn P.is_honest P.moment P.left_since P.may_leave
             self.old self.new) }
     {
@@ -202,12 +279,12 @@ impl<P: PagePair> Server<P> {
         if self.let_go(Some(connection))? {
             self.settle(moment)?;
         }
-        Ok(())
+        Ok(Heard::Going)
     }
 
     /// The server ends: who waits is told to ask the next one, messages in hand go back, and all is
     /// saved.
-    fn end(&mut self, moment: u64) -> Result<(), Unheard>
+    fn end(&mut self, moment: u64) -> Result<Heard, Unheard>
         ensures { OnOk result (GoesOn P.is_honest P.moment P.left_since P.may_leave
             self.old self.new) }
     {
@@ -216,7 +293,7 @@ impl<P: PagePair> Server<P> {
         self.let_go(None)?;
         self.settle(moment)?;
         self.checkpoint()?;
-        Ok(())
+        Ok(Heard::Ending)
     }
 
     /// What is told about the server.
@@ -237,7 +314,7 @@ impl<P: PagePair> Server<P> {
 fn found(id: Option<u32>) -> Note {
     match id {
         Some(value) => Note::Code { code: DONE, value },
-        None => Note::refused(Errno::EINVAL),
+        None => Note::code(refusal_code(Errno::EINVAL)),
     }
 }
 

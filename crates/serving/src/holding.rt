@@ -29,7 +29,7 @@ pub fn carrier(sender: u32) -> Caller {
 }
 
 /// How far a reservation is.
-#[derive(Clone, Copy, Debug, PartialEq, Eq)]
+#[derive(Clone, Copy, PartialEq, Eq)]
 pub enum Stage {
     /// It waits for a message.
     Waits,
@@ -40,7 +40,7 @@ pub enum Stage {
 }
 
 /// A message in hand, or one that is waited for.
-#[derive(Clone, Copy, Debug, PartialEq, Eq)]
+#[derive(Clone, Copy)]
 pub struct Holding {
     /// The holding queue; by its id the desk knows the receive.
     pub queue: u32,

@@ -3,6 +3,7 @@
 
 #![tactic(auto)]
 
+mod came;
 mod client;
 mod durability;
 mod hearing;

@@ -5,7 +5,7 @@ use durable_desk::desk::session::queue_model::{Errno, Message};
 use frames::{Counts, FAILED, NO_MEMORY, NO_ROOM};
 
 /// What a client is told that is not what the rules answer to its call.
-#[derive(Debug, Drop)]
+#[derive(Drop)]
 pub enum Note {
     /// How a request ended that is no call.
     Code {
@@ -30,20 +30,20 @@ impl Note {
     pub fn code(code: u32) -> Note {
         Note::Code { code, value: 0 }
     }
+}
 
-    /// That the rules refuse what it asks for.
-    pub fn refused(errno: Errno) -> Note {
-        Note::code(errno.number() as u32)
+/// The code of why a call is not answered.
+pub fn code_of(why: Unanswered) -> u32 {
+    match why {
+        // (what the server asks for itself does not wait)
+        Unanswered::Waits => refusal_code(Errno::EAGAIN),
+        Unanswered::NoRoom => NO_ROOM,
+        Unanswered::NoMemory => NO_MEMORY,
+        Unanswered::Failed => FAILED,
     }
+}
 
-    /// Why a call is not answered.
-    pub fn unanswered(why: Unanswered) -> Note {
-        match why {
-            // (what the server asks for itself does not wait)
-            Unanswered::Waits => Note::refused(Errno::EAGAIN),
-            Unanswered::NoRoom => Note::code(NO_ROOM),
-            Unanswered::NoMemory => Note::code(NO_MEMORY),
-            Unanswered::Failed => Note::code(FAILED),
-        }
-    }
+/// The code of a refusal by the rules.
+pub fn refusal_code(errno: Errno) -> u32 {
+    errno.number() as u32
 }

@@ -1,19 +1,19 @@
 //! A server is opened.
 
-ghost use Rattle.std.specs.Prelude.{IsTrue, OnOk};
+ghost use Rattle.std.specs.Prelude.{◌≡◌, IsTrue, OnOk};
 ghost use Rattle.durable_desk.specs.Durable.{IsReady};
 ghost use Rattle.serving.specs.Serving.{GoesOn};
 
 use crate::durability::Durability;
-use crate::holding::{HOLDING_MODE, Holding, Holdings, KEEPER, ORIGIN_TYPE, Stage, carrier};
+use crate::holding::{HOLDING_MODE, Holding, Holdings, KEEPER, ORIGIN_TYPE, Stage};
 use crate::live_queues::LiveQueues;
 use crate::outbox::Outbox;
 use crate::server::{ITSELF, Server};
 use crate::trouble::{Unheard, Unopened};
 use durable_desk::DurableDesk;
-use durable_desk::desk::session::queue_model::{Answer, Call, MAX_QUEUES, Message, QueueInfo};
+use durable_desk::desk::session::queue_model::{MAX_QUEUES, Message, QueueInfo};
 use durable_desk::safe_device::{PagePair, SafeDevice};
-use std::alloc::Global;
+use std::alloc::{AllocError, Global};
 
 /// So many bytes may be held back before memory is asked for.
 const HELD_BYTES: usize = 1_048_576;
@@ -40,13 +40,9 @@ impl<P: PagePair> Server<P> {
         P: Drop,
         requires { IsTrue P.is_honest → IsReady P.may_leave device }
     {
-        let outbox = Outbox::new(Vec::with_capacity(alloc, HELD_BYTES)?);
-        let queues = LiveQueues::new(alloc, MAX_QUEUES as usize)?;
-        let holdings = Holdings::new(Vec::with_capacity(alloc, MAX_QUEUES as usize)?);
+        let (outbox, queues, holdings) = nothing_yet(alloc)?;
         let mut seen = Vec::new(alloc);
         let desk = DurableDesk::open(alloc, device, most, room_of(durability), &mut seen)?;
-        seen.sort_unstable();
-        seen.dedup();
         let mut server = Server {
             alloc,
             desk,
@@ -59,9 +55,19 @@ impl<P: PagePair> Server<P> {
             now: moment,
             checkpointed: moment,
         };
-        server.find_queues(&seen, moment)?;
-        server.settle(moment)?;
+        seen.sort_unstable();
+        seen.dedup();
+        server.find_all(&seen, moment)?;
         Ok(server)
+    }
+
+    /// Finds what is alive among the queues of these ids, and lets messages go back.
+    fn find_all(&mut self, ids: &[u32], moment: u64) -> Result<(), Unheard>
+        ensures { OnOk result (GoesOn P.is_honest P.moment P.left_since P.may_leave
+            self.old self.new) }
+    {
+        self.find_queues(ids, moment)?;
+        self.settle(moment)
     }
 
     /// Finds the queues that are alive, among those of these ids.
@@ -80,16 +86,13 @@ impl<P: PagePair> Server<P> {
         ensures { OnOk result (GoesOn P.is_honest P.moment P.left_since P.may_leave
             self.old self.new) }
     {
-        match self.ask(ITSELF, carrier(0), Call::Stat { id })? {
-            Ok(Answer::Info(info)) => {
-                let Ok(()) = self.queues.insert(id) else {
-                    return Err(Unheard::NoMemory);
-                };
-                self.find_holding(&info, moment)
-            }
-            Ok(_) => Ok(()),
-            Err(_) => Err(Unheard::NoMemory),
-        }
+        let Some(info) = self.look_at(id)? else {
+            return Ok(());
+        };
+        let Ok(()) = self.queues.insert(id) else {
+            return Err(Unheard::NoMemory);
+        };
+        self.find_holding(&info, moment)
     }
 
     /// Notes that a message is to go back, where this is the holding queue of a server that ended.
@@ -103,21 +106,38 @@ impl<P: PagePair> Server<P> {
         let Some(message) = self.take_out(info.id, ORIGIN_TYPE, moment)? else {
             return Ok(());
         };
-        let Some(origin) = origin_in(&message) else {
-            return self.put_surely(info.id, &message, moment);
+        self.note_holding(info.id, &message)?;
+        self.put_surely(info.id, &message, moment)
+    }
+
+    /// The message of a holding queue is to go back where it is said to come from.
+    fn note_holding(&mut self, queue: u32, message: &Message) -> Result<(), Unheard>
+        ensures { self.new ≡ self.old }
+    {
+        let Some(origin) = origin_in(message) else {
+            return Ok(());
         };
         let holding = Holding {
-            queue: info.id,
+            queue,
             origin,
             client: ITSELF,
             caller: KEEPER,
             stage: Stage::GoesBack,
         };
-        if !self.holdings.push(holding) {
-            return Err(Unheard::NoMemory);
+        if self.holdings.push(holding) {
+            Ok(())
+        } else {
+            Err(Unheard::NoMemory)
         }
-        self.put_surely(info.id, &message, moment)
     }
+}
+
+/// No records, no queues and no messages in hand.
+fn nothing_yet(alloc: Global) -> Result<(Outbox, LiveQueues, Holdings), AllocError> {
+    let outbox = Outbox::new(Vec::with_capacity(alloc, HELD_BYTES)?);
+    let queues = LiveQueues::new(alloc, MAX_QUEUES as usize)?;
+    let holdings = Holdings::new(Vec::with_capacity(alloc, MAX_QUEUES as usize)?);
+    Ok((outbox, queues, holdings))
 }
 
 /// So many bytes of calls may be noted at once: none where each save brings the pages.

@@ -4,9 +4,10 @@
 ghost use Rattle.std.specs.Prelude.{OnOk};
 ghost use Rattle.serving.specs.Serving.{GoesOn};
 
+use crate::came::{Came, came_of};
 use crate::client::number_of;
 use crate::holding::{HOLDING_MODE, Holding, KEEPER, ORIGIN_TYPE, Stage, carrier};
-use crate::note::Note;
+use crate::note::{Note, refusal_code};
 use crate::server::{ITSELF, Server};
 use crate::trouble::Unheard;
 use durable_desk::desk::Told;
@@ -16,10 +17,10 @@ use durable_desk::desk::session::queue_model::{
     SUPERUSER, SendArguments,
 };
 use durable_desk::safe_device::PagePair;
-use frames::{DONE, ENDS, Operation};
+use frames::{DONE, Operation};
 
 /// What a client asks to have reserved.
-#[derive(Clone, Copy, Debug)]
+#[derive(Clone, Copy)]
 struct Wanted {
     client: u64,
     caller: Caller,
@@ -35,7 +36,7 @@ impl<P: PagePair> Server<P> {
         &mut self,
         client: u64,
         caller: Caller,
-        operation: Operation,
+        operation: &Operation,
         moment: u64,
     ) -> Result<(), Unheard>
         ensures { OnOk result (GoesOn P.is_honest P.moment P.left_since P.may_leave
@@ -46,14 +47,14 @@ impl<P: PagePair> Server<P> {
                 self.reserve(Wanted {
                     client,
                     caller,
-                    origin: id,
-                    mtype,
-                    nowait,
+                    origin: *id,
+                    mtype: *mtype,
+                    nowait: *nowait,
                     moment,
                 })
             }
-            Operation::Acknowledge { id } => self.acknowledge(client, caller, id),
-            Operation::Release { id } => self.give_up_hold(client, caller, id),
+            Operation::Acknowledge { id } => self.acknowledge(client, caller, *id),
+            Operation::Release { id } => self.give_up_hold(client, caller, *id),
             _ => Ok(()),
         }
     }
@@ -71,10 +72,26 @@ impl<P: PagePair> Server<P> {
             mode: HOLDING_MODE,
             moment: wanted.moment,
         });
-        let queue = match self.make(ITSELF, wanted.caller, get)? {
-            Ok(Answer::Id(queue)) => queue,
-            reply => return self.say(wanted.client, &why(reply)),
-        };
+        match self.make_for_itself(wanted.caller, get)? {
+            Came::Id(queue) => self.reserve_in(queue, wanted),
+            came => self.say_code(wanted.client, came.code()),
+        }
+    }
+
+    /// The server makes a call for itself; what came of it in short.
+    pub(crate) fn make_for_itself(&mut self, caller: Caller, call: Call) -> Result<Came, Unheard>
+        ensures { OnOk result (GoesOn P.is_honest P.moment P.left_since P.may_leave
+            self.old self.new) }
+    {
+        let reply = self.make(ITSELF, caller, call)?;
+        Ok(came_of(&reply))
+    }
+
+    /// A message is reserved in a holding queue that was made for it.
+    fn reserve_in(&mut self, queue: u32, wanted: Wanted) -> Result<(), Unheard>
+        ensures { OnOk result (GoesOn P.is_honest P.moment P.left_since P.may_leave
+            self.old self.new) }
+    {
         let holding = Holding {
             queue,
             origin: wanted.origin,
@@ -86,20 +103,22 @@ impl<P: PagePair> Server<P> {
             return Err(Unheard::NoMemory);
         }
         match self.note_origin(holding, wanted.moment)? {
-            Ok(Answer::Sent(_)) => self.take(wanted, queue),
-            reply => {
-                self.undo(queue)?;
-                self.say(wanted.client, &why(reply))
-            }
+            Came::Sent => self.take(wanted, queue),
+            came => self.end_for(holding, came),
         }
     }
 
+    /// A reservation is over, and its client is told why.
+    fn end_for(&mut self, holding: Holding, came: Came) -> Result<(), Unheard>
+        ensures { OnOk result (GoesOn P.is_honest P.moment P.left_since P.may_leave
+            self.old self.new) }
+    {
+        self.undo(holding.queue)?;
+        self.say_code(holding.client, came.code())
+    }
+
     /// A holding queue is told where its message comes from.
-    pub(crate) fn note_origin(
-        &mut self,
-        holding: Holding,
-        moment: u64,
-    ) -> Result<Result<Answer, Unanswered>, Unheard>
+    pub(crate) fn note_origin(&mut self, holding: Holding, moment: u64) -> Result<Came, Unheard>
         ensures { OnOk result (GoesOn P.is_honest P.moment P.left_since P.may_leave
             self.old self.new) }
     {
@@ -113,7 +132,7 @@ impl<P: PagePair> Server<P> {
             nowait: true,
             moment,
         });
-        self.ask(ITSELF, KEEPER, send)
+        self.make_for_itself(KEEPER, send)
     }
 
     /// The message is taken, or waited for.
@@ -130,9 +149,6 @@ impl<P: PagePair> Server<P> {
             moment: wanted.moment,
         });
         let reply = self.ask(queue as u64, wanted.caller, receive)?;
-        if reply == Err(Unanswered::Waits) {
-            return Ok(());
-        }
         self.keep(queue, reply, wanted.moment)
     }
 
@@ -145,7 +161,7 @@ impl<P: PagePair> Server<P> {
     }
 
     /// What the receive of a reservation came to: its message is put into the holding queue, and its
-    /// client is told.
+    /// client is told; or it waits.
     fn keep(
         &mut self,
         queue: u32,
@@ -155,27 +171,51 @@ impl<P: PagePair> Server<P> {
         ensures { OnOk result (GoesOn P.is_honest P.moment P.left_since P.may_leave
             self.old self.new) }
     {
+        match reply {
+            Ok(Answer::Received(message)) => self.hold(queue, message, moment),
+            Err(Unanswered::Waits) => Ok(()),
+            reply => self.end_in(queue, came_of(&reply)),
+        }
+    }
+
+    /// A reservation is over, where there is one.
+    fn end_in(&mut self, queue: u32, came: Came) -> Result<(), Unheard>
+        ensures { OnOk result (GoesOn P.is_honest P.moment P.left_since P.may_leave
+            self.old self.new) }
+    {
+        match self.holdings.of(queue) {
+            Some(holding) => self.end_for(holding, came),
+            None => Ok(()),
+        }
+    }
+
+    /// A message is put into the holding queue, or back on its own where there is no room for it.
+    fn hold(&mut self, queue: u32, message: Message, moment: u64) -> Result<(), Unheard>
+        ensures { OnOk result (GoesOn P.is_honest P.moment P.left_since P.may_leave
+            self.old self.new) }
+    {
         let Some(holding) = self.holdings.of(queue) else {
             return Ok(());
         };
-        let message = match reply {
-            Ok(Answer::Received(message)) => message,
-            reply => {
-                self.undo(queue)?;
-                return self.say(holding.client, &why(reply));
-            }
-        };
-        match self.put(queue, &message, moment)? {
-            Ok(Answer::Sent(_)) => {
-                self.holdings.set(queue, Stage::Held);
-                self.say(holding.client, &Note::Held { queue, message })
-            }
-            reply => {
-                self.put_surely(holding.origin, &message, moment)?;
-                self.undo(queue)?;
-                self.say(holding.client, &why(reply))
-            }
+        if !self.is_put(holding, &message, moment)? {
+            return Ok(());
         }
+        self.holdings.set(queue, Stage::Held);
+        self.say(holding.client, &Note::Held { queue, message })
+    }
+
+    /// Whether a message was put into the holding queue; else the reservation is over.
+    fn is_put(&mut self, holding: Holding, message: &Message, moment: u64) -> Result<bool, Unheard>
+        ensures { OnOk result (GoesOn P.is_honest P.moment P.left_since P.may_leave
+            self.old self.new) }
+    {
+        let came = self.put(holding.queue, message, moment)?;
+        if let Came::Sent = came {
+            return Ok(true);
+        }
+        self.put_surely(holding.origin, message, moment)?;
+        self.end_for(holding, came)?;
+        Ok(false)
     }
 
     /// A message is put last on a queue, with its sender.
@@ -184,7 +224,7 @@ impl<P: PagePair> Server<P> {
         queue: u32,
         message: &Message,
         moment: u64,
-    ) -> Result<Result<Answer, Unanswered>, Unheard>
+    ) -> Result<Came, Unheard>
         ensures { OnOk result (GoesOn P.is_honest P.moment P.left_since P.may_leave
             self.old self.new) }
     {
@@ -196,7 +236,7 @@ impl<P: PagePair> Server<P> {
             nowait: true,
             moment,
         });
-        self.ask(ITSELF, carrier(message.sender), send)
+        self.make_for_itself(carrier(message.sender), send)
     }
 
     /// The same of one that has to be somewhere.
@@ -210,7 +250,7 @@ impl<P: PagePair> Server<P> {
             self.old self.new) }
     {
         match self.put(queue, message, moment)? {
-            Ok(Answer::Sent(_)) => Ok(()),
+            Came::Sent => Ok(()),
             _ => Err(Unheard::Homeless),
         }
     }
@@ -221,14 +261,14 @@ impl<P: PagePair> Server<P> {
             self.old self.new) }
     {
         if !self.is_held(queue) {
-            return self.say(client, &Note::refused(Errno::EINVAL));
+            return self.say_code(client, refusal_code(Errno::EINVAL));
         }
-        match self.make(ITSELF, caller, Call::Remove { id: queue })? {
-            Ok(Answer::Done) => {
+        match self.make_for_itself(caller, Call::Remove { id: queue })? {
+            Came::Done => {
                 self.holdings.remove(queue);
-                self.say(client, &Note::code(DONE))
+                self.say_code(client, DONE)
             }
-            reply => self.say(client, &why(reply)),
+            came => self.say_code(client, came.code()),
         }
     }
 
@@ -238,31 +278,20 @@ impl<P: PagePair> Server<P> {
             self.old self.new) }
     {
         let Some(holding) = self.holdings.of(queue) else {
-            return self.say(client, &Note::refused(Errno::EINVAL));
+            return self.say_code(client, refusal_code(Errno::EINVAL));
         };
         if holding.stage != Stage::Held {
-            return self.say(client, &Note::refused(Errno::EINVAL));
+            return self.say_code(client, refusal_code(Errno::EINVAL));
         }
         if caller.uid != holding.caller.uid && caller.uid != SUPERUSER {
-            return self.say(client, &Note::refused(Errno::EPERM));
+            return self.say_code(client, refusal_code(Errno::EPERM));
         }
         self.holdings.set(queue, Stage::GoesBack);
-        self.say(client, &Note::code(DONE))
+        self.say_code(client, DONE)
     }
 
     /// Whether a message is in hand in this queue.
     fn is_held(&self, queue: u32) -> bool {
         matches!(self.holdings.of(queue), Some(holding) if holding.stage == Stage::Held)
-    }
-}
-
-/// What a client is told of a call that was made for it.
-fn why(reply: Result<Answer, Unanswered>) -> Note {
-    match reply {
-        // (the server has ended)
-        Ok(Answer::Refused(Errno::EINTR)) => Note::code(ENDS),
-        Ok(Answer::Refused(errno)) => Note::refused(errno),
-        Ok(_) => Note::code(DONE),
-        Err(unanswered) => Note::unanswered(unanswered),
     }
 }

@@ -3,6 +3,7 @@
 ghost use Rattle.std.specs.Prelude.{OnOk};
 ghost use Rattle.serving.specs.Serving.{GoesOn};
 
+use crate::came::Came;
 use crate::client::connection_of;
 use crate::holding::{Holding, ORIGIN_BYTES, ORIGIN_TYPE, Stage, carrier};
 use crate::server::{ITSELF, Server};
@@ -73,15 +74,15 @@ impl<P: PagePair> Server<P> {
             self.holdings.remove(holding.queue);
             return Ok(true);
         };
-        let origin = self.look_at(holding.origin)?;
-        let Some(origin) = origin.filter(|_| held.qnum > 1) else {
+        let Some(origin) = self.look_at(holding.origin)? else {
             self.undo(holding.queue)?;
             return Ok(true);
         };
-        let bytes = held.cbytes.saturating_sub(ORIGIN_BYTES);
-        if origin.cbytes.saturating_add(bytes) > origin.qbytes
-            || origin.qnum as usize >= MAX_MESSAGES as usize
-        {
+        if held.qnum <= 1 {
+            self.undo(holding.queue)?;
+            return Ok(true);
+        }
+        if !has_room(&origin, &held) {
             return Ok(false);
         }
         if !self.carry_back(holding, moment)? {
@@ -101,12 +102,25 @@ impl<P: PagePair> Server<P> {
         let Some(message) = self.take_out(holding.queue, 0, moment)? else {
             return Ok(true);
         };
-        if let Ok(Answer::Sent(_)) = self.put(holding.origin, &message, moment)? {
+        self.is_put_back(holding, &message, moment)
+    }
+
+    /// Whether a message was put back on its own queue; else it is in the holding queue again.
+    fn is_put_back(
+        &mut self,
+        holding: Holding,
+        message: &Message,
+        moment: u64,
+    ) -> Result<bool, Unheard>
+        ensures { OnOk result (GoesOn P.is_honest P.moment P.left_since P.may_leave
+            self.old self.new) }
+    {
+        if let Came::Sent = self.put(holding.origin, message, moment)? {
             return Ok(true);
         }
-        self.put_surely(holding.queue, &message, moment)?;
+        self.put_surely(holding.queue, message, moment)?;
         match self.note_origin(holding, moment)? {
-            Ok(Answer::Sent(_)) => Ok(false),
+            Came::Sent => Ok(false),
             _ => Err(Unheard::Homeless),
         }
     }
@@ -137,7 +151,7 @@ impl<P: PagePair> Server<P> {
     }
 
     /// What Stat tells of a queue, where it is alive.
-    fn look_at(&mut self, queue: u32) -> Result<Option<QueueInfo>, Unheard>
+    pub(crate) fn look_at(&mut self, queue: u32) -> Result<Option<QueueInfo>, Unheard>
         ensures { OnOk result (GoesOn P.is_honest P.moment P.left_since P.may_leave
             self.old self.new) }
     {
@@ -154,7 +168,14 @@ impl<P: PagePair> Server<P> {
             self.old self.new) }
     {
         self.holdings.remove(queue);
-        let _ = self.make(ITSELF, carrier(0), Call::Remove { id: queue })?;
+        self.make_for_itself(carrier(0), Call::Remove { id: queue })?;
         Ok(())
     }
+}
+
+/// Whether a queue has room for the message of a holding queue.
+fn has_room(origin: &QueueInfo, held: &QueueInfo) -> bool {
+    let bytes = held.cbytes.saturating_sub(ORIGIN_BYTES);
+    let is_short = origin.cbytes.saturating_add(bytes) <= origin.qbytes;
+    is_short && (origin.qnum as usize) < MAX_MESSAGES as usize
 }

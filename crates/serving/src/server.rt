@@ -118,15 +118,24 @@ impl<P: PagePair> Server<P> {
         self.tell_failure(client)?;
         self.desk.stop();
         for _ in 0..=self.desk.waiting() {
-            let Some(told) = self.desk.next() else {
+            if !self.tell_next_failure()? {
                 break;
-            };
-            self.tell_failure(told.client)?;
+            }
         }
         output.write_all(self.outbox.as_slice())?;
         output.flush()?;
         self.outbox.clear();
         Ok(())
+    }
+
+    /// The first of those who wait is told that the file has failed. Whether there was one.
+    fn tell_next_failure(&mut self) -> Result<bool, Unreleased> {
+        let client = match self.desk.next() {
+            Some(told) => told.client,
+            None => return Ok(false),
+        };
+        self.tell_failure(client)?;
+        Ok(true)
     }
 
     /// A client is told that the file has failed.
@@ -201,6 +210,15 @@ impl<P: PagePair> Server<P> {
         Ok(())
     }
 
+    /// A client is told a code.
+    pub(crate) fn say_code(&mut self, client: u64, code: u32) -> Result<(), Unheard>
+        ensures { OnOk result (GoesOn P.is_honest P.moment P.left_since P.may_leave
+            self.old self.new) }
+    {
+        let note = Note::code(code);
+        self.say(client, &note)
+    }
+
     /// A client is told what came of its call, where it is not the server itself.
     fn tell(&mut self, client: u64, reply: &Result<Answer, Unanswered>) -> Result<(), Unheard>
         ensures told { OnOk result (self.new.held ≡ self.old.held ++ told_to client reply.now) }
@@ -208,7 +226,7 @@ impl<P: PagePair> Server<P> {
         ensures desk { self.new.desk ≡ self.old.desk }
         ensures same { self.new.durability ≡ self.old.durability }
     {
-        if *reply == Err(Unanswered::Failed) {
+        if let Err(Unanswered::Failed) = reply {
             return Err(Unheard::Failed { client });
         }
         if is_own(client) {

@@ -8,7 +8,7 @@ use std::io;
 use thiserror::Error;
 
 /// Why a record is not heard to its end. The server is to end.
-#[derive(Clone, Copy, Debug, PartialEq, Eq, Error)]
+#[derive(Clone, Copy, Debug, Error)]
 pub enum Unheard {
     /// The relay broke the rules of its records.
     #[error("the relay sent what is no record")]
@@ -79,7 +79,7 @@ impl From<io::Error> for Unreleased {
 }
 
 /// Why a server is not opened.
-#[derive(Clone, Copy, Debug, PartialEq, Eq, Error)]
+#[derive(Clone, Copy, Debug, Error)]
 pub enum Unopened {
     /// There is no memory.
     #[error("out of memory")]

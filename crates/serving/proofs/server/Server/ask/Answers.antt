@@ -1,4 +1,3 @@
-use Rattle.std.proofs.Common.{refl}
 use Rattle.desk.specs.History.{Asked}
 use Rattle.durable_desk.specs.History.{Does}
 use Rattle.desk.specs.declared.asking.Asking.{Asking}
