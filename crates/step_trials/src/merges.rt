@@ -2,8 +2,8 @@
 
 use crate::files::{delete, empty_file, insert, key};
 use crate::soundness::{covers_once, is_in_place, pictured};
-use crate::trial::Trial;
 use bucket_page::NumberKey;
+use machine_trials::Trial;
 use page_device::{DeviceFault, FaultyDevice, MemDevice, PAGE_BYTES, PageDevice};
 use record_file::Tried::IsPut;
 use std::alloc::Global;

@@ -1,8 +1,8 @@
 //! A plain checker of the file.
 
 use crate::bytes::{Entry, Leaf, add_entries, leaf_of, number_at};
-use crate::trial::Trial;
 use bucket_page::PseudoKey;
+use machine_trials::Trial;
 use page_device::PageDevice;
 use std::alloc::Global;
 

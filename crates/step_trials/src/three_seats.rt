@@ -2,10 +2,9 @@
 
 use crate::files::{empty_file, key};
 use crate::soundness::{Picture, covers_once, is_in_place, pictured};
-use crate::task::Value;
-use crate::trial::Trial;
 use bucket_page::NumberKey;
 use file_walk::check_structure;
+use machine_trials::{Trial, Value};
 use page_device::MemDevice;
 use record_file::Tried;
 use record_file::Tried::{IsPut, IsThere};

@@ -3,10 +3,9 @@
 
 use crate::files::{COUNTER, LONG, MOST_STEPS, count, key, makes, new_file};
 use crate::merges::two_halves;
-use crate::task::Value;
-use crate::trial::Trial;
 use bucket_page::{NumberKey, RecordKey};
 use file_pages::FileFault;
+use machine_trials::{Trial, Value};
 use page_device::MemDevice;
 use queue_records::{Counter, Link, Links, Record, TypeEntry, TypeLinks};
 use std::alloc::Global;

@@ -1,9 +1,8 @@
 //! Files of 288 pages, and operations on their records.
 
 use crate::soundness::PAGES;
-use crate::task::Value;
-use crate::trial::Trial;
 use bucket_page::{PseudoKey, RecordKey};
+use machine_trials::{Trial, Value};
 use page_device::{MemDevice, PageDevice};
 use record_file::{Tried, format};
 use std::alloc::Global;
