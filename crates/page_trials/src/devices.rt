@@ -1,66 +1,12 @@
-//! Digests of another program, pages that are tested together, devices of which each transfer fails
-//! in turn, and files of the system.
+//! Devices of which each transfer fails in turn, and files of the system.
 
-use digests::{LANES, are_sealed};
 use page_device::{
-    DIGEST_BYTES, DeviceFault, FaultyDevice, FileDevice, MemDevice, PAGE_BYTES, PAYLOAD_BYTES,
-    PageDevice, SystemFile, seal, unseal,
+    DeviceFault, FaultyDevice, FileDevice, MemDevice, PAGE_BYTES, PageDevice, SystemFile,
 };
 use std::fs;
 use std::fs::{OpenFile, OpenOptions};
 use std::rt::Files;
 use std::test::Fail;
-
-/// A page's number, the byte that fills its payload, and the digest that Python's hashlib gives for
-/// the number, big-endian, and the payload.
-const SEALED: [(u32, u8, &[u8; DIGEST_BYTES]); 3] = [
-    (
-        0,
-        0,
-        b"\x82\x15\x79\x90\xb9\x77\x9e\x85\x00\x9d\xed\xc4\x80\x82\x64\x01\xc9\x2b\x75\x04\x0a\x75\xc6\xa7\xb3\xb0\xd9\xc4\x18\xcf\x70\x0b",
-    ),
-    (
-        1,
-        165,
-        b"\x2b\x12\x77\x42\xda\xe7\x4a\xd7\xb4\x08\x89\x3e\xb0\x4c\xa3\xf8\x5e\x77\xac\x0b\x59\x16\x79\x92\xbd\x38\xd6\xdc\x57\x40\x42\x5e",
-    ),
-    (
-        65535,
-        255,
-        b"\xce\xa0\xcb\x95\x0f\x6d\xfa\x02\x8d\xa9\xb9\x49\x29\xd1\xb4\x1b\x38\xe3\x71\xb9\x48\x69\x08\x38\xa4\xcd\x77\xae\x6c\x44\xc5\xcd",
-    ),
-];
-
-#[test]
-fn sealed_pages_have_the_digests_of_another_program(rt: HostRuntime) {
-    for (number, byte, digest) in SEALED {
-        let payload = [byte; PAYLOAD_BYTES];
-        let mut page = seal(number, &payload);
-        assert!(rt; page[PAYLOAD_BYTES..] == digest[..], "page {number}");
-        assert!(rt; unseal(number, &page) == Ok(payload), "page {number}");
-        let elsewhere = unseal(number ^ 1, &page);
-        assert!(rt; elsewhere == Err(DeviceFault::BadDigest), "page {number}");
-        page[100] ^= 1;
-        let changed = unseal(number, &page);
-        assert!(rt; changed == Err(DeviceFault::BadDigest), "page {number}");
-    }
-}
-
-#[test]
-fn one_wrong_page_of_sixteen_is_seen(rt: HostRuntime) {
-    let mut pages = [[0; PAGE_BYTES]; LANES];
-    for i in 0..LANES {
-        pages[i] = seal(40 + i as u32, &[i as u8; PAYLOAD_BYTES]);
-    }
-    assert!(rt; are_sealed(40, &pages));
-    assert!(rt; !are_sealed(41, &pages));
-    for i in 0..LANES {
-        pages[i][270 * i] ^= 1;
-        let is_seen = !are_sealed(40, &pages);
-        assert!(rt; is_seen, "page {i}");
-        pages[i][270 * i] ^= 1;
-    }
-}
 
 #[test]
 fn faults_have_their_numbers(rt: HostRuntime) {

@@ -1,15 +1,11 @@
-//! Trials from outside of what stands below the machines: the model, devices and their journals, pages
-//! typed from the format, pools, and what calls ask of the records. They stand here, so that
-//! those crates are not proved once more for them.
+//! Trials from outside of what stands below the machines: devices and their journals, ranges and
+//! pseudokeys, pools, and what calls ask of the records. They stand here, so that those crates are not
+//! proved once more for them. What text can say of pages stands in tests/rows.
 
 #![tactic(auto)]
 
 #[cfg(test)]
 mod asked;
-#[cfg(test)]
-mod bucket;
-#[cfg(test)]
-mod buckets;
 #[cfg(test)]
 mod copies;
 #[cfg(test)]
@@ -32,10 +28,6 @@ mod no_system;
 mod noted_calls;
 #[cfg(test)]
 mod pairs;
-#[cfg(test)]
-mod plain_rows;
-#[cfg(test)]
-mod plain_system;
 #[cfg(test)]
 mod pools;
 #[cfg(test)]
