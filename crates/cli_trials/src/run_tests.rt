@@ -1,14 +1,13 @@
-//! Scripts run on files in memory: transfers that fail, several buckets, and the limits of a file.
+//! Scripts run on files in memory of whose transfers one fails.
 
 use crate::trial::{buffered, printed, unbuffered};
 use directory::LEAST_PAGES;
 use file_walk::StructureFault;
 use msgq_cli::file_check::CheckFault;
 use msgq_cli::{Ending, Failure, Stage, new_on, read_script};
-use page_device::{FaultyDevice, MemDevice, PAGE_BYTES, PageDevice};
+use page_device::{FaultyDevice, MemDevice, PageDevice};
 use replays::run_on;
 use std::alloc::Global;
-use std::ops::RangeInclusive;
 use std::process::Abort;
 use std::test::Fail;
 
@@ -103,66 +102,5 @@ fn a_transfer_that_fails_in_a_line_leaves_the_file(rt: HostRuntime) -> Result<()
     let device = FaultyDevice::new(device_of(alloc, 260), 266);
     let device = prints(&rt, device, text.as_str(), wanted, unclosed(62))?;
     prints(&rt, device, "1 get 7\n", "1 refused ENOENT\n", Ending::Done)?;
-    Ok(())
-}
-
-/// The first page tells the directory's depth in its third byte.
-#[test]
-fn what_stands_in_several_buckets_is_read_again(rt: HostRuntime) -> Result<(), Fail> {
-    let alloc = rt.alloc();
-    let text = long_script(alloc, "1 snd 1 6 62")?;
-    let wanted = "1 id 1\n2 sent 1\n3 sent 2\n4 sent 3\n5 sent 4\n6 sent 5\n";
-    let mut device = prints(
-        &rt,
-        device_of(alloc, 288),
-        text.as_str(),
-        wanted,
-        Ending::Done,
-    )?;
-    let mut page = [0; PAGE_BYTES];
-    device.read(0, &mut page)?;
-    assert!(rt; page[2] > 0);
-    let long = "61".repeat(alloc, 1024)?;
-    let wanted = format!(in alloc;
-        "1 received 5 1 6 62\n2 received 1 1 5 {long}\n3 received 2 1 5 {long}\n\
-        4 received 3 1 5 {long}\n5 received 4 1 5 {long}\n6 done\n"
-    )?;
-    let receive = "1 rcv 1 1024 0\n".repeat(alloc, 4)?;
-    let text = format!(in alloc; "1 rcv 1 1024 6\n{receive}1 rm 1\n")?;
-    prints(&rt, device, text.as_str(), wanted.as_str(), Ending::Done)?;
-    Ok(())
-}
-
-/// One queue more than 256 is refused, until another is removed; and one message more than 1,024
-/// on a queue from which one was received before.
-#[test]
-fn there_are_256_queues_and_1024_messages_at_most(rt: HostRuntime) -> Result<(), Fail> {
-    let alloc = rt.alloc();
-    let gets = "1 get private\n".repeat(alloc, 257)?;
-    let sends = "1 snd 1 1 - nowait\n".repeat(alloc, 1025)?;
-    let text = format!(in alloc; "{gets}1 snd 1 1 -\n1 rcv 1 0 0\n{sends}1 rm 1\n1 get private\n")?;
-    let mut wanted = String::new(alloc);
-    push_answers(alloc, &mut wanted, 0, 1..=256, "id")?;
-    wanted.push_str("257 refused ENOSPC\n258 sent 1\n259 received 1 1 1 -\n")?;
-    push_answers(alloc, &mut wanted, 258, 2..=1025, "sent")?;
-    wanted.push_str("1284 refused EAGAIN\n1285 done\n1286 id 257\n")?;
-    let device = device_of(alloc, 352);
-    prints(&rt, device, text.as_str(), wanted.as_str(), Ending::Done)?;
-    Ok(())
-}
-
-/// The answers of the lines that have these numbers, so many lines before them.
-fn push_answers(
-    alloc: Global,
-    text: &mut String,
-    before: u32,
-    numbers: RangeInclusive<u32>,
-    word: &str,
-) -> Result<(), Fail> {
-    for number in numbers {
-        let line = before.wrapping_add(number);
-        let answer = format!(in alloc; "{line} {word} {number}\n")?;
-        text.push_str(answer.as_str())?;
-    }
     Ok(())
 }

@@ -1,11 +1,10 @@
-//! Readers and writers that fail, and what is said of wrong scripts.
+//! Readers and writers that fail, and what is said of the faults of lines.
 
 use crate::trial::{Refusing, buffered, printed, unbuffered};
 use msgq_cli::{Ending, Failure, Fullness, Reply, Stage, complain_of_lines, print_made};
-use replays::{serve, serve_text};
+use replays::serve;
 use std::io;
 use std::io::{ErrorKind, Read};
-use std::process::Abort;
 use std::test::Fail;
 
 /// A reader that gives a script's first line and then fails.
@@ -63,64 +62,6 @@ fn a_writer_that_refuses_makes_the_status_1(rt: HostRuntime) -> Result<(), Fail>
     print_made(258, &mut output);
     output.flush();
     assert!(rt; output.into_writer().into_taken().as_slice() == b"1 id 1\n2 ".as_slice());
-    Ok(())
-}
-
-/// A wrong line, the word of it that is named, and the beginning of what could stand there, with
-/// a bar between them.
-const MISTAKES: &str = "stop|stop|SEAT, a number from 1 to 64, or ids
-65 stop|65|SEAT, a number
-1|the end of the line|a command: get
-1 go|go|a command: get, snd, rcv, stat, set, rm or stop
- \t|a line of blanks|a seat and its command
-# \u{e9}|a byte from 128 on|ASCII text
-1 stop\r|a CR at the end of the script|LF
-1 get x|x|KEY, a number from 0 to 4294967295, or private
-1 get 7 nowait|nowait|create, excl, mode=OOO
-1 get 7 excl excl|excl|create, excl, mode=OOO
-1 snd 1 0x1 61|0x1|TYPE, a number from -9223372036854775808
-1 snd 1 1 6g|6g|HEX, an even number
-1 rcv 1 10|the end of the line|TYPE, a number
-1 stat 1 1|1|nothing more
-1 set 1 5 mode=8|mode=8|uid=N, gid=N, mode=OOO
-ids 1 2|the end of the line|GID, a number
-1 \u{1b}[2J|?[2J|a command: get";
-
-#[test]
-fn the_wrong_word_of_a_line_is_named(rt: HostRuntime) -> Result<(), Fail> {
-    for row in MISTAKES.split('\n') {
-        let mut parts = row.split('|');
-        let (Some(line), Some(found), Some(could)) = (parts.next(), parts.next(), parts.next())
-        else {
-            panic!(rt; "{row}");
-        };
-        is_named(&rt, line, found, could)?;
-    }
-    Ok(())
-}
-
-/// Of the second line of a script this is said to be wrong, and nothing is printed.
-fn is_named<R: Abort + AllocGlobal>(
-    rt: &R,
-    line: &str,
-    found: &str,
-    could: &str,
-) -> Result<(), Fail> {
-    let alloc = rt.alloc();
-    let text = format!(in alloc; "1 stop\n{line}")?;
-    let mut output = buffered(alloc)?;
-    let mut errors = Vec::new(alloc);
-    let ending = serve_text(alloc, text.as_bytes(), &mut output, &mut errors);
-    assert!(rt;
-        ending == Ending::WrongLine(2) && ending.status(false) == 2,
-        "{line}"
-    );
-    assert!(rt; printed(output).is_empty(), "{line}");
-    let said = String::from_utf8(errors)?;
-    let wanted = format!(in alloc;
-        "script line 2\n  not understood: {found}\n  could stand there: {could}"
-    )?;
-    assert!(rt; said.starts_with(wanted.as_str()), "{line}: {said}");
     Ok(())
 }
 

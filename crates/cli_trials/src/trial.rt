@@ -1,9 +1,9 @@
-//! What tests print to, and say errors on.
+//! What tests print to.
 
 use msgq_cli::Output;
 use std::alloc::Global;
 use std::io;
-use std::io::{BufWriter, ErrorKind, IsTerminal, Write};
+use std::io::{BufWriter, ErrorKind, Write};
 
 /// An output that hands on what is printed once it is flushed.
 pub fn buffered(alloc: Global) -> io::Result<Output<Vec<u8>>> {
@@ -23,43 +23,6 @@ pub fn printed(output: Output<Vec<u8>>) -> Vec<u8> {
     let mut output = output;
     output.flush();
     output.into_writer()
-}
-
-/// Where errors are said, which is a terminal or not.
-#[derive(Drop)]
-pub struct Screen {
-    said: Vec<u8>,
-    is_terminal: bool,
-}
-
-impl Screen {
-    pub fn new(alloc: Global, is_terminal: bool) -> Screen {
-        Screen {
-            said: Vec::new(alloc),
-            is_terminal,
-        }
-    }
-
-    pub fn into_said(self) -> Vec<u8> {
-        self.said
-    }
-}
-
-impl Write for Screen {
-    fn write(&mut self, buf: &[u8]) -> io::Result<usize> {
-        self.said.extend_from_slice(buf)?;
-        Ok(buf.len())
-    }
-
-    fn flush(&mut self) -> io::Result<()> {
-        Ok(())
-    }
-}
-
-impl IsTerminal for Screen {
-    fn is_terminal(&self) -> bool {
-        self.is_terminal
-    }
 }
 
 /// A writer that takes so many bytes and no more. Its first call is interrupted.
