@@ -24,8 +24,6 @@ mod gated;
 #[cfg(test)]
 mod interleaved;
 #[cfg(test)]
-mod order;
-#[cfg(test)]
 mod plain;
 #[cfg(test)]
 mod playing;
