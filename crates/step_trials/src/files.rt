@@ -1,6 +1,5 @@
 //! Files of 288 pages, and operations on their records.
 
-use crate::soundness::PAGES;
 use bucket_page::{PseudoKey, RecordKey};
 use machine_trials::{Trial, Value};
 use page_device::{MemDevice, PageDevice};
@@ -9,6 +8,9 @@ use std::alloc::Global;
 use std::process::Abort;
 use std::test::Fail;
 use step_rules::{Kind, Progress};
+
+/// Pages of each file here.
+pub const PAGES: u32 = 288;
 
 /// The value of a record of 1,075 bytes: three fit a bucket, and a fourth does not.
 pub const LONG: Value = Value {
