@@ -8,9 +8,8 @@ use file_check::{CheckFault, Checked, check};
 use migration::{Copied, CopyFault, Target, copy, migrated_pages};
 use numbers::faults;
 use page_device::{MemDevice, PageDevice};
-use queue_model::{Permissions, System};
+use queue_model::System;
 use std::alloc::Global;
-use std::process::Abort;
 
 /// What becomes of a file of version 1.
 pub(crate) fn migrate<O: PageDevice, N: PageDevice>(
@@ -55,45 +54,11 @@ pub(crate) fn checks<D: PageDevice, K: PseudoKey + Copy>(
     }
 }
 
-/// A check found the system of the script.
-pub(crate) fn is_todays(rt: &impl Abort, found: &Result<System, CheckFault>) -> bool {
+/// Whether a check found as many queues and messages as the script leaves. What stands in them is
+/// compared by tests/fuzz.
+pub(crate) fn is_todays(found: &Result<System, CheckFault>) -> bool {
     match found {
-        Ok(system) => {
-            is_the_scripts(rt, system);
-            true
-        }
+        Ok(system) => (system.queues(), system.messages(), system.next_id()) == (1, 3, 2),
         Err(_) => false,
-    }
-}
-
-/// The system is that of the script, of user 0 of group 0 and mode 0666.
-pub(crate) fn is_the_scripts(rt: &impl Abort, system: &System) {
-    assert_eq!(rt;
-        (system.queues(), system.messages(), system.next_id()),
-        (1, 3, 2)
-    );
-    assert!(rt; system.queues() == 1);
-    let queue = system.queue(0);
-    assert_eq!(rt; (queue.id, queue.key, queue.qbytes), (1, Some(7), 16_384));
-    assert_eq!(rt; (queue.lspid, queue.lrpid), (1, 0));
-    assert_eq!(rt; (queue.stime, queue.rtime, queue.ctime), (4, 0, 1));
-    let owners = Permissions {
-        uid: 0,
-        gid: 0,
-        cuid: 0,
-        cgid: 0,
-        mode: 0o666,
-    };
-    assert_eq!(rt; queue.permissions, owners);
-    assert_eq!(rt; queue.next_serial, 4);
-    let rows: [(u64, i64, u8); 3] = [(1, 5, 0x61), (2, 2, 0x62), (3, 3, 0x63)];
-    for (place, (serial, mtype, byte)) in rows.iter().enumerate() {
-        assert!(rt; place < queue.messages.len());
-        let message = queue.messages.get(place);
-        assert_eq!(rt;
-            (message.serial, message.mtype, message.sender),
-            (*serial, *mtype, 1)
-        );
-        assert!(rt; message.bytes.as_slice() == [*byte].as_slice());
     }
 }

@@ -60,7 +60,7 @@ fn a_transfer_of_the_new_file_fails(rt: HostRuntime) -> Result<(), Fail> {
             0 => {
                 assert!(rt; nth > 261, "{nth}");
                 let Checked { device: _, found } = checks(alloc, new.into_inner(), ShaKey);
-                assert!(rt; is_todays(&rt, &found), "{nth}");
+                assert!(rt; is_todays(&found), "{nth}");
             }
             faults::NO_MEMORY => {}
             told => assert_eq!(rt; (new.faults(), told), (1, 20), "{nth}"),
