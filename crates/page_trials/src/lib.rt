@@ -11,8 +11,6 @@ mod copies;
 #[cfg(test)]
 mod devices;
 #[cfg(test)]
-mod directories;
-#[cfg(test)]
 mod inquiry_records;
 #[cfg(test)]
 mod kept_calls;
