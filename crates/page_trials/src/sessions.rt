@@ -34,7 +34,7 @@ fn bytes_of(alloc: Global, pages: &[Page]) -> Result<Vec<u8>, Fail> {
 
 /// Whether a page is full of a byte.
 fn is_full_of(page: &Page, byte: u8) -> bool {
-    page.iter().all(|it| *it == byte)
+    *page == page_of(byte)
 }
 
 /// Whether each page is full of its first byte.
