@@ -1,6 +1,6 @@
-//! Pseudokeys of another program, keys that are asked for again, and keys that take one another's slots.
+//! Keys that are asked for again, and keys that take one another's slots.
 
-use bucket_page::{Alike, ConstantKey, KeptKeys, NumberKey, PseudoKey, RecordKey, ShaKey};
+use bucket_page::{Alike, KeptKeys, NumberKey, PseudoKey, RecordKey, ShaKey};
 use std::cell::Cell;
 use std::test::Fail;
 
@@ -11,23 +11,6 @@ fn message(number: u64) -> RecordKey {
         queue: 1,
         number,
     }
-}
-
-#[test]
-fn pseudokeys_are_those_of_another_program(rt: HostRuntime) {
-    let counter = RecordKey {
-        kind: 1,
-        queue: 0,
-        number: 0,
-    };
-    let of_queue_7 = RecordKey {
-        queue: 7,
-        ..message(1)
-    };
-    assert!(rt; ShaKey.of(&counter) == 0x8150_a65e);
-    assert!(rt; ShaKey.of(&of_queue_7) == 0x08bd_5146);
-    assert!(rt; NumberKey.of(&message(0x0001_0000_0002)) == 2);
-    assert!(rt; ConstantKey(9).of(&of_queue_7) == 9);
 }
 
 #[test]
