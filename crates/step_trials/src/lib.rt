@@ -1,5 +1,5 @@
-//! Trials from outside of the machines of the file: devices of which each transfer fails, and what is
-//! made in one go. They stand here, so that `machine_trials`, which steps the machines, is not proved
+//! Trials from outside of the machines of the file: steps that fail and are made again, and what is made
+//! in one go. They stand here, so that `machine_trials`, which steps the machines, is not proved
 //! once more for them. What text can say stands in tests/rows and tests/seats.
 
 #![tactic(auto)]
@@ -9,6 +9,6 @@ mod files;
 #[cfg(test)]
 mod merges;
 #[cfg(test)]
-mod new_files;
-#[cfg(test)]
 mod skips;
+#[cfg(test)]
+mod writes;
