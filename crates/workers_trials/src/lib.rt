@@ -29,5 +29,3 @@ mod plain;
 mod playing;
 #[cfg(test)]
 mod timed;
-#[cfg(test)]
-mod waiting;
