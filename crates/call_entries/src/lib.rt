@@ -7,8 +7,6 @@ mod entry;
 mod laws;
 mod log;
 mod reading;
-#[cfg(test)]
-mod tests;
 
 pub use entry::{CallEntry, check_of};
 pub use laws::{an_entry_is_of_one_call, entries_lead_to_one_system};

@@ -8,8 +8,6 @@ mod durable;
 mod laws;
 mod opening;
 mod remaking;
-#[cfg(test)]
-mod tests;
 
 pub use commit::Uncommitted;
 pub use desk;

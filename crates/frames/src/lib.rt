@@ -16,8 +16,6 @@ mod reading;
 mod reply;
 mod spelling;
 mod telling;
-#[cfg(test)]
-mod tests;
 
 pub use codes::{CANCELLED, DONE, ENDS, FAILED, NO_MEMORY, NO_ROOM, WRONG};
 pub use incoming::{Incoming, Kind, Operation, Request, Unread};

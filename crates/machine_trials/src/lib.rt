@@ -1,5 +1,5 @@
-//! Trials from outside of the machines of the file, and of the rules of steps: schedules worked by
-//! hand, and turns that are not allowed.
+//! The machines of the file, stepped from outside, and the rules of steps: schedules worked by hand,
+//! and turns that are not allowed.
 
 #![tactic(auto)]
 
@@ -12,18 +12,3 @@ pub use laws::{each_kind_of_step_comes_in_a_worked_schedule, wrong_turns_are_not
 pub use task::{Task, Value};
 pub use trial::Trial;
 pub use work::Work;
-
-#[cfg(test)]
-mod bytes;
-#[cfg(test)]
-mod files;
-#[cfg(test)]
-mod merges;
-#[cfg(test)]
-mod new_files;
-#[cfg(test)]
-mod skips;
-#[cfg(test)]
-mod soundness;
-#[cfg(test)]
-mod three_seats;

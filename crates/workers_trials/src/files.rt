@@ -75,22 +75,7 @@ pub fn open<D: PageDevice + Drop>(
     Prepared::open(alloc, device, NumberKey, &callers[..seats as usize], frames)
 }
 
-/// What is prepared on a device with frames for all pages.
-pub fn prepared_on(
-    alloc: Global,
-    device: MemDevice,
-    seats: u8,
-) -> Result<Prepared<MemDevice, NumberKey>, Fail>
-    requires some { 1 ≤ seats }
-    requires few { seats ≤ 64 }
-{
-    match open(alloc, device, seats, FRAMES) {
-        Ok(prepared) => Ok(prepared),
-        Err((_, fault)) => Err(fault.into()),
-    }
-}
-
-/// So, on a new file.
+/// What is prepared on a new file with frames for all pages.
 pub fn prepared(
     alloc: Global,
     pages: u32,
@@ -99,7 +84,10 @@ pub fn prepared(
     requires some { 1 ≤ seats }
     requires few { seats ≤ 64 }
 {
-    prepared_on(alloc, new_file(alloc, pages)?, seats)
+    match open(alloc, new_file(alloc, pages)?, seats, FRAMES) {
+        Ok(prepared) => Ok(prepared),
+        Err((_, fault)) => Err(fault.into()),
+    }
 }
 
 /// A kernel on a device.

@@ -24,12 +24,8 @@ mod gated;
 #[cfg(test)]
 mod interleaved;
 #[cfg(test)]
-mod order;
-#[cfg(test)]
 mod plain;
 #[cfg(test)]
 mod playing;
 #[cfg(test)]
 mod timed;
-#[cfg(test)]
-mod waiting;

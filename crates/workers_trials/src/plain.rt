@@ -97,7 +97,7 @@ fn is_of(entry: &Entry, seat: u8) -> bool {
 }
 
 /// The answer of an entry.
-pub fn answer_of(entry: &Entry) -> Option<&Answer> {
+fn answer_of(entry: &Entry) -> Option<&Answer> {
     match entry {
         Entry::Decided { answer, .. } => Some(answer),
         Entry::Stopped => None,

@@ -57,6 +57,32 @@ fn one_is_taken_back<'a>(alloc: Global, over: &'a Flag, sent: &'a Flag) -> Resul
     })
 }
 
+/// How often a Receive with time enough waits for its message.
+const ROUNDS: u32 = 200;
+
+/// A Receive with an hour and a Send in threads of their own, time and again: whichever comes first, the
+/// message is received. Without a limit of time so it is in tests/threads.
+#[test]
+fn a_receive_with_time_is_answered_once_its_message_is_sent(rt: HostRuntime) -> Result<(), Fail> {
+    let alloc = rt.alloc();
+    let receives = Deed::CallWithin(receive(1, 10), Duration::from_secs(3600));
+    let sends = Deed::Call(send(alloc, 1, 3, b"ab")?);
+    let scripts = [
+        Vec::from_array(alloc, [receives])?,
+        Vec::from_array(alloc, [sends])?,
+    ];
+    let plan = Plan {
+        before: Vec::from_array(alloc, [get(7)])?,
+        scripts: Vec::from_array(alloc, scripts)?,
+        rounds: ROUNDS,
+        end: End::Closed,
+    };
+    let left = play(&rt, alloc, prepared(alloc, 258, 2)?, Open, &plan)?;
+    assert!(rt; left.shown == 401 && left.taken_back == 0);
+    assert!(rt; is_file_of(alloc, left.device, left.journal.as_slice()));
+    Ok(())
+}
+
 /// Seat 1 sends, and seats 2 and 3 receive with so little time that calls are taken back while others
 /// send: each is answered or taken back, and what nobody took is in the file.
 #[test]

@@ -1,15 +1,14 @@
 //! Files of 288 pages, and operations on their records.
 
-use crate::soundness::PAGES;
-use crate::task::Value;
-use crate::trial::Trial;
 use bucket_page::{PseudoKey, RecordKey};
+use machine_trials::{Trial, Value};
 use page_device::{MemDevice, PageDevice};
 use record_file::{Tried, format};
 use std::alloc::Global;
-use std::process::Abort;
-use std::test::Fail;
 use step_rules::{Kind, Progress};
+
+/// Pages of each file here.
+pub const PAGES: u32 = 288;
 
 /// The value of a record of 1,075 bytes: three fit a bucket, and a fourth does not.
 pub const LONG: Value = Value {
@@ -37,25 +36,12 @@ pub fn key(number: u32) -> RecordKey {
 }
 
 /// A trial of a new file, with a frame for each page. No page is in a frame yet.
-pub fn new_file<K: PseudoKey + Drop>(alloc: Global, keys: K) -> Result<Trial<MemDevice, K>, Fail> {
+pub fn new_file<K: PseudoKey + Drop>(alloc: Global, keys: K) -> Option<Trial<MemDevice, K>> {
     let mut device = MemDevice::new(alloc);
-    format(&mut device, PAGES)?;
-    Ok(Trial::open(alloc, device, PAGES as usize, keys)?)
-}
-
-/// A trial of a file without records.
-pub fn empty_file<K: PseudoKey + Drop>(
-    rt: &impl Abort,
-    alloc: Global,
-    keys: K,
-) -> Result<Trial<MemDevice, K>, Fail> {
-    let mut trial = new_file(alloc, keys)?;
-    let Some(seat) = trial.delete(COUNTER) else {
-        panic!(rt; "no seat");
-    };
-    assert_eq!(rt; count(&mut trial, seat, Kind::WriteRecord), Some(1));
-    assert_eq!(rt; trial.found(seat), Some((257, Some(8))));
-    Ok(trial)
+    if format(&mut device, PAGES).is_err() {
+        return None;
+    }
+    Trial::open(alloc, device, PAGES as usize, keys).ok()
 }
 
 /// Steps a seat to its end. How many steps were of this kind.

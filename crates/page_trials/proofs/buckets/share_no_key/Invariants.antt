@@ -1,9 +1,0 @@
-use Rattle.bucket_page.specs.Dividing.{ShareNoKey}
-use Rattle.page_trials.proofs.buckets.share_no_key.Given as goal
-
--- no key is shared where none of those that are left is
-abbrev pub invariant-loop-record : goal.invariant-loop-record
-invariant-loop-record l =
-    (goal.iterator-loop-record).can_next l.record-iterator ×
-    (goal.iterator-loop-record).is_finite l.record-iterator ×
-    (ShareNoKey l.left.records l.record-iterator → ShareNoKey l.left.records l.right.records)
