@@ -144,7 +144,8 @@ module _ (script : Parts) (made : List DeskView) (many : length made ≡ greates
         let below : place < greatest_seat script.lines = omega (arith, few) in
         let here : place < length made = omega (arith, below, many) in
         let there = subst (λ (n : ℕ). list_any is_session_full (replies_to n script.lines replies) ≡ true) up is in
-        enough MAX_DECIDED (desk_at made place).sitter.seen (length o.callers) (length left.journal) (greatest_seat script.lines)
+        enough MAX_DECIDED (desk_at made place).sitter.seen (length o.callers) (length left.journal)
+        (greatest_seat script.lines)
         ((done place below).knows.full (sym (ap (list_any is_session_full) (own place here)) ∙ there))
         (subst (λ (x : Sitter). x.seen ≤ length left.journal) (sitter_there made place)
         (ended.shown place (omega (arith, here, long))))

@@ -242,7 +242,8 @@ kept_call c call reply old new false (inl replied) = elim replied.asks [
       (keeps again.waiting again.stopped new (kept_same again.waiting again.stopped again.stops.pool)
       (kept_file again.made.keeps))
 ]
-kept_call c call reply old new false (inr uncopied) = kept_same old new (ap (λ (k : SessionState). k.pool) uncopied.same)
+kept_call c call reply old new false (inr uncopied) =
+    kept_same old new (ap (λ (k : SessionState). k.pool) uncopied.same)
 
 kept_line : (answered : ℕ) (c : Caller) (said : Command) (reply : Reply) (old new : SessionState) →
     TakesCommand answered c said reply old new → KeepsDevice old new

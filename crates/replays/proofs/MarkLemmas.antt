@@ -37,12 +37,13 @@ no_stops MayLack (l ∷ ls) (r ∷ rs) fits same none =
     both false b is other = other
 
 pub marks : (MayLack : Call → Type 0) (lines : List Line) (replies : List Reply) (journal : List Entry) →
-    AreFitting MayLack lines replies → length replies ≡ length lines → (has_stopped lent used : Bool) → used ≡ (has_stopped || lent) →
-    (list_any is_stop lines ≡ false → lent ≡ false) → has_stopped ≡ list_any is_stopped replies →
-    IsMarked used journal → Marks lines replies journal
+    AreFitting MayLack lines replies → length replies ≡ length lines → (has_stopped lent used : Bool) →
+    used ≡ (has_stopped || lent) → (list_any is_stop lines ≡ false → lent ≡ false) →
+    has_stopped ≡ list_any is_stopped replies → IsMarked used journal → Marks lines replies journal
 marks MayLack lines replies journal fits same has_stopped lent used is unused stops mark = record {
   stopped = used;
   mark = mark;
   made = λ told. is ∙ ap (λ (b : Bool). b || lent) (stops ∙ told);
-  none = λ none. is ∙ ap (λ (b : Bool). b || lent) (stops ∙ no_stops MayLack lines replies fits same none) ∙ unused none;
+  none = λ none. is ∙ ap (λ (b : Bool). b || lent) (stops ∙ no_stops MayLack lines replies fits same none)
+      ∙ unused none;
 }
