@@ -41,19 +41,20 @@ part_told seat (l ∷ ls) [] = no_replies (lines_of seat (l ∷ ls))
     no_replies [] = refl
     no_replies (x ∷ xs) = refl
 part_told seat (l ∷ ls) (r ∷ rs) =
-    by (is_line_of seat l) refl
+    by (is_line_of seat l) refl (part_told seat ls rs)
     ∙ sym (filter-append (is_of seat) (entry_at l (Some r)) (entries_to ls rs))
   where
     by : (b : Bool) → (l.seat == seat) ≡ b →
+        entries_to (lines_of seat ls) (replies_to seat ls rs) ≡ part_of seat (entries_to ls rs) →
         entries_to (if b then l ∷ lines_of seat ls else lines_of seat ls)
         (if b then r ∷ replies_to seat ls rs else replies_to seat ls rs)
         ≡ part_of seat (entry_at l (Some r)) ++ part_of seat (entries_to ls rs)
-    by true e =
-        ap (λ (es : List Entry). entry_at l (Some r) ++ es) (part_told seat ls rs)
+    by true e more =
+        ap (λ (es : List Entry). entry_at l (Some r) ++ es) more
         ∙ ap (λ (es : List Entry). es ++ part_of seat (entries_to ls rs))
         (sym (entry_own seat l (Some r) (eqb-true l.seat seat e)))
-    by false e =
-        part_told seat ls rs
+    by false e more =
+        more
         ∙ ap (λ (es : List Entry). es ++ part_of seat (entries_to ls rs))
         (sym (entry_other seat l (Some r) (eqb-false l.seat seat e)))
 

@@ -31,7 +31,8 @@ ends_spelled None left untold was faults fault fails = (fails.told, fails.risen)
 -- so many entries of a journal lead to the system after them
 leads_before : (callers : List Caller) (many : ℕ) (es : List Entry) (s t : State) → LeadsAlong callers es s t →
     LeadsAlong callers (take many es) s (after callers (take many es) s)
-leads_before callers zero es s t leads = refl
+leads_before callers zero [] s t leads = refl
+leads_before callers zero (e ∷ es) s t leads = refl
 leads_before callers (suc many) [] s t leads = refl
 leads_before callers (suc many) (e ∷ es) s t (u, first, more) =
     (u, first, subst (λ (x : State). LeadsAlong callers (take many es) u (after callers (take many es) x))
