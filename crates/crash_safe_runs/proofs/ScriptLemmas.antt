@@ -67,9 +67,9 @@ module _ (honest : Bool) (content : Pages) (was : ℕ) (first : OutputState) (un
         due faults said) ending) →
         EndsWith fault run.told (ending_of run.replies) told ended →
         ((s : Option State) → EndsWell s left untold was faults run.fault → EndsWell s left untold was later fault) →
-        (untold ≡ false → fault ≡ None → IsTrue honest → IsTrue synced) →
+        (untold ≡ false → fault ≡ None → IsTrue honest → IsTrue synced) → (fault ≡ None → run.fault ≡ None) →
         IsPlainRun script honest (done_to content was first untold left synced later told) ended
-    plain_ends fault run ends well sync = record {
+    plain_ends fault run ends well sync none = record {
       replies = run.replies;
       told = run.told;
       prints = run.prints;
@@ -87,6 +87,7 @@ module _ (honest : Bool) (content : Pages) (was : ℕ) (first : OutputState) (un
             before = is.before;
           };
       synced = sync;
+      pages = λ all sound sure. run.pages all (none sound) sure;
       before = run.before;
     }
 
@@ -95,10 +96,10 @@ module _ (honest : Bool) (content : Pages) (was : ℕ) (first : OutputState) (un
         EndsWith fault run.run.told (ending_of run.run.replies) told ended →
         ((s : Option State) → EndsWell s left untold was faults run.run.fault →
         EndsWell s left untold was later fault) →
-        (untold ≡ false → fault ≡ None → IsTrue honest → IsTrue synced) →
+        (untold ≡ false → fault ≡ None → IsTrue honest → IsTrue synced) → (fault ≡ None → run.run.fault ≡ None) →
         IsRunOn script honest (done_to content was first untold left synced later told) ended
-    served_ends fault run ends well sync = record {
-      run = plain_ends fault run.run ends well sync;
+    served_ends fault run ends well sync none = record {
+      run = plain_ends fault run.run ends well sync none;
       first = run.first;
       opened = run.opened;
       last = run.last;
@@ -181,7 +182,7 @@ module _ {P : Type 0} (honest : Bool) (moment : P → ℕ) (left_since : P → �
         in record {
           run = plain_ends honest start.pages start.failed first untold old.content due old.is_synced old.failed
               old.failed said said ending ending script run.fault run run.ends (λ s is. is)
-              (λ all none sure. absurd (never sure (record { told = all; well = none })));
+              (λ all none sure. absurd (never sure (record { told = all; well = none }))) (λ is. is);
           crash = λ sure.
               only_before moment left_since may_leave start left _ _ old.pair (lent.leaves sure) (never sure);
         }
@@ -202,7 +203,7 @@ module _ {P : Type 0} (honest : Bool) (moment : P → ℕ) (left_since : P → �
           run = plain_ends honest start.pages start.failed first untold old.content due new.is_synced old.failed
               new.failed said told ending ended script None run (says.0 ∙ last.0, says.1 ∙ last.1)
               (λ s is. ends_none start.failed old.failed new.failed old.content untold s (well s is))
-              (λ all none sure. commits.synced sure refl);
+              (λ all none sure. commits.synced sure refl) (λ _. none);
           crash = λ sure.
               before_or_after moment left_since may_leave start left honest _ _ old new true sure commits
               (told_file untold (run.rules sure).after old.content start.failed old.failed all
@@ -223,7 +224,7 @@ module _ {P : Type 0} (honest : Bool) (moment : P → ℕ) (left_since : P → �
               (subst (λ (o : OutputState). IsFaultAlone DEVICE o told ended) last.0 says)
               (λ s is. ends_failed start.failed old.failed new.failed old.content untold s (well s is)
               (commits.failed refl))
-              (λ all none sure. absurd cc);
+              (λ all none sure. absurd cc) (λ _. none);
           crash = λ sure.
               before_or_after moment left_since may_leave start left honest _ _ old new false sure commits
               (told_file untold (run.rules sure).after old.content start.failed old.failed all
@@ -269,7 +270,7 @@ module _ {P : Type 0} (honest : Bool) (moment : P → ℕ) (left_since : P → �
         said told ending ended script None run (says.0 ∙ last.0, says.1 ∙ last.1)
         (λ s is. ends_none start.failed old.failed new.failed old.content untold s
         (subst (EndsWell s old.content untold start.failed old.failed) none is))
-        (λ all none sure. commits.synced sure refl))
+        (λ all none sure. commits.synced sure refl) (λ _. none))
     served_brought false commits says run none =
         let last = subst (λ (f : Option ℕ). EndsWith f run.run.told (ending_of run.run.replies) said ending) none
         run.run.ends in
@@ -281,7 +282,7 @@ module _ {P : Type 0} (honest : Bool) (moment : P → ℕ) (left_since : P → �
         (subst (λ (o : OutputState). IsFaultAlone DEVICE o told ended) last.0 says)
         (λ s is. ends_failed start.failed old.failed new.failed old.content untold s
         (subst (EndsWell s old.content untold start.failed old.failed) none is) (commits.failed refl))
-        (λ all none sure. absurd cc))
+        (λ all none sure. absurd cc) (λ _. none))
 
     served_left : is_to_commit due untold ending ≡ false → IsRunOn script honest ran ending →
         IsRunOn script honest (came old said) ending
@@ -292,6 +293,7 @@ module _ {P : Type 0} (honest : Bool) (moment : P → ℕ) (left_since : P → �
         (not_committable due untold ending not (is_true due (run.run.synced all none sure)) all
         (well_told run.run.fault run.run.told said (ending_of run.run.replies) ending run.run.ends
         (lines_well run.run.replies) none)))
+        (λ is. is)
 
     pub served_over : (to_commit : Bool) → is_to_commit due untold ending ≡ to_commit →
         Concludes honest moment left_since may_leave start left to_commit old new said told ending ended →

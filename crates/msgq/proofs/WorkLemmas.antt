@@ -4,6 +4,7 @@ use Rattle.std.specs.Prelude.{slice_set}
 use Rattle.std.proofs.lemmas.Bool.{cases_eq}
 use Rattle.std.proofs.lemmas.List.{length-set, get_or-set_other, get_or-set_same}
 use Rattle.std.specs.List.{AllZip}
+use Rattle.workers.specs.Origins.{Origin}
 use Rattle.replays.specs.Desks.{AreMade, AreUntouched, DeskView, IsFresh, IsMadeOf, desk_at, no_desk}
 
 -- ---- desks that each lead to something
@@ -81,23 +82,23 @@ module _ (R : DeskView → DeskView → Type 0) (all left : List DeskView) (coun
 
 -- ---- desks that were made
 
--- at one of so many desks
-module _ (many : ℕ) where
-  as_many : (old new : List DeskView) → AllZip (IsMadeOf many) old new → length new ≡ length old
+-- at desks of a service that began so
+module _ (o : Origin) where
+  as_many : (old new : List DeskView) → AllZip (IsMadeOf o) old new → length new ≡ length old
   as_many [] [] made = refl
   as_many [] (e ∷ es) made = absurd made
   as_many (d ∷ ds) [] made = absurd made
   as_many (d ∷ ds) (e ∷ es) made = ap suc (as_many ds es made.1)
 
-  each : (old new : List DeskView) → AllZip (IsMadeOf many) old new → (place : ℕ) → place < length old →
-      IsMadeOf many (desk_at old place) (desk_at new place)
+  each : (old new : List DeskView) → AllZip (IsMadeOf o) old new → (place : ℕ) → place < length old →
+      IsMadeOf o (desk_at old place) (desk_at new place)
   each [] [] made place below = absurd (omega arith)
   each [] (e ∷ es) made place below = absurd made
   each (d ∷ ds) [] made place below = absurd made
   each (d ∷ ds) (e ∷ es) made zero below = made.0
   each (d ∷ ds) (e ∷ es) made (suc place) below = each ds es made.1 place (omega arith)
 
-  pub all_made : (old new : List DeskView) → AllZip (IsMadeOf many) old new → AreMade many old new
+  pub all_made : (old new : List DeskView) → AllZip (IsMadeOf o) old new → AreMade o old new
   all_made old new made = record { as_many = as_many old new made; each = each old new made }
 
   -- ---- desks none of which makes its lines
@@ -105,7 +106,7 @@ module _ (many : ℕ) where
   -- those before a place were refused, and nobody has begun at the others
   pub record IsRefusing (old now : List DeskView) (count : ℕ) : Type 0 where
     pub as_many : length now ≡ length old
-    pub refused : (place : ℕ) → place < count → place < length old → IsMadeOf many (desk_at old place)
+    pub refused : (place : ℕ) → place < count → place < length old → IsMadeOf o (desk_at old place)
         (desk_at now place)
     pub left : (place : ℕ) → count ≤ place → desk_at now place ≡ desk_at old place
 
@@ -117,7 +118,7 @@ module _ (many : ℕ) where
   }
 
   pub refusing_ends : (old now : List DeskView) (count : ℕ) → IsRefusing old now count → length old ≤ count →
-      AreMade many old now
+      AreMade o old now
   refusing_ends old now count r all = record {
     as_many = r.as_many;
     each = λ place below. r.refused place (omega (arith, all, below)) below;
@@ -129,7 +130,7 @@ module _ (many : ℕ) where
         let not_less : count ≤ count = omega arith in
         subst IsFresh (sym (r.left count not_less)) (untouched count below)
 
-    pub refusing_goes : (d : DeskView) → count < length old → IsMadeOf many (desk_at now count) d →
+    pub refusing_goes : (d : DeskView) → count < length old → IsMadeOf o (desk_at now count) d →
         IsRefusing old (slice_set now count d) (count + 1)
     refusing_goes d below made = record {
       as_many = length-set now count d ∙ r.as_many;
@@ -140,7 +141,7 @@ module _ (many : ℕ) where
     }
       where
         by : (place : ℕ) → place < count + 1 → place < length old → (place ≡ count) ⊎ (place ≢ count) →
-            IsMadeOf many (desk_at old place) (desk_at (slice_set now count d) place)
+            IsMadeOf o (desk_at old place) (desk_at (slice_set now count d) place)
         by place before here (inl same) =
             let as_many = r.as_many in
             let not_less : count ≤ count = omega arith in
@@ -149,7 +150,7 @@ module _ (many : ℕ) where
             ∙ get_or-set_same now count d no_desk (omega (arith, as_many, below)) in
             let was : desk_at now count ≡ desk_at old place =
             r.left count not_less ∙ ap (λ (n : ℕ). desk_at old n) (sym same) in
-            subst (IsMadeOf many (desk_at old place)) (sym its) (subst (λ (x : DeskView). IsMadeOf many x d) was made)
+            subst (IsMadeOf o (desk_at old place)) (sym its) (subst (λ (x : DeskView). IsMadeOf o x d) was made)
         by place before here (inr apart) =
-            subst (IsMadeOf many (desk_at old place)) (sym (get_or-set_other now count place d no_desk apart))
+            subst (IsMadeOf o (desk_at old place)) (sym (get_or-set_other now count place d no_desk apart))
             (r.refused place (omega (arith, before, apart)) here)

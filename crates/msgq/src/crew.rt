@@ -1,6 +1,6 @@
 //! The threads of a script's seats.
 
-ghost use Rattle.std.specs.Prelude.{◌≡◌, length};
+ghost use Rattle.std.specs.Prelude.{◌≡◌};
 ghost use Rattle.std.specs.Thread.{IsSend, IsSync};
 ghost use Rattle.replays.specs.Desks.{AreMade, AreUntouched, IsFresh, IsMadeOf};
 
@@ -93,7 +93,7 @@ pub fn make_all<
     desks: Vec<Desk<'s, N>>,
 ) -> Vec<Desk<'s, N>>
     requires fresh { AreUntouched desks.items }
-    ensures made { AreMade (length N.origin.callers) desks.entry.items result.items }
+    ensures made { AreMade N.origin desks.entry.items result.items }
 {
     let team = Team {
         crew,
@@ -109,7 +109,7 @@ pub fn make_all<
         move |scope| -> Vec<Desk<N>>
             requires { IsSync R.row × IsSend D.row × IsSend N.row × IsSync N.row
                 × AreUntouched desks.items }
-            ensures { AreMade (length N.origin.callers) desks.entry.items result.items }
+            ensures { AreMade N.origin desks.entry.items result.items }
         { make_in(scope, team, gauge, desks) },
     )
 }
@@ -133,10 +133,9 @@ struct Makes<'s, N: Room + Base> {
 }
 
 impl<'s, N: Room + Base> Promise<Desk<'s, N>> for Makes<'s, N> {
-    ghost use Rattle.std.specs.Prelude.{length};
     ghost use Rattle.replays.specs.Desks.{IsMadeOf};
 
-    ghost kept_by = { λ p d. IsMadeOf (length N.origin.callers) p.desk.value d };
+    ghost kept_by = { λ p d. IsMadeOf N.origin p.desk.value d };
 }
 
 /// What becomes of a desk: a thread makes its lines, or none could be started and they are refused.
@@ -148,7 +147,7 @@ struct Work<'s, N: Room + Base> {
 }
 
 impl<'s, N: Room + Base> Model for Work<'s, N> {
-    ghost use Rattle.std.specs.Prelude.{◌≡◌, IfErr, IfOk, length};
+    ghost use Rattle.std.specs.Prelude.{◌≡◌, IfErr, IfOk};
     ghost use Rattle.replays.specs.Desks.{DeskView, IsMadeOf};
 
     ghost Value = { DeskView };
@@ -157,7 +156,7 @@ impl<'s, N: Room + Base> Model for Work<'s, N> {
 
     ghost invariant = { λ w.
         IfOk w.made (λ thread. thread.promise.desk.value ≡ w.desk.value)
-        × IfErr w.made (IsMadeOf (length N.origin.callers) w.desk.value) };
+        × IfErr w.made (IsMadeOf N.origin w.desk.value) };
 }
 
 /// Has each desk make its lines in a thread of this scope, and waits until all have.
@@ -175,7 +174,7 @@ fn make_in<
     desks: Vec<Desk<'s, N>>,
 ) -> Vec<Desk<'s, N>>
     requires { AreUntouched desks.items }
-    ensures { AreMade (length N.origin.callers) desks.entry.items result.items }
+    ensures { AreMade N.origin desks.entry.items result.items }
 {
     let Ok(mut works) = Vec::with_capacity(team.crew.alloc, desks.len()) else {
         return refuse_all(desks);
@@ -215,7 +214,7 @@ fn start<
     let seat = u64::from(desk.number());
     let work = move || -> Desk<N>
         requires { IsFresh desk }
-        ensures { IsMadeOf (length N.origin.callers) desk.entry result }
+        ensures { IsMadeOf N.origin desk.entry result }
     {
         let mut desk = desk;
         if team.refused.load(SeqCst) == seat {
@@ -241,7 +240,7 @@ fn end<'s, R: Threads, D: PageDevice, N: Room + Base>(
     team: &Team<R, D, N>,
     work: Work<'s, N>,
 ) -> Desk<'s, N>
-    ensures { IsMadeOf (length N.origin.callers) work.entry result }
+    ensures { IsMadeOf N.origin work.entry result }
 {
     let Work { desk: _, made } = work;
     match made {
@@ -253,7 +252,7 @@ fn end<'s, R: Threads, D: PageDevice, N: Room + Base>(
 /// No desk makes its lines.
 fn refuse_all<'s, N: Room + Base>(desks: Vec<Desk<'s, N>>) -> Vec<Desk<'s, N>>
     requires { AreUntouched desks.items }
-    ensures { AreMade (length N.origin.callers) desks.entry.items result.items }
+    ensures { AreMade N.origin desks.entry.items result.items }
 {
     let mut desks = desks;
     for place in 0..desks.len() {

@@ -248,8 +248,7 @@ fn make_lines<
     lines: &[Line],
 ) -> (Vec<Desk<'s, N>>, Stopper<N>)
     requires fresh { AreUntouched desks.items }
-    ensures made { AreMade (length N.origin.callers) desks.entry.items
-        result.0.items }
+    ensures made { AreMade N.origin desks.entry.items result.0.items }
     ensures none { list_any is_stop lines.now ≡ false → result.1.used ≡ stopper.used }
 {
     if !lines.iter().any(is_stop) {

@@ -16,20 +16,23 @@ use Rattle.msgq_cli.specs.Runs.{printed}
 use Rattle.msgq_cli.specs.Scripts.{Parts, greatest_seat}
 use Rattle.msgq_cli.specs.declared.ending.Ending.{Ending}
 use Rattle.msgq_cli.specs.declared.reply.Reply.{Reply}
+use Rattle.queue_model.specs.declared.call.Call.{Call}
 use Rattle.queue_model.specs.declared.entry.Entry.{Entry}
 use Rattle.replays.specs.Replays.{EndsWith}
 use Rattle.replays.specs.Texts.{Effects}
 use Rattle.workers.specs.Views.{nobody}
 use Rattle.replays.specs.Serves.{RunsOn}
 use Rattle.workers.specs.Opening.{PreparedView, origin_of}
+use Rattle.workers.specs.Causes.{HadToInsert}
 use Rattle.workers.specs.Closing.{Remains}
 use Rattle.workers.specs.Origins.{HasFrames, IsJournalOf, LeavesFile, Origin}
 use Rattle.workers.specs.Told.{Sitter}
-use Rattle.replays.proofs.FitLemmas.{FitsAt, IsWithin, any_seat, fits_all}
+use Rattle.replays.proofs.EntryLemmas.{part_told}
+use Rattle.replays.proofs.FitLemmas.{FitsAt, IsWithin, any_seat, fits_all, fitting_still}
 use Rattle.replays.proofs.MarkLemmas.{marks}
 use Rattle.replays.proofs.PairLemmas.{HasDone, long_sitters, sitter_there, sitters}
 use Rattle.replays.specs.Beside.{HasEnded, IsPart, RunsAsOne, RunsBeside, RunsBesideOn, RunsFrom, RunsScriptOn, counted_from, is_of_one_seat, origin_on, told_to}
-use Rattle.replays.specs.Desks.{DeskView, IsPreparedFor, desk_at}
+use Rattle.replays.specs.Desks.{DeskView, IsPreparedFor, MayLackRoom, desk_at}
 use Rattle.replays.specs.Lines.{AreFitting, entries_to, is_failure, is_session_full, is_stop, lines_of, replies_to}
 use Rattle.replays.specs.Printing.{IsPrintedOf}
 
@@ -43,11 +46,17 @@ module _ (was : ℕ) (o : Origin) (journal : List Entry) where
       LeavesFile (counted_from was o) journal content
   file_from content l = record { plain = journal_from l.plain; left = l.left; pages = l.pages }
 
+had_from : (was : ℕ) (o : Origin) (call : Call) → (IsTrue o.honest → HadToInsert o call) → IsTrue o.honest →
+    HadToInsert (counted_from was o) call
+had_from was o call had honest =
+    let it = had honest in
+    record { base = it.base; file = it.file; journal = it.journal; legal = it.legal; inserts = it.inserts }
+
 -- ---- what each seat was told
 
 module _ (script : Parts) (made : List DeskView) (many : length made ≡ greatest_seat script.lines)
-    (callers : ℕ) (all : callers ≡ greatest_seat script.lines)
-    (done : (place : ℕ) → place < greatest_seat script.lines → HasDone callers script.lines place (desk_at made place))
+    (o : Origin) (all : length o.callers ≡ greatest_seat script.lines)
+    (done : (place : ℕ) → place < greatest_seat script.lines → HasDone o script.lines place (desk_at made place))
   where
     part_at : (fault : Option ℕ) (journal : List Entry) (replies : List Reply) (place : ℕ) →
         place < greatest_seat script.lines → IsPart fault journal (desk_at made place).sitter.seat
@@ -57,17 +66,18 @@ module _ (script : Parts) (made : List DeskView) (many : length made ≡ greates
     part_at fault journal replies place below its own =
         let d = done place below in
         subst (IsPart fault journal (place + 1))
-        (d.told ∙ ap (entries_to (lines_of (place + 1) script.lines)) (sym own))
+        (d.told ∙ ap (entries_to (lines_of (place + 1) script.lines)) (sym own)
+        ∙ part_told (place + 1) script.lines replies)
         (subst (λ (n : ℕ). IsPart fault journal n (desk_at made place).sitter.list) d.seat its)
 
-    parts_of : (o : Origin) (used untold : Bool) (fault : Option ℕ) (left : Remains) (replies : List Reply) →
+    parts_of : (used untold : Bool) (fault : Option ℕ) (left : Remains) (replies : List Reply) →
         HasEnded o (sitters made) used untold fault left →
         ((place : ℕ) → place < length made →
         replies_to (place + 1) script.lines replies ≡ (desk_at made place).lines.replies) →
         (seat : ℕ) → 1 ≤ seat → seat ≤ greatest_seat script.lines →
         IsPart fault left.journal seat (told_to seat script.lines replies)
-    parts_of o used untold fault left replies ended own zero some few = absurd (omega arith)
-    parts_of o used untold fault left replies ended own (suc place) some few =
+    parts_of used untold fault left replies ended own zero some few = absurd (omega arith)
+    parts_of used untold fault left replies ended own (suc place) some few =
         let long = long_sitters made in
         let up : place + 1 ≡ suc place = omega arith in
         let below : place < greatest_seat script.lines = omega (arith, few) in
@@ -81,24 +91,25 @@ module _ (script : Parts) (made : List DeskView) (many : length made ≡ greates
     fits_at : (replies : List Reply) →
         ((place : ℕ) → place < length made →
         replies_to (place + 1) script.lines replies ≡ (desk_at made place).lines.replies) →
-        FitsAt (greatest_seat script.lines) script.lines replies
+        FitsAt (greatest_seat script.lines) (MayLackRoom o) script.lines replies
     fits_at replies own zero some few = absurd (omega arith)
     fits_at replies own (suc place) some few =
         let up : place + 1 ≡ suc place = omega arith in
         let below : place < greatest_seat script.lines = omega (arith, few) in
         let here : place < length made = omega (arith, below, many) in
-        subst (λ (n : ℕ). AreFitting (lines_of n script.lines) (replies_to n script.lines replies)) up
-        (subst (AreFitting (lines_of (place + 1) script.lines)) (sym (own place here)) (done place below).fits)
+        subst (λ (n : ℕ). AreFitting (MayLackRoom o) (lines_of n script.lines) (replies_to n script.lines replies)) up
+        (subst (AreFitting (MayLackRoom o) (lines_of (place + 1) script.lines)) (sym (own place here))
+        (done place below).fits)
 
     -- a line was replied 62 only where its seat knows of a failure
-    failure_at : (o : Origin) (used untold : Bool) (fault : Option ℕ) (left : Remains) (replies : List Reply) →
+    failure_at : (used untold : Bool) (fault : Option ℕ) (left : Remains) (replies : List Reply) →
         HasEnded o (sitters made) used untold fault left →
         ((place : ℕ) → place < length made →
         replies_to (place + 1) script.lines replies ≡ (desk_at made place).lines.replies) →
         (seat : ℕ) → 1 ≤ seat → seat ≤ greatest_seat script.lines →
         list_any is_failure (replies_to seat script.lines replies) ≡ true → fault ≡ Some FAILED
-    failure_at o used untold fault left replies ended own zero some few is = absurd (omega arith)
-    failure_at o used untold fault left replies ended own (suc place) some few is =
+    failure_at used untold fault left replies ended own zero some few is = absurd (omega arith)
+    failure_at used untold fault left replies ended own (suc place) some few is =
         let long = long_sitters made in
         let up : suc place ≡ place + 1 = omega arith in
         let below : place < greatest_seat script.lines = omega (arith, few) in
@@ -108,32 +119,33 @@ module _ (script : Parts) (made : List DeskView) (many : length made ≡ greates
         (ended.failed place (omega (arith, here, long)))
         ((done place below).knows.failed (sym (ap (list_any is_failure) (own place here)) ∙ there))
 
-    failures : (o : Origin) (used untold : Bool) (fault : Option ℕ) (left : Remains) (replies : List Reply) →
+    failures : (used untold : Bool) (fault : Option ℕ) (left : Remains) (replies : List Reply) →
         length replies ≡ length script.lines → All (IsWithin (greatest_seat script.lines)) script.lines →
         HasEnded o (sitters made) used untold fault left →
         ((place : ℕ) → place < length made →
         replies_to (place + 1) script.lines replies ≡ (desk_at made place).lines.replies) →
         list_any is_failure replies ≡ true → fault ≡ Some FAILED
-    failures o used untold fault left replies same within ended own is =
+    failures used untold fault left replies same within ended own is =
         let a = any_seat (greatest_seat script.lines) is_failure script.lines replies same within is in
-        failure_at o used untold fault left replies ended own a.seat a.some a.few a.any
+        failure_at used untold fault left replies ended own a.seat a.some a.few a.any
 
     -- and 61 only where its seat was shown as many calls
-    full_at : (o : Origin) (used untold : Bool) (fault : Option ℕ) (left : Remains) (replies : List Reply) →
+    full_at : (used untold : Bool) (fault : Option ℕ) (left : Remains) (replies : List Reply) →
         HasEnded o (sitters made) used untold fault left →
         ((place : ℕ) → place < length made →
         replies_to (place + 1) script.lines replies ≡ (desk_at made place).lines.replies) →
         (seat : ℕ) → 1 ≤ seat → seat ≤ greatest_seat script.lines →
         list_any is_session_full (replies_to seat script.lines replies) ≡ true →
         MAX_DECIDED ≤ length left.journal + greatest_seat script.lines
-    full_at o used untold fault left replies ended own zero some few is = absurd (omega arith)
-    full_at o used untold fault left replies ended own (suc place) some few is =
+    full_at used untold fault left replies ended own zero some few is = absurd (omega arith)
+    full_at used untold fault left replies ended own (suc place) some few is =
         let long = long_sitters made in
         let up : suc place ≡ place + 1 = omega arith in
         let below : place < greatest_seat script.lines = omega (arith, few) in
         let here : place < length made = omega (arith, below, many) in
         let there = subst (λ (n : ℕ). list_any is_session_full (replies_to n script.lines replies) ≡ true) up is in
-        enough MAX_DECIDED (desk_at made place).sitter.seen callers (length left.journal) (greatest_seat script.lines)
+        enough MAX_DECIDED (desk_at made place).sitter.seen (length o.callers) (length left.journal)
+        (greatest_seat script.lines)
         ((done place below).knows.full (sym (ap (list_any is_session_full) (own place here)) ∙ there))
         (subst (λ (x : Sitter). x.seen ≤ length left.journal) (sitter_there made place)
         (ended.shown place (omega (arith, here, long))))
@@ -143,18 +155,18 @@ module _ (script : Parts) (made : List DeskView) (many : length made ≡ greates
             most ≤ entries + seats
         enough most seen callers entries seats full shown same = omega arith
 
-    fulls : (o : Origin) (used untold : Bool) (fault : Option ℕ) (left : Remains) (replies : List Reply) →
+    fulls : (used untold : Bool) (fault : Option ℕ) (left : Remains) (replies : List Reply) →
         length replies ≡ length script.lines → All (IsWithin (greatest_seat script.lines)) script.lines →
         HasEnded o (sitters made) used untold fault left →
         ((place : ℕ) → place < length made →
         replies_to (place + 1) script.lines replies ≡ (desk_at made place).lines.replies) →
         list_any is_session_full replies ≡ true → MAX_DECIDED ≤ length left.journal + greatest_seat script.lines
-    fulls o used untold fault left replies same within ended own is =
+    fulls used untold fault left replies same within ended own is =
         let a = any_seat (greatest_seat script.lines) is_session_full script.lines replies same within is in
-        full_at o used untold fault left replies ended own a.seat a.some a.few a.any
+        full_at used untold fault left replies ended own a.seat a.some a.few a.any
 
     -- and the whole of it
-    pub beside : All (IsWithin (greatest_seat script.lines)) script.lines → (o : Origin) (c : Effects)
+    pub beside : All (IsWithin (greatest_seat script.lines)) script.lines → (c : Effects)
         (ending so_far : Ending) (fault : Option ℕ) (journal : List Entry)
         (seats : List Sitter) (failure : Option Failure) (honest : Bool) (first told : OutputState)
         (has_stopped lent used : Bool) → used ≡ (has_stopped || lent) →
@@ -171,18 +183,21 @@ module _ (script : Parts) (made : List DeskView) (many : length made ≡ greates
           faults = c.faults;
         }) → EndsWith fault told so_far c.new ending → o.content ≡ c.content → HasFrames o → c.was ≤ o.faults →
         RunsBeside script (counted_from c.was o) c ending
-    beside within o c ending so_far fault journal seats failure honest first told has_stopped lent used is unused
+    beside within c ending so_far fault journal seats failure honest first told has_stopped lent used is unused
         p flushed untold handed ended ends same framed was =
-        let fits = fits_all (greatest_seat script.lines) script.lines p.replies within (fits_at p.replies p.own) in
+        let fits = fits_all (greatest_seat script.lines) (MayLackRoom o) script.lines p.replies within
+        (fits_at p.replies p.own) in
         record {
           replies = p.replies;
           as_many = p.as_many;
-          fits = fits;
+          fits = fitting_still (MayLackRoom o) (MayLackRoom (counted_from c.was o)) (had_from c.was o) script.lines
+              p.replies fits;
           journal = journal;
           fault = fault;
           plain = λ honest. journal_from c.was o journal (ended.plain honest);
-          mark = marks script.lines p.replies journal fits p.as_many has_stopped lent used is unused p.stops ended.mark;
-          parts = parts_of o used c.untold fault _ p.replies ended p.own;
+          mark = marks (MayLackRoom o) script.lines p.replies journal fits p.as_many has_stopped lent used is unused
+              p.stops ended.mark;
+          parts = parts_of used c.untold fault _ p.replies ended p.own;
           told = told;
           prints = subst (Prints c.old told) (append-nil (printed script.lines p.replies))
               (Prints-then c.old first told _ [] p.prints flushed);
@@ -192,8 +207,8 @@ module _ (script : Parts) (made : List DeskView) (many : length made ≡ greates
           synced = ended.synced;
           before = λ either. ended.before either framed ∙ same;
           number = ended.number;
-          failed = failures o used c.untold fault _ p.replies p.as_many within ended p.own;
-          full = fulls o used c.untold fault _ p.replies p.as_many within ended p.own;
+          failed = failures used c.untold fault _ p.replies p.as_many within ended p.own;
+          full = fulls used c.untold fault _ p.replies p.as_many within ended p.own;
           reason = record {
             device = λ is. risen_since was (ended.reason.device is);
             step = λ honest is. risen_since was (ended.reason.step honest is);

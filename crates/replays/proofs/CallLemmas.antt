@@ -1,12 +1,12 @@
 -- What the lines that a session takes come to, by the rules.
-use Rattle.std.proofs.Common.{◌≡◌, refl, sym, ap, ◌∙◌, subst, Bool, true, false, true≢false, ◌&&◌, not, nat_le, ℕ, ◌+◌, ◌≤◌, inl, inr, List, [], ◌∷◌, Option, Some, None, Result, Ok, Err, arith}
+use Rattle.std.proofs.Common.{◌≡◌, refl, sym, ap, ◌∙◌, subst, Bool, true, false, true≢false, ◌&&◌, not, nat_le, ℕ, ◌+◌, ◌≤◌, inl, inr, List, [], ◌∷◌, Option, Some, None, Result, Ok, Err, length, arith}
 use Rattle.page_device.specs.Device.{HasRisen}
 use Rattle.queue_model.specs.Journal.{outcome_for}
 use Rattle.interleavings.proofs.ToldLemmas.{risen_since}
 use Rattle.interleavings.specs.LoneKernelWords.{Answer, Call, Caller, PoolState, State}
 use Rattle.interleavings.specs.interleaving_core.declared.kernel.TheConstants.{MAX_DECIDED}
 use Rattle.session.specs.Making.{SessionState}
-use Rattle.session.specs.Session.{CallsAs, Holds, KeepsFile, saved_of}
+use Rattle.session.specs.Session.{CallsAs, Holds, KeepsFile, pages_of, saved_of}
 use Rattle.session.specs.declared.unanswered.Unanswered.{Unanswered}
 use Rattle.session.specs.declared.unanswered.Unanswered.TheVariants as why
 use Rattle.msgq_cli.specs.Scripts.{caller_of}
@@ -209,22 +209,28 @@ go_along was ids answered (l ∷ ls) (r ∷ rs) old new (next, first, rest) s st
 
 -- ---- whatever the device gives
 
--- a device as honest, with what it had
+-- a device as honest, with what it had, of as many pages
 pub record KeepsDevice (old new : SessionState) : Type 0 where
   pub honest : new.pool.honest ≡ old.pool.honest
   pub saved : saved_of new ≡ saved_of old
+  pub many : pages_of new ≡ pages_of old
 
 keeps : (old mid new : SessionState) → KeepsDevice old mid → KeepsDevice mid new → KeepsDevice old new
-keeps old mid new first second = record { honest = second.honest ∙ first.honest; saved = second.saved ∙ first.saved }
+keeps old mid new first second = record {
+  honest = second.honest ∙ first.honest;
+  saved = second.saved ∙ first.saved;
+  many = second.many ∙ first.many;
+}
 
 kept_same : (old new : SessionState) → new.pool ≡ old.pool → KeepsDevice old new
 kept_same old new same = record {
   honest = ap (λ (p : PoolState). p.honest) same;
   saved = ap (λ (p : PoolState). p.stored) same;
+  many = ap (λ (p : PoolState). length p.images) same;
 }
 
 kept_file : {old new : SessionState} → KeepsFile old new → KeepsDevice old new
-kept_file file = record { honest = file.honest; saved = file.saved }
+kept_file file = record { honest = file.honest; saved = file.saved; many = file.many }
 
 kept_call : (c : Caller) (call : Call) (reply : Reply) (old new : SessionState) (full : Bool) →
     TakesCallIf full c call reply old new → KeepsDevice old new
@@ -236,7 +242,8 @@ kept_call c call reply old new false (inl replied) = elim replied.asks [
       (keeps again.waiting again.stopped new (kept_same again.waiting again.stopped again.stops.pool)
       (kept_file again.made.keeps))
 ]
-kept_call c call reply old new false (inr uncopied) = kept_same old new (ap (λ (k : SessionState). k.pool) uncopied.same)
+kept_call c call reply old new false (inr uncopied) =
+    kept_same old new (ap (λ (k : SessionState). k.pool) uncopied.same)
 
 kept_line : (answered : ℕ) (c : Caller) (said : Command) (reply : Reply) (old new : SessionState) →
     TakesCommand answered c said reply old new → KeepsDevice old new

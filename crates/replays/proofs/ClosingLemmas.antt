@@ -1,6 +1,8 @@
 -- What is left of a replay: its answers are those of plain lists, and its file is that of their system.
-use Rattle.std.proofs.Common.{◌≡◌, ◌↔◌, refl, sym, ap, ◌∙◌, subst, ℕ, zero, suc, ◌&&◌, not, Bool, true, false, true≢false, IsTrue, List, [], ◌∷◌, ◌++◌, Option, Some, None, append-nil}
+use Rattle.std.proofs.Common.{◌≡◌, ◌↔◌, refl, sym, ap, ◌∙◌, subst, ℕ, zero, suc, ◌&&◌, not, Bool, true, false, true≢false, IsTrue, List, [], ◌∷◌, ◌++◌, Option, Some, None, append-nil, length}
 use Rattle.std.specs.List.{list_any}
+use Rattle.std.proofs.lemmas.List.{length-map}
+use Rattle.page_device.specs.Sealed.{payload_of}
 use Rattle.bucket_page.specs.Pseudokeys.{sha_key}
 use Rattle.bucket_page.specs.declared.pseudokey.ShaKey.{ShaKey}
 use Rattle.queue_model.specs.Journal.{part_of}
@@ -90,4 +92,6 @@ module _ (leads : EventsRefine ShaKey) (words : List Event) (first played last :
       file = λ base led honest. closes sha_key base left last.kernel
           (replay_leads leads base words first played last plays goes led) well.idle well.sound
           (well.flushed (honest_still honest));
+      pages = λ honest. sym (length-map left payload_of) ∙ ap length (well.flushed (honest_still honest)).images
+          ∙ (replay_keeps words first played last plays goes).pages;
     }

@@ -7,7 +7,8 @@ use Rattle.msgq_cli.specs.declared.command.Command.{Command}
 use Rattle.msgq_cli.specs.declared.command.Command.TheVariants as commands
 use Rattle.msgq_cli.specs.declared.line.Line.{Line}
 use Rattle.msgq_cli.specs.declared.reply.Reply.{Reply}
-use Rattle.msgq_cli.specs.declared.reply.Reply.TheVariants.{Failed}
+use Rattle.msgq_cli.specs.declared.reply.Reply.TheVariants.{Answered, Failed, Stopped}
+use Rattle.queue_model.specs.declared.call.Call.{Call}
 use Rattle.workers.specs.Fault.{number_of}
 use Rattle.workers.specs.declared.fault.Fault.{Fault}
 use Rattle.workers.specs.declared.fault.Fault.TheVariants as calls
@@ -16,11 +17,12 @@ use Rattle.replays.proofs.LineLemmas.{is_its}
 
 -- ---- one reply
 
-pub call_fault : (fault : Fault) → IsOfCall (number_of fault)
-call_fault calls.NoRoom = inl refl
-call_fault calls.NoMemory = inr (inl refl)
-call_fault calls.SessionFull = inr (inr (inl refl))
-call_fault calls.Failed = inr (inr (inr refl))
+pub call_fault : (MayLack : Call → Type 0) (call : Call) (fault : Fault) → (fault ≡ calls.NoRoom → MayLack call) →
+    IsOfCall MayLack call (number_of fault)
+call_fault MayLack call calls.NoRoom may = inl (refl, may refl)
+call_fault MayLack call calls.NoMemory may = inr (inl refl)
+call_fault MayLack call calls.SessionFull may = inr (inr (inl refl))
+call_fault MayLack call calls.Failed may = inr (inr (inr refl))
 
 -- 62 is that of a failure alone
 pub failed_alone : (fault : Fault) → (number_of fault == 62) ≡ true → fault ≡ calls.Failed
@@ -37,18 +39,36 @@ full_alone calls.SessionFull is = refl
 full_alone calls.Failed is = absurd cc
 
 -- for want of memory each line may be refused
-pub refusal_fits : (command : Command) → Fits command (Failed 60)
-refusal_fits commands.Stop = refl
-refusal_fits (commands.Call call) = inr (inl refl)
+pub refusal_fits : (MayLack : Call → Type 0) (command : Command) → Fits MayLack command (Failed 60)
+refusal_fits MayLack commands.Stop = refl
+refusal_fits MayLack (commands.Call call) = inr (inl refl)
 
-pub fits_more : (lines : List Line) (replies : List Reply) (line : Line) (reply : Reply) →
-    length replies ≡ length lines → AreFitting lines replies → Fits line.command reply →
-    AreFitting (lines ++ line ∷ []) (replies ++ reply ∷ [])
-fits_more [] [] line reply same so_far fits = (fits, tt)
-fits_more [] (r ∷ rs) line reply same so_far fits = absurd (omega arith)
-fits_more (l ∷ ls) [] line reply same so_far fits = absurd (omega arith)
-fits_more (l ∷ ls) (r ∷ rs) line reply same so_far fits =
-    (so_far.0, fits_more ls rs line reply (omega arith) so_far.1 fits)
+pub fits_more : (MayLack : Call → Type 0) (lines : List Line) (replies : List Reply) (line : Line) (reply : Reply) →
+    length replies ≡ length lines → AreFitting MayLack lines replies → Fits MayLack line.command reply →
+    AreFitting MayLack (lines ++ line ∷ []) (replies ++ reply ∷ [])
+fits_more MayLack [] [] line reply same so_far fits = (fits, tt)
+fits_more MayLack [] (r ∷ rs) line reply same so_far fits = absurd (omega arith)
+fits_more MayLack (l ∷ ls) [] line reply same so_far fits = absurd (omega arith)
+fits_more MayLack (l ∷ ls) (r ∷ rs) line reply same so_far fits =
+    (so_far.0, fits_more MayLack ls rs line reply (omega arith) so_far.1 fits)
+
+-- ---- more calls may lack room
+
+module _ (MayLack Other : Call → Type 0) (more : (call : Call) → MayLack call → Other call) where
+  fits_still : (command : Command) (reply : Reply) → Fits MayLack command reply → Fits Other command reply
+  fits_still commands.Stop Stopped fits = tt
+  fits_still commands.Stop (Answered answer) fits = absurd fits
+  fits_still commands.Stop (Failed fault) fits = fits
+  fits_still (commands.Call call) Stopped fits = absurd fits
+  fits_still (commands.Call call) (Answered answer) fits = tt
+  fits_still (commands.Call call) (Failed fault) (inl full) = inl (full.0, more call full.1)
+  fits_still (commands.Call call) (Failed fault) (inr other) = inr other
+
+  pub fitting_still : (lines : List Line) (replies : List Reply) → AreFitting MayLack lines replies →
+      AreFitting Other lines replies
+  fitting_still [] replies fits = tt
+  fitting_still (l ∷ ls) [] fits = tt
+  fitting_still (l ∷ ls) (r ∷ rs) fits = (fits_still l.command r fits.0, fitting_still ls rs fits.1)
 
 -- ---- one of the replies
 
@@ -73,30 +93,31 @@ module _ (many : ℕ) where
   abbrev pub IsWithin : Line → Type 0
   IsWithin line = (1 ≤ line.seat) × (line.seat ≤ many)
 
-  abbrev pub FitsAt : List Line → List Reply → Type 0
-  FitsAt lines replies = (seat : ℕ) → 1 ≤ seat → seat ≤ many →
-      AreFitting (lines_of seat lines) (replies_to seat lines replies)
+  abbrev pub FitsAt : (MayLack : Call → Type 0) → List Line → List Reply → Type 0
+  FitsAt MayLack lines replies = (seat : ℕ) → 1 ≤ seat → seat ≤ many →
+      AreFitting MayLack (lines_of seat lines) (replies_to seat lines replies)
 
-  pub fits_all : (lines : List Line) (replies : List Reply) → All IsWithin lines → FitsAt lines replies →
-      AreFitting lines replies
-  fits_all [] replies within each = tt
-  fits_all (l ∷ ls) [] within each = tt
-  fits_all (l ∷ ls) (r ∷ rs) within each = (own.0, fits_all ls rs (All-tail IsWithin l ls within) others)
+  pub fits_all : (MayLack : Call → Type 0) (lines : List Line) (replies : List Reply) → All IsWithin lines →
+      FitsAt MayLack lines replies → AreFitting MayLack lines replies
+  fits_all MayLack [] replies within each = tt
+  fits_all MayLack (l ∷ ls) [] within each = tt
+  fits_all MayLack (l ∷ ls) (r ∷ rs) within each =
+      (own.0, fits_all MayLack ls rs (All-tail IsWithin l ls within) others)
     where
       Split : ℕ → Bool → Type 0
-      Split seat b = AreFitting (if b then l ∷ lines_of seat ls else lines_of seat ls)
+      Split seat b = AreFitting MayLack (if b then l ∷ lines_of seat ls else lines_of seat ls)
           (if b then r ∷ replies_to seat ls rs else replies_to seat ls rs)
 
-      own : AreFitting (l ∷ lines_of l.seat ls) (r ∷ replies_to l.seat ls rs)
+      own : AreFitting MayLack (l ∷ lines_of l.seat ls) (r ∷ replies_to l.seat ls rs)
       own =
           let here = All-head IsWithin l ls within in
           subst (Split l.seat) (is_its l.seat l refl) (each l.seat here.0 here.1)
 
-      drop : (seat : ℕ) (b : Bool) → Split seat b → AreFitting (lines_of seat ls) (replies_to seat ls rs)
+      drop : (seat : ℕ) (b : Bool) → Split seat b → AreFitting MayLack (lines_of seat ls) (replies_to seat ls rs)
       drop seat true fits = fits.1
       drop seat false fits = fits
 
-      others : FitsAt ls rs
+      others : FitsAt MayLack ls rs
       others seat some few = drop seat (is_line_of seat l) (each seat some few)
 
   -- one of the replies is one to a seat

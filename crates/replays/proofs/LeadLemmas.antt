@@ -102,10 +102,16 @@ same_keeps old new callers pool = record {
   callers = callers;
   honest = ap (λ (p : PoolState). p.honest) pool;
   stored = ap spared pool;
+  pages = ap (λ (p : PoolState). length p.images) pool;
 }
 
 rest_keeps : (old new : KernelState ShaKey) → KeepsRest old new → KeepsCallers old new
-rest_keeps old new rest = record { callers = rest.callers; honest = rest.honest; stored = rest.stored }
+rest_keeps old new rest = record {
+  callers = rest.callers;
+  honest = rest.honest;
+  stored = rest.stored;
+  pages = rest.pages;
+}
 
 stop_keeps : (old new : KernelState ShaKey) → IsStopped old new → (b : Bool) → old.stopped ≡ b → KeepsCallers old new
 stop_keeps old new stops true is =
@@ -140,6 +146,7 @@ keeps_on first old new (inr it) kept =
       callers = next.callers ∙ kept.callers;
       honest = next.honest ∙ kept.honest;
       stored = next.stored ∙ kept.stored;
+      pages = next.pages ∙ kept.pages;
     }
 
 -- and as many seats
@@ -178,7 +185,7 @@ pub replay_keeps : (words : List Word) (first played last : ReplayState) → Pla
     MakesRounds played last → KeepsCallers first.kernel last.kernel
 replay_keeps words first played last plays goes =
     throughout (KeepsCallers first.kernel) (keeps_on first.kernel) words first played last plays goes
-    (record { callers = refl; honest = refl; stored = refl })
+    (record { callers = refl; honest = refl; stored = refl; pages = refl })
 
 pub replay_leads : EventsRefine ShaKey → (base : State) (words : List Word) (first played last : ReplayState) →
     PlaysAll words first played → MakesRounds played last → Refines sha_key base first.kernel →

@@ -8,25 +8,26 @@ use Rattle.msgq_cli.specs.declared.line.Line.{Line}
 use Rattle.msgq_cli.specs.declared.reply.Reply.{Reply}
 use Rattle.msgq_cli.specs.declared.reply.Reply.TheVariants.{Failed}
 use Rattle.queue_model.specs.declared.entry.Entry.{Entry}
+use Rattle.workers.specs.Origins.{Origin}
 use Rattle.workers.specs.Told.{IsSameSeat, SeesFull}
 use Rattle.replays.specs.Journal.{entry_at}
 use Rattle.replays.proofs.FitLemmas.{any_more, fits_more}
 use Rattle.replays.proofs.LineLemmas.{entries_more, other_more, own_more, room_at}
-use Rattle.replays.specs.Desks.{DeskView, IsFresh, IsMadeOf, KnowsWhy}
+use Rattle.replays.specs.Desks.{DeskView, IsFresh, IsMadeOf, KnowsWhy, MayLackRoom}
 use Rattle.replays.specs.Lines.{AreFitting, Fits, HasMade, entries_to, is_failure, is_line_of, is_session_full, lines_of}
 
 -- of the lines of its script these were made
-pub record IsMaking (many : ℕ) (taken : List Line) (old d : DeskView) : Type 0 where
+pub record IsMaking (o : Origin) (taken : List Line) (old d : DeskView) : Type 0 where
   pub seat : d.lines.seat ≡ old.lines.seat
   pub lines_are : d.lines.lines ≡ old.lines.lines
   pub at_seat : d.sitter.seat ≡ d.lines.seat
   pub all : length d.lines.replies ≡ length (lines_of old.lines.seat taken)
-  pub fits : AreFitting (lines_of old.lines.seat taken) d.lines.replies
+  pub fits : AreFitting (MayLackRoom o) (lines_of old.lines.seat taken) d.lines.replies
   pub told : d.sitter.list ≡ entries_to (lines_of old.lines.seat taken) d.lines.replies
-  pub knows : KnowsWhy many d.lines.replies d.sitter
+  pub knows : KnowsWhy (length o.callers) d.lines.replies d.sitter
 
-pub making_starts : (many : ℕ) (d : DeskView) → IsFresh d → d.sitter.seat ≡ d.lines.seat → IsMaking many [] d d
-making_starts many d fresh at = record {
+pub making_starts : (o : Origin) (d : DeskView) → IsFresh d → d.sitter.seat ≡ d.lines.seat → IsMaking o [] d d
+making_starts o d fresh at = record {
   seat = refl;
   lines_are = refl;
   at_seat = at;
@@ -39,15 +40,15 @@ making_starts many d fresh at = record {
   };
 }
 
-pub making_skips : (many : ℕ) (taken : List Line) (old d : DeskView) (line : Line) → IsMaking many taken old d →
-    is_line_of old.lines.seat line ≡ false → IsMaking many (taken ++ line ∷ []) old d
-making_skips many taken old d line m other =
+pub making_skips : (o : Origin) (taken : List Line) (old d : DeskView) (line : Line) → IsMaking o taken old d →
+    is_line_of old.lines.seat line ≡ false → IsMaking o (taken ++ line ∷ []) old d
+making_skips o taken old d line m other =
     let own = other_more old.lines.seat taken line other in record {
       seat = m.seat;
       lines_are = m.lines_are;
       at_seat = m.at_seat;
       all = m.all ∙ sym (ap length own);
-      fits = subst (λ (l : List Line). AreFitting l d.lines.replies) (sym own) m.fits;
+      fits = subst (λ (l : List Line). AreFitting (MayLackRoom o) l d.lines.replies) (sym own) m.fits;
       told = m.told ∙ sym (ap (λ (l : List Line). entries_to l d.lines.replies) own);
       knows = m.knows;
     }
@@ -56,13 +57,13 @@ making_skips many taken old d line m other =
 more_seen : (most seen later many : ℕ) → seen ≤ later → most ≤ seen + many → most ≤ later + many
 more_seen most seen later many grows full = omega arith
 
-pub making_goes : (many : ℕ) (taken : List Line) (old d e : DeskView) (line : Line) (reply : Reply) →
-    IsMaking many taken old d → is_line_of old.lines.seat line ≡ true →
+pub making_goes : (o : Origin) (taken : List Line) (old d e : DeskView) (line : Line) (reply : Reply) →
+    IsMaking o taken old d → is_line_of old.lines.seat line ≡ true →
     e.sitter.list ≡ d.sitter.list ++ entry_at line (Some reply) → IsSameSeat d.sitter e.sitter →
-    Fits line.command reply → (is_failure reply ≡ true → e.sitter.failed ≡ true) →
-    (is_session_full reply ≡ true → SeesFull many e.sitter) →
-    e.lines ≡ record d.lines { replies = d.lines.replies ++ reply ∷ [] } → IsMaking many (taken ++ line ∷ []) old e
-making_goes many taken old d e line reply m its told same fits failed full lines =
+    Fits (MayLackRoom o) line.command reply → (is_failure reply ≡ true → e.sitter.failed ≡ true) →
+    (is_session_full reply ≡ true → SeesFull (length o.callers) e.sitter) →
+    e.lines ≡ record d.lines { replies = d.lines.replies ++ reply ∷ [] } → IsMaking o (taken ++ line ∷ []) old e
+making_goes o taken old d e line reply m its told same fits failed full lines =
     let own = own_more old.lines.seat taken line its in
     let replies : e.lines.replies ≡ d.lines.replies ++ reply ∷ [] = ap (λ v. v.replies) lines in
     let number : e.lines.seat ≡ d.lines.seat = ap (λ v. v.seat) lines in
@@ -73,9 +74,9 @@ making_goes many taken old d e line reply m its told same fits failed full lines
       at_seat = same.seat ∙ m.at_seat ∙ sym number;
       all = ap length replies ∙ length-append d.lines.replies (reply ∷ []) ∙ ap (λ (n : ℕ). n + 1) m.all
           ∙ sym (length-append more (line ∷ [])) ∙ sym (ap length own);
-      fits = subst (λ (l : List Line). AreFitting l e.lines.replies) (sym own)
-          (subst (AreFitting (more ++ line ∷ [])) (sym replies)
-          (fits_more more d.lines.replies line reply m.all m.fits fits));
+      fits = subst (λ (l : List Line). AreFitting (MayLackRoom o) l e.lines.replies) (sym own)
+          (subst (AreFitting (MayLackRoom o) (more ++ line ∷ [])) (sym replies)
+          (fits_more (MayLackRoom o) more d.lines.replies line reply m.all m.fits fits));
       told = told ∙ ap (λ (l : List Entry). l ++ entry_at line (Some reply)) m.told
           ∙ sym (entries_more more d.lines.replies line reply m.all)
           ∙ sym (ap (λ (l : List Line). entries_to l (d.lines.replies ++ reply ∷ [])) own)
@@ -87,25 +88,26 @@ making_goes many taken old d e line reply m its told same fits failed full lines
         ];
         full = λ is.
             elim (any_more is_session_full d.lines.replies reply (sym (ap (list_any is_session_full) replies) ∙ is)) [
-              | inl before ↦ more_seen MAX_DECIDED d.sitter.seen e.sitter.seen many same.seen (m.knows.full before)
+              | inl before ↦ more_seen MAX_DECIDED d.sitter.seen e.sitter.seen (length o.callers) same.seen
+                  (m.knows.full before)
               | inr now ↦ full now
             ];
       };
     }
 
 -- there is room for the reply to a line that is its own
-pub making_room : (many : ℕ) (lines : List Line) (i : ℕ) (old d : DeskView) (line : Line) → lines ≡ old.lines.lines →
-    IsMaking many (take i lines) old d → i < length lines → get_or lines i line ≡ line → line.seat ≡ d.lines.seat →
+pub making_room : (o : Origin) (lines : List Line) (i : ℕ) (old d : DeskView) (line : Line) → lines ≡ old.lines.lines →
+    IsMaking o (take i lines) old d → i < length lines → get_or lines i line ≡ line → line.seat ≡ d.lines.seat →
     length d.lines.replies < length (lines_of d.lines.seat d.lines.lines)
-making_room many lines i old d line whole m below is at =
+making_room o lines i old d line whole m below is at =
     let fewer = room_at old.lines.seat lines i line below is (at ∙ m.seat) in
     let all = m.all in
     let same = ap (λ (n : ℕ). length (lines_of n d.lines.lines)) m.seat
     ∙ ap (λ (l : List Line). length (lines_of old.lines.seat l)) (m.lines_are ∙ sym whole) in
     omega (arith, fewer, all, same)
 
-pub making_ends : (many : ℕ) (old d : DeskView) → IsMaking many old.lines.lines old d → IsMadeOf many old d
-making_ends many old d m =
+pub making_ends : (o : Origin) (old d : DeskView) → IsMaking o old.lines.lines old d → IsMadeOf o old d
+making_ends o old d m =
     let same = ap (λ (n : ℕ). lines_of n d.lines.lines) m.seat
     ∙ ap (λ (l : List Line). lines_of old.lines.seat l) m.lines_are in record {
       seat = m.seat;
@@ -113,7 +115,7 @@ making_ends many old d m =
       at_seat = m.at_seat;
       made = record {
         all = m.all ∙ sym (ap length same);
-        fits = subst (λ (l : List Line). AreFitting l d.lines.replies) (sym same) m.fits;
+        fits = subst (λ (l : List Line). AreFitting (MayLackRoom o) l d.lines.replies) (sym same) m.fits;
         told = m.told ∙ sym (ap (λ (l : List Line). entries_to l d.lines.replies) same);
       };
       knows = m.knows;

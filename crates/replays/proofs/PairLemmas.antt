@@ -9,8 +9,9 @@ use Rattle.msgq_cli.specs.declared.line.Line.{Line}
 use Rattle.workers.specs.Views.{no_place, nobody}
 use Rattle.workers.specs.Closing.{HasMissing, sits_at}
 use Rattle.workers.specs.Opening.{newcomers}
+use Rattle.workers.specs.Origins.{Origin}
 use Rattle.workers.specs.Told.{Sitter}
-use Rattle.replays.specs.Desks.{AreFresh, AreMade, ArePaired, AreUntouched, DeskView, KnowsWhy, desk_at, lines_at, no_lines}
+use Rattle.replays.specs.Desks.{AreFresh, AreMade, ArePaired, AreUntouched, DeskView, KnowsWhy, MayLackRoom, desk_at, lines_at, no_lines}
 use Rattle.replays.specs.Lines.{AreFitting, LinesView, entries_to, lines_of}
 use Rattle.replays.specs.Printing.{AreOfSeats}
 
@@ -59,11 +60,11 @@ newcomer_at (suc n) place below = by (cases_eq place n) (λ few. newcomer_at n p
 
 -- ---- desks
 
--- one of so many seats has made its lines, and was told their entries
-pub record HasDone (callers : ℕ) (script : List Line) (place : ℕ) (d : DeskView) : Type 0 where
+-- a seat of a service that began so has made its lines, and was told their entries
+pub record HasDone (o : Origin) (script : List Line) (place : ℕ) (d : DeskView) : Type 0 where
   pub seat : d.sitter.seat ≡ place + 1
-  pub fits : AreFitting (lines_of (place + 1) script) d.lines.replies
-  pub knows : KnowsWhy callers d.lines.replies d.sitter
+  pub fits : AreFitting (MayLackRoom o) (lines_of (place + 1) script) d.lines.replies
+  pub knows : KnowsWhy (length o.callers) d.lines.replies d.sitter
   pub told : d.sitter.list ≡ entries_to (lines_of (place + 1) script) d.lines.replies
 
 -- a seat and its lines have one number
@@ -87,7 +88,7 @@ module _ (script : List Line) (many : ℕ) (lines : List LinesView) (desks : Lis
         ∙ (fresh.each place (within place below)).unmade;
   }
 
-  module _ (callers : ℕ) (made : List DeskView) (are : AreMade callers desks made) where
+  module _ (o : Origin) (made : List DeskView) (are : AreMade o desks made) where
     pub many_made : length made ≡ many
     many_made = are.as_many ∙ paired.as_many ∙ length-newcomers many
 
@@ -122,13 +123,14 @@ module _ (script : List Line) (many : ℕ) (lines : List LinesView) (desks : Lis
           };
     }
 
-    pub done_at : (place : ℕ) → place < many → HasDone callers script place (desk_at made place)
+    pub done_at : (place : ℕ) → place < many → HasDone o script place (desk_at made place)
     done_at place below =
         let d : DeskView = desk_at made place in record {
           seat = sitter_at place below;
-          fits = subst (λ (l : List Line). AreFitting (lines_of (place + 1) l) d.lines.replies)
+          fits = subst (λ (l : List Line). AreFitting (MayLackRoom o) (lines_of (place + 1) l) d.lines.replies)
               (lines_there place below)
-              (subst (λ (n : ℕ). AreFitting (lines_of n d.lines.lines) d.lines.replies) (seat_at place below)
+              (subst (λ (n : ℕ). AreFitting (MayLackRoom o) (lines_of n d.lines.lines) d.lines.replies)
+              (seat_at place below)
               (are.each place (here place below)).made.fits);
           knows = (are.each place (here place below)).knows;
           told = (are.each place (here place below)).made.told

@@ -1,5 +1,5 @@
 -- Files opened, run on and closed.
-use Rattle.std.proofs.Common.{◌≡◌, ◌≢◌, ◌⊎◌, inl, inr, Bool, true, false, true≢false, List, ℕ, refl, sym, ◌∙◌, subst, Option, Some, None, Result, Ok, Err, arith}
+use Rattle.std.proofs.Common.{◌≡◌, ◌≢◌, ◌⊎◌, inl, inr, Bool, true, false, true≢false, List, length, ℕ, refl, sym, ◌∙◌, subst, Option, Some, None, Result, Ok, Err, arith}
 use Rattle.page_device.specs.Device.{HasRisen}
 use Rattle.page_device.specs.Fault.{number_of}
 use Rattle.page_device.specs.declared.fault.DeviceFault.{DeviceFault}
@@ -17,7 +17,7 @@ use Rattle.interleavings.proofs.ToldLemmas.{risen_since}
 use Rattle.interleavings.proofs.of_file_check.Today.{file_has_no_fault}
 use Rattle.interleavings.specs.Files.{no_queues}
 use Rattle.session.specs.Making.{SessionState}
-use Rattle.session.specs.Session.{ClosesOn, Holds, OpensAny}
+use Rattle.session.specs.Session.{ClosesOn, Holds, OpensAny, pages_of}
 use Rattle.msgq_cli.specs.record_file.Files.{IsNewFile, MayNotFormat}
 use Rattle.msgq_cli.specs.file_check.declared.fault.CheckFault.TheVariants.{Structure}
 use Rattle.msgq_cli.specs.file_check.Whole.{IsFileOf}
@@ -80,6 +80,13 @@ module _ (was faults : ℕ) (k : SessionState) (left : List (List ℕ)) (untold 
   ends_unclosed closes.Device sound closed (Some s) stands =
       inr (record { told = refl; risen = risen_since stands.later (closed s stands.holds) })
   ends_unclosed closes.Failed sound closed (Some s) stands = absurd (closed s stands.holds)
+
+  -- where none is told there are as many pages as it had
+  pub ends_as_many : (s : Option State) → Stands was k s → (fault : Option ℕ) →
+      EndsWell s left untold was faults fault → fault ≡ None →
+      ((s : State) → Holds s k → length left ≡ pages_of k) → length left ≡ pages_of k
+  ends_as_many None stands fault fails none pages = absurd (let told = fails.told in cc)
+  ends_as_many (Some s) stands fault ends none pages = pages s stands.holds
 
 -- ---- a text
 

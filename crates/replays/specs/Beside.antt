@@ -15,21 +15,23 @@ use Rattle.msgq_cli.specs.declared.line.Line.{Line}
 use Rattle.msgq_cli.specs.declared.reply.Reply.{Reply}
 use Rattle.msgq_cli.specs.record_file.Files.{IsNewFile}
 use Rattle.queue_model.specs.Journal.{part_of}
+use Rattle.queue_model.specs.declared.call.Call.{Call}
 use Rattle.queue_model.specs.declared.entry.Entry.{Entry}
 use Rattle.replays.specs.Replays.{EndsWith, callers_of}
 use Rattle.replays.specs.Texts.{Effects, IsUnopened}
 use Rattle.replays.specs.Serves.{RunsNew, RunsOn}
 use Rattle.replays.specs.declared.serving.TheConstants.{MEMORY_PAGES}
+use Rattle.workers.specs.Causes.{HadToInsert}
 use Rattle.workers.specs.Closing.{Each, IsMarked, Remains}
 use Rattle.workers.specs.Origins.{HasFrames, IsJournalOf, LeavesFile, Origin}
 use Rattle.workers.specs.Told.{Sitter}
-use Rattle.replays.specs.Lines.{AreFitting, Marks, entries_to, is_failure, is_session_full, lines_of, replies_to}
+use Rattle.replays.specs.Lines.{AreFitting, Marks, entries_to, is_failure, is_session_full}
 
 -- ---- what is told
 
 -- what the lines of a seat were answered, in their order
 abbrev pub told_to : ℕ → List Line → List Reply → List Entry
-told_to seat lines replies = entries_to (lines_of seat lines) (replies_to seat lines replies)
+told_to seat lines replies = part_of seat (entries_to lines replies)
 
 -- what a seat was told is its part of a journal, in order, each entry once; where a step has failed the part may have
 -- one entry more, of a call that was decided and whose seat was told of the failure
@@ -90,13 +92,13 @@ counted_from was o = record o { faults = was; frames = length o.content }
 
 -- the lines of all seats were made, their replies were printed in the order of the script and handed on, and only then
 -- the file was written; a fault is printed after the replies, or none. Of an honest device their journal is so, and so
--- are the pages that it leaves
+-- are the pages that it leaves, and the calls that found no room
 pub record RunsBesideBy (IsJournal : List Entry → Type 0) (Leaves : List Entry → List (List ℕ) → Type 0)
-    (script : Parts) (honest : Bool) (c : Effects) (ending : Ending) : Type 0 where
+    (MayLack : Call → Type 0) (script : Parts) (honest : Bool) (c : Effects) (ending : Ending) : Type 0 where
   pub replies : List Reply
   pub as_many : length replies ≡ length script.lines
   -- a stop as a stop, a call by its answer or by why it has none
-  pub fits : AreFitting script.lines replies
+  pub fits : AreFitting (λ call. IsTrue honest → MayLack call) script.lines replies
   pub journal : List Entry
   pub fault : Option ℕ
   pub plain : IsTrue honest → IsJournal journal
@@ -123,7 +125,7 @@ pub record RunsBesideBy (IsJournal : List Entry → Type 0) (Leaves : List Entry
 
 -- from the file of a system
 abbrev pub RunsBeside : Parts → Origin → Effects → Ending → Type 0
-RunsBeside script o c ending = RunsBesideBy (IsJournalOf o) (LeavesFile o) script o.honest c ending
+RunsBeside script o c ending = RunsBesideBy (IsJournalOf o) (LeavesFile o) (HadToInsert o) script o.honest c ending
 
 -- or the file is not opened
 abbrev pub RunsFrom : Parts → Origin → Effects → Ending → Type 0

@@ -1,11 +1,14 @@
 -- Desks: the seats of a service, each with its lines of a script. docs/SCRIPTS.md, "Runs".
-use Rattle.std.specs.Prelude.{ℕ, ◌≡◌, ◌+◌, ◌<◌, ◌≤◌, Bool, true, List, [], length, replicate, slice_index_or}
+use Rattle.std.specs.Prelude.{ℕ, ◌≡◌, ◌+◌, ◌<◌, ◌≤◌, Bool, true, IsTrue, List, [], length, replicate, slice_index_or}
 use Rattle.std.specs.List.{list_any}
 use Rattle.bucket_page.specs.declared.pseudokey.ShaKey.{ShaKey}
 use Rattle.msgq_cli.specs.Scripts.{Parts, greatest_seat}
 use Rattle.msgq_cli.specs.declared.line.Line.{Line}
 use Rattle.msgq_cli.specs.declared.reply.Reply.{Reply}
 use Rattle.replays.specs.Replays.{callers_of}
+use Rattle.queue_model.specs.declared.call.Call.{Call}
+use Rattle.workers.specs.Causes.{HadToInsert}
+use Rattle.workers.specs.Origins.{Origin}
 use Rattle.workers.specs.Views.{nobody}
 use Rattle.workers.specs.Opening.{PreparedView}
 use Rattle.workers.specs.Told.{SeesFull, Sitter}
@@ -71,23 +74,27 @@ pub record IsFresh (d : DeskView) : Type 0 where
 abbrev pub AreUntouched : List DeskView → Type 0
 AreUntouched desks = (place : ℕ) → place < length desks → IsFresh (desk_at desks place)
 
+-- of an honest device a call is told that there is no room only where it had something to insert
+abbrev pub MayLackRoom : Origin → Call → Type 0
+MayLackRoom o call = IsTrue o.honest → HadToInsert o call
+
 -- one of so many seats knows why it was replied so: that a step has failed, or that the session is full
 pub record KnowsWhy (many : ℕ) (replies : List Reply) (x : Sitter) : Type 0 where
   pub failed : list_any is_failure replies ≡ true → x.failed ≡ true
   pub full : list_any is_session_full replies ≡ true → SeesFull many x
 
--- at one of so many desks the lines were made, or refused
-pub record IsMadeOf (many : ℕ) (old new : DeskView) : Type 0 where
+-- at a desk of a service that began so the lines were made, or refused
+pub record IsMadeOf (o : Origin) (old new : DeskView) : Type 0 where
   pub seat : new.lines.seat ≡ old.lines.seat
   pub lines_are : new.lines.lines ≡ old.lines.lines
   pub at_seat : new.sitter.seat ≡ new.lines.seat
-  pub made : HasMade new.lines new.sitter.list
-  pub knows : KnowsWhy many new.lines.replies new.sitter
+  pub made : HasMade (MayLackRoom o) new.lines new.sitter.list
+  pub knows : KnowsWhy (length o.callers) new.lines.replies new.sitter
 
 -- so at each of these desks
-pub record AreMade (many : ℕ) (old new : List DeskView) : Type 0 where
+pub record AreMade (o : Origin) (old new : List DeskView) : Type 0 where
   pub as_many : length new ≡ length old
-  pub each : (place : ℕ) → place < length old → IsMadeOf many (desk_at old place) (desk_at new place)
+  pub each : (place : ℕ) → place < length old → IsMadeOf o (desk_at old place) (desk_at new place)
 
 -- at each desk is a seat with its lines
 pub record ArePaired (seats : List Sitter) (lines : List LinesView) (desks : List DeskView) : Type 0 where

@@ -7,6 +7,7 @@ use Rattle.msgq_cli.specs.declared.command.Command.TheVariants as commands
 use Rattle.msgq_cli.specs.declared.line.Line.{Line}
 use Rattle.msgq_cli.specs.declared.reply.Reply.{Reply}
 use Rattle.msgq_cli.specs.declared.reply.Reply.TheVariants.{Answered, Failed, Stopped}
+use Rattle.queue_model.specs.declared.call.Call.{Call}
 use Rattle.queue_model.specs.declared.entry.Entry.{Entry}
 use Rattle.workers.specs.Closing.{IsMarked}
 use Rattle.replays.specs.Journal.{entries_at}
@@ -28,18 +29,20 @@ replies_to seat lines replies = []
 abbrev pub entries_to : List Line → List Reply → List Entry
 entries_to lines replies = entries_at lines (map Some replies)
 
--- why a call is not answered: there is no room, no memory, the session is full, or a step has failed
-abbrev pub IsOfCall : ℕ → Type 0
-IsOfCall fault = (fault ≡ NO_ROOM) ⊎ (fault ≡ NO_MEMORY) ⊎ (fault ≡ SESSION_FULL) ⊎ (fault ≡ FAILED)
+-- why a call is not answered: there is no room, which is so of some calls only, or no memory, the session is full, or
+-- a step has failed
+abbrev pub IsOfCall : (MayLack : Call → Type 0) → Call → ℕ → Type 0
+IsOfCall MayLack call fault =
+    ((fault ≡ NO_ROOM) × MayLack call) ⊎ (fault ≡ NO_MEMORY) ⊎ (fault ≡ SESSION_FULL) ⊎ (fault ≡ FAILED)
 
 -- what a command may be replied: a stop is made, or lacks memory; a call is answered, or is told why it is not
-abbrev pub Fits : Command → Reply → Type 0
-Fits commands.Stop Stopped = ⊤
-Fits commands.Stop (Answered answer) = ⊥
-Fits commands.Stop (Failed fault) = fault ≡ NO_MEMORY
-Fits (commands.Call call) Stopped = ⊥
-Fits (commands.Call call) (Answered answer) = ⊤
-Fits (commands.Call call) (Failed fault) = IsOfCall fault
+abbrev pub Fits : (MayLack : Call → Type 0) → Command → Reply → Type 0
+Fits MayLack commands.Stop Stopped = ⊤
+Fits MayLack commands.Stop (Answered answer) = ⊥
+Fits MayLack commands.Stop (Failed fault) = fault ≡ NO_MEMORY
+Fits MayLack (commands.Call call) Stopped = ⊥
+Fits MayLack (commands.Call call) (Answered answer) = ⊤
+Fits MayLack (commands.Call call) (Failed fault) = IsOfCall MayLack call fault
 
 -- it was replied that a step has failed
 abbrev pub is_failure : Reply → Bool
@@ -64,9 +67,9 @@ abbrev pub is_stop : Line → Bool
 is_stop line = is_no_call line.command
 
 -- so each of these lines was replied
-abbrev pub AreFitting : List Line → List Reply → Type 0
-AreFitting (line ∷ lines) (reply ∷ replies) = Fits line.command reply × AreFitting lines replies
-AreFitting lines replies = ⊤
+abbrev pub AreFitting : (MayLack : Call → Type 0) → List Line → List Reply → Type 0
+AreFitting MayLack (line ∷ lines) (reply ∷ replies) = Fits MayLack line.command reply × AreFitting MayLack lines replies
+AreFitting MayLack lines replies = ⊤
 
 -- a stop stands in the journal once where a line was replied that it is made, and never where no line is one
 pub record Marks (lines : List Line) (replies : List Reply) (journal : List Entry) : Type 0 where
@@ -87,7 +90,7 @@ pub record HasRoom (seat : ℕ) (lines : List Line) (replies : List Reply) (room
   pub fits : length (lines_of seat lines) ≤ room
 
 -- all of them were made, and the seat was told these entries
-pub record HasMade (s : LinesView) (list : List Entry) : Type 0 where
+pub record HasMade (MayLack : Call → Type 0) (s : LinesView) (list : List Entry) : Type 0 where
   pub all : length s.replies ≡ length (lines_of s.seat s.lines)
-  pub fits : AreFitting (lines_of s.seat s.lines) s.replies
+  pub fits : AreFitting MayLack (lines_of s.seat s.lines) s.replies
   pub told : list ≡ entries_to (lines_of s.seat s.lines) s.replies

@@ -1,6 +1,6 @@
 -- The answers of a replay are those of plain lists, and its file is left as that of their system.
 -- docs/SCRIPTS.md, "Schedules"; docs/QUEUES.md, "Journals".
-use Rattle.std.specs.Prelude.{ℕ, ◌≡◌, IsTrue, List}
+use Rattle.std.specs.Prelude.{ℕ, ◌≡◌, IsTrue, List, length}
 use Rattle.bucket_page.specs.Pseudokeys.{sha_key}
 use Rattle.interleavings.specs.interleaving_core.Kernel.{KernelState}
 use Rattle.interleavings.specs.interleaving_core.Words.{spared}
@@ -15,6 +15,8 @@ pub record KeepsCallers {K : Type 0} (old new : KernelState K) : Type 0 where
   pub callers : new.callers ≡ old.callers
   pub honest : new.pool.honest ≡ old.pool.honest
   pub stored : spared new.pool ≡ spared old.pool
+  -- of as many pages
+  pub pages : length new.pool.images ≡ length old.pool.images
 
 -- what is so where the kernel was closed with no fault
 pub record IsLeftWell (first last : ReplayState) (left : List (List ℕ)) : Type 0 where
@@ -24,6 +26,8 @@ pub record IsLeftWell (first last : ReplayState) (left : List (List ℕ)) : Type
   -- an honest device has the file of the system after the journal
   pub file : (base : State) → Refines sha_key base first.kernel → IsTrue first.kernel.pool.honest →
       IsFileOf sha_key left (restarted (after last.kernel.callers last.kernel.journal base))
+  -- with as many pages as before
+  pub pages : IsTrue first.kernel.pool.honest → length left ≡ length first.kernel.pool.images
 
 -- whatever the schedule: the answers are those of plain lists asked one call at a time
 pub record AnswersAsPlainLists (first last : ReplayState) : Type 0 where

@@ -1,6 +1,6 @@
 -- What a script comes to that is run on a file, in words of the rules of queues, of what is printed and of pages alone:
 -- no kernel is spoken of. docs/SCRIPTS.md, "Runs".
-use Rattle.std.specs.Prelude.{◌≡◌, ◌⊎◌, ℕ, true, false, IsTrue, List, [], ◌∷◌, Bool, Option, Some, None}
+use Rattle.std.specs.Prelude.{◌≡◌, ◌⊎◌, ℕ, true, false, IsTrue, List, [], ◌∷◌, Bool, Option, Some, None, length}
 use Rattle.numbers.specs.declared.faults.TheConstants.{FAILED, NO_MEMORY, NO_ROOM, SESSION_FULL}
 use Rattle.bucket_page.specs.Pseudokeys.{sha_key}
 use Rattle.interleavings.specs.LoneKernelWords.{Call, Caller, State, outcome}
@@ -81,6 +81,8 @@ pub record IsPlainRunBy (Rules : List Reply → Option ℕ → Type 0) (script :
   -- what was told has happened, on an honest device, which is synced behind the last write
   pub rules : IsTrue honest → Rules replies fault
   pub synced : c.untold ≡ false → fault ≡ None → IsTrue honest → IsTrue c.synced
+  -- and there are as many pages
+  pub pages : c.untold ≡ false → fault ≡ None → IsTrue honest → length c.left ≡ length c.content
   -- what can't be told has not
   pub before : c.untold ≡ true → c.left ≡ c.content
 

@@ -3,7 +3,7 @@
 ghost use Rattle.std.specs.Prelude.{◌≡◌, ◌<◌, ◌≤◌, ℕ, ◌++◌, [], Some, length, map, slice_index_or, true, vec_capacity};
 ghost use Rattle.replays.specs.Journal.{entry_at};
 ghost use Rattle.workers.specs.Views.{nobody};
-ghost use Rattle.replays.specs.Desks.{ArePaired, DeskView, IsFresh, IsMadeOf, lines_at};
+ghost use Rattle.replays.specs.Desks.{ArePaired, DeskView, IsFresh, IsMadeOf, MayLackRoom, lines_at};
 ghost use Rattle.replays.specs.Lines.{Fits, is_failure, is_session_full};
 ghost use Rattle.workers.specs.Told.{IsSameSeat, SeesFull};
 
@@ -56,7 +56,7 @@ impl<'s, N: Room + Base> Desk<'s, N> {
         stopper: Option<&Mutex<Stopper<N>>>,
     )
         requires fresh { IsFresh self.old }
-        ensures made { IsMadeOf (length N.origin.callers) self.old self.new }
+        ensures made { IsMadeOf N.origin self.old self.new }
     {
         for line in self.lines.script() {
             if line.seat == self.lines.seat() {
@@ -69,7 +69,7 @@ impl<'s, N: Room + Base> Desk<'s, N> {
     /// Makes none of its lines: each is replied 60.
     pub fn refuse(&mut self)
         requires fresh { IsFresh self.old }
-        ensures made { IsMadeOf (length N.origin.callers) self.old self.new }
+        ensures made { IsMadeOf N.origin self.old self.new }
     {
         for line in self.lines.script() {
             if line.seat == self.lines.seat() {
@@ -130,7 +130,7 @@ fn reply<C: Waiter, D: PageDevice + Drop, N: Room + Base>(
 ) -> Reply
     requires { seat.old.seat ≡ line.now.seat }
     ensures told { seat.new.list ≡ seat.old.list ++ entry_at line.now (Some result) }
-    ensures fits { Fits line.now.command result }
+    ensures fits { Fits (MayLackRoom N.origin) line.now.command result }
     ensures failed { is_failure result ≡ true → seat.new.failed ≡ true }
     ensures full { is_session_full result ≡ true → SeesFull (length N.origin.callers) seat.new }
     ensures same { IsSameSeat seat.old seat.new }

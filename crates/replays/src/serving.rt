@@ -1,12 +1,12 @@
 //! Scripts run on the file of a device, and on a file in memory.
 
-ghost use Rattle.std.specs.Prelude.{◌≡◌, ◌⊎◌, ℕ, false, true, IsTrue, None, Option};
+ghost use Rattle.std.specs.Prelude.{◌≡◌, ◌⊎◌, ℕ, false, true, IsTrue, None, Option, length};
 ghost use Rattle.interleavings.specs.LoneKernelWords.{State};
 ghost use Rattle.replays.specs.PlainRuns.{RunsPlainly};
 ghost use Rattle.replays.specs.Runs.{EndsWell, Stands};
 ghost use Rattle.replays.specs.Serves.{RunsInput, RunsOn, RunsText, RunsTextOn};
 ghost use Rattle.replays.specs.Spelled.{RunsSpelled};
-ghost use Rattle.session.specs.Session.{saved_of};
+ghost use Rattle.session.specs.Session.{Holds, pages_of, saved_of};
 
 use crate::ending::{Ran, tell_end};
 use crate::opening::leave_refused;
@@ -191,6 +191,8 @@ fn end_session<D: PageDevice + Drop>(session: Session<D>, is_untold: bool) -> (D
         D.content result.0 ≡ saved_of session }
     ensures synced { is_untold ≡ false → result.1 ≡ None → IsTrue session.pool.honest →
         IsTrue (D.is_synced result.0) }
+    ensures pages { (s : State) → Holds s session → is_untold ≡ false → result.1 ≡ None →
+        length (D.content result.0) ≡ pages_of session }
     ensures same { D.is_honest result.0 ≡ session.pool.honest }
 {
     if session.has_failed() {

@@ -1,7 +1,8 @@
 //! Who waits for answers. This crate starts no thread and waits for none: the program does.
 
-ghost use Rattle.std.specs.Prelude.{◌≡◌, ◌∷◌, ◌++◌, [], IfOk, IsErrOf, OnErr, length, true};
+ghost use Rattle.std.specs.Prelude.{◌≡◌, ◌∷◌, ◌++◌, [], IfOk, IsErrOf, IsTrue, OnErr, length, true};
 ghost use Rattle.queue_model.specs.declared.entry.Entry.TheVariants.{Decided};
+ghost use Rattle.workers.specs.Causes.{HadToInsert};
 ghost use Rattle.workers.specs.Told.{IsSameSeat, SeesFull};
 
 use page_device::PageDevice;
@@ -28,6 +29,8 @@ pub trait Waiter {
         ensures failed { IsErrOf result Fault.Failed → seat.new.failed ≡ true }
         ensures full { IsErrOf result Fault.SessionFull →
             SeesFull (length N.origin.callers) seat.new }
+        ensures room { IsErrOf result Fault.NoRoom → IsTrue N.origin.honest →
+            HadToInsert N.origin call }
         ensures same { IsSameSeat seat.old seat.new };
 
     /// As `Service::stop`, by a stopper that the seats share.

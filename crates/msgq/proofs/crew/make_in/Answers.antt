@@ -25,7 +25,7 @@ loop-work-init g c =
     let room : length c.args.desks.items ≤ vec_capacity c.in-Ok-with_capacity.made = search rules in (
       tt,
       tt,
-      leading_starts (IsMadeOf (length g.N.Base.origin.callers)) _ _ _ _ _ (gives.0 ∙ same)
+      leading_starts (IsMadeOf g.N.Base.origin) _ _ _ _ _ (gives.0 ∙ same)
           (gives.1 ∙ many ∙ ap length same)
           c.in-Ok-with_capacity.ensures.items room,
     )

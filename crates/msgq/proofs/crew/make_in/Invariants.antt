@@ -1,5 +1,5 @@
 -- The desks that make their lines so far, and those that have come back.
-use Rattle.std.specs.Prelude.{◌≡◌, length, vec_capacity}
+use Rattle.std.specs.Prelude.{◌≡◌, vec_capacity}
 use Rattle.replays.specs.Desks.{DeskView, IsMadeOf}
 use Rattle.msgq.proofs.WorkLemmas.{IsLeading}
 use Rattle.msgq.proofs.crew.make_in.Given as goal
@@ -15,6 +15,6 @@ abbrev pub invariant-loop-work : goal.invariant-loop-work
 invariant-loop-work g l =
     (goal.iterator-loop-work g).can_next l.work-iterator ×
     (goal.iterator-loop-work g).is_finite l.work-iterator ×
-    IsLeading (IsMadeOf (length g.N.Base.origin.callers)) l.fn.desks.items l.work-iterator.rest.items
+    IsLeading (IsMadeOf g.N.Base.origin) l.fn.desks.items l.work-iterator.rest.items
     l.work-iterator.rest.len l.made.items
     (vec_capacity l.made)

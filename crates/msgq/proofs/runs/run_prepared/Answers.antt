@@ -142,8 +142,8 @@ returns-clause-ran g c =
     λ none. c.make_lines-desks.ensures.none (ap (list_any is_stop) c.lines.ensures ∙ none)
     ∙ c.in-Ok-start.ensures.stopper in
     λ was before. from_origin _ _ (counted_from was g.N.Base.origin) _ _ (ap (counted_from was) c.requires.origin)
-    (beside c.args.plan.script.now c.make_lines-desks.result.0.items made _ callers done
-    (seats_within c.args.plan.script.now.lines c.keeps_seats.ensures.seats) g.N.Base.origin _ _
+    (beside c.args.plan.script.now c.make_lines-desks.result.0.items made g.N.Base.origin callers done
+    (seats_within c.args.plan.script.now.lines c.keeps_seats.ensures.seats) _ _
     c.print_all-so_far.result.0 c.end_service-ended.result.1 c.end_service-ended.result.0.journal.items
     c.end_service-ended.result.0.seats.items c.end_service-ended.result.0.failure _ first told stopped
     c.make_lines-desks.result.1.used c.stop_if-stopper.result.used c.stop_if-stopper.ensures unused printed

@@ -2,15 +2,20 @@ use Rattle.std.proofs.Common.{◌≡◌, ◌∙◌, ℕ, true, Err, ap, sym, sub
 use Rattle.std.specs.Prelude.{◌==◌}
 use Rattle.msgq_cli.specs.declared.command.Command.{Command}
 use Rattle.msgq_cli.specs.declared.reply.Reply.TheVariants.{Failed}
+use Rattle.replays.specs.Desks.{MayLackRoom}
 use Rattle.replays.specs.Lines.{Fits, IsOfCall}
 use Rattle.replays.proofs.FitLemmas.{call_fault, failed_alone, full_alone}
 use Rattle.replays.proofs.desk.reply.Goals as goal
 
--- a fault of a call is one of four
+-- a fault of a call is one of four, and there is no room only for one that had something to insert
 pub returns-in-Err-clause-fits : goal.returns-in-Err-clause-fits
 returns-in-Err-clause-fits g c =
-    subst (λ (command : Command). Fits command (Failed c.number.result)) (sym c.in-Call.is)
-    (subst IsOfCall (sym c.number.ensures) (call_fault c.in-Err.fault))
+    let may = MayLackRoom g.N.Base.origin in
+    let call = c.in-Call.call.now in
+    subst (λ (command : Command). Fits may command (Failed c.number.result)) (sym c.in-Call.is)
+    (subst (IsOfCall may call) (sym c.number.ensures)
+    (call_fault may call c.in-Err.fault (λ is.
+    subst may c.in-Ok.ensures (c.call.ensures.room (c.in-Err.is ∙ ap Err is)))))
 
 -- and the seat knows of a failure
 pub returns-in-Err-clause-failed : goal.returns-in-Err-clause-failed

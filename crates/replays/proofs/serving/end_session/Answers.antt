@@ -44,6 +44,9 @@ returns-in-Err-clause-unwritten g c = λ away. elim away [
 pub returns-in-Ok-clause-synced : goal.returns-in-Ok-clause-synced
 returns-in-Ok-clause-synced g c = λ told none honest. c.in-Ok.ensures.released.synced honest refl
 
+pub returns-in-Ok-clause-pages : goal.returns-in-Ok-clause-pages
+returns-in-Ok-clause-pages g c = λ s holds told none. (c.in-Ok.ensures.ends s holds).1
+
 pub returns-in-Ok-clause-same : goal.returns-in-Ok-clause-same
 returns-in-Ok-clause-same g c = c.in-Ok.ensures.released.same
 

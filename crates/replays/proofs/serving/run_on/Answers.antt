@@ -5,7 +5,7 @@ use Rattle.msgq_cli.specs.declared.ending.Ending.{Ending}
 use Rattle.msgq_cli.proofs.OutputLemmas.{Prints-then}
 use Rattle.replays.specs.Replays.{EndsWith}
 use Rattle.replays.proofs.CallLemmas.{failed_where, go_along, kept_along}
-use Rattle.replays.proofs.ServeLemmas.{plainly}
+use Rattle.replays.proofs.ServeLemmas.{ends_as_many, plainly}
 use Rattle.replays.proofs.SpelledLemmas.{spelled}
 use Rattle.replays.proofs.serving.run_on.Goals as goal
 
@@ -47,6 +47,14 @@ returns-clause-served g c =
             };
         synced = λ taken none honest. c.end_session-device.ensures.synced taken none
             (subst (λ (b : Bool). IsTrue b) (sym (kept.honest ∙ on.honest_is)) honest);
+        pages = λ taken none honest.
+            let opens = on.opens honest in
+            let goes = go_along _ c.args.script.now.ids 0 lines ran.replies first last ran.takes
+            (Some opens.system) (record { holds = opens.holds; later = on.later }) in
+            ends_as_many _ _ last _ _ goes.after goes.stands fault
+            (c.end_session-device.ensures.ends _ goes.after goes.stands) none
+            (λ s holds. c.end_session-device.ensures.pages s holds taken none)
+            ∙ kept.many ∙ on.many;
         before = λ away. c.end_session-device.ensures.unwritten (inl away) ∙ still;
       };
       first = first;

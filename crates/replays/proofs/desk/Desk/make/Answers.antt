@@ -16,7 +16,7 @@ push-requires g c =
     let below : i < length lines = search rules in
     let same : get_or lines i line ≡ line = search rules in
     let at : line.seat ≡ c.loop-line.self-inside.lines.seat = search rules in
-    making_room (length g.N.Base.origin.callers) lines i c.args.self.now
+    making_room g.N.Base.origin lines i c.args.self.now
     (record { sitter = c.loop-line.self-inside.seat; lines = c.loop-line.self-inside.lines }) line
     (c.script-line-items.ensures ∙ ap (λ (d : DeskView). d.lines.lines) c.self.view_is) c.loop-line.invariant below same
     at
@@ -31,7 +31,7 @@ loop-line-preserved g c =
     let same : get_or lines i line ≡ line = search rules in
     let more : take (i + 1) lines ≡ take i lines ++ line ∷ [] =
     take_more lines i line below ∙ ap (λ (l : List Line). take i lines ++ l) (ap (λ (x : Line). x ∷ []) same) in
-    let many = length g.N.Base.origin.callers in
+    let o = g.N.Base.origin in
     let old = c.args.self.now in
     let before = c.loop-line.invariant in
     let now : DeskView = record { sitter = c.loop-line.self-inside.seat; lines = c.loop-line.self-inside.lines } in
@@ -40,12 +40,12 @@ loop-line-preserved g c =
       | then-line-seat w ↦
           let at : line.seat ≡ c.loop-line.self-inside.lines.seat = search rules in
           rw w.self-inside-is
-          (making_goes many (take i lines) old now _ line w.reply-reply.result before
+          (making_goes o (take i lines) old now _ line w.reply-reply.result before
           (is_its old.lines.seat line (at ∙ before.seat)) w.reply-reply.ensures.told w.reply-reply.ensures.same
           w.reply-reply.ensures.fits w.reply-reply.ensures.failed w.reply-reply.ensures.full w.push.ensures)
       | else-line-seat w ↦
           let apart : line.seat ≢ c.loop-line.self-inside.lines.seat = search rules in
           rw w.self-inside-is
-          (making_skips many (take i lines) old now line before
+          (making_skips o (take i lines) old now line before
           (not_its old.lines.seat line (λ at. apart (at ∙ sym before.seat))))
     ])

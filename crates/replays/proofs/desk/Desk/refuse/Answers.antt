@@ -6,7 +6,7 @@ use Rattle.queue_model.specs.declared.entry.Entry.{Entry}
 use Rattle.replays.proofs.FitLemmas.{refusal_fits}
 use Rattle.replays.proofs.LineLemmas.{is_its, not_its}
 use Rattle.replays.proofs.MakeLemmas.{making_goes, making_room, making_skips, no_entry}
-use Rattle.replays.specs.Desks.{DeskView}
+use Rattle.replays.specs.Desks.{DeskView, MayLackRoom}
 use Rattle.replays.proofs.desk.Desk.refuse.Goals as goal
 use Rattle.replays.proofs.desk.Desk.refuse.Goals.{then-line-seat, else-line-seat}
 
@@ -19,7 +19,7 @@ push-requires g c =
     let below : i < length lines = search rules in
     let same : get_or lines i line ≡ line = search rules in
     let at : line.seat ≡ c.loop-line.self-inside.lines.seat = search rules in
-    making_room (length g.N.Base.origin.callers) lines i c.args.self.now
+    making_room g.N.Base.origin lines i c.args.self.now
     (record { sitter = c.loop-line.self-inside.seat; lines = c.loop-line.self-inside.lines }) line
     (c.script-line-items.ensures ∙ ap (λ (d : DeskView). d.lines.lines) c.self.view_is) c.loop-line.invariant below same
     at
@@ -34,7 +34,7 @@ loop-line-preserved g c =
     let same : get_or lines i line ≡ line = search rules in
     let more : take (i + 1) lines ≡ take i lines ++ line ∷ [] =
     take_more lines i line below ∙ ap (λ (l : List Line). take i lines ++ l) (ap (λ (x : Line). x ∷ []) same) in
-    let many = length g.N.Base.origin.callers in
+    let o = g.N.Base.origin in
     let old = c.args.self.now in
     let before = c.loop-line.invariant in
     let now : DeskView = record { sitter = c.loop-line.self-inside.seat; lines = c.loop-line.self-inside.lines } in
@@ -43,14 +43,14 @@ loop-line-preserved g c =
       | then-line-seat w ↦
           let at : line.seat ≡ c.loop-line.self-inside.lines.seat = search rules in
           rw w.self-inside-is
-          (making_goes many (take i lines) old now _ line (Failed 60) before
+          (making_goes o (take i lines) old now _ line (Failed 60) before
           (is_its old.lines.seat line (at ∙ before.seat))
           (sym (append-nil now.sitter.list) ∙ ap (λ (l : List Entry). now.sitter.list ++ l)
           (sym (no_entry line 60))) (record { seat = refl; failed = λ is. is; seen = omega arith })
-          (refusal_fits line.command) (λ is. absurd cc) (λ is. absurd cc) w.push.ensures)
+          (refusal_fits (MayLackRoom o) line.command) (λ is. absurd cc) (λ is. absurd cc) w.push.ensures)
       | else-line-seat w ↦
           let apart : line.seat ≢ c.loop-line.self-inside.lines.seat = search rules in
           rw w.self-inside-is
-          (making_skips many (take i lines) old now line before
+          (making_skips o (take i lines) old now line before
           (not_its old.lines.seat line (λ at. apart (at ∙ sym before.seat))))
     ])
