@@ -27,7 +27,10 @@ fn start(rt: &HostRuntime) -> ExitCode {
     let words = match std::env::args(rt) {
         Ok(words) => words,
         Err(error) => {
-            let _ = writeln!(rt.stderr(), "msgqd: the command line can't be read: {error}");
+            let _ = writeln!(
+                rt.stderr(),
+                "msgqd: the command line can't be read: {error}"
+            );
             return ExitCode::from(2);
         }
     };

@@ -8,7 +8,7 @@ use crate::keys::Keys;
 use crate::kinds::Made;
 use crate::line::Line;
 use crate::lists::Lists;
-use crate::told::{tell_call, tell_fault, tell_move, tell_step, tell_truth};
+use crate::told::{tell_fault, tell_move, tell_step, tell_truth, tell_withdrawn};
 use crate::words::{Words, Wrong};
 use interleaving_core::{BeginFault, Kernel, Step};
 use page_device::MemDevice;
@@ -252,7 +252,7 @@ impl Seats {
         if !has_seat(&self.kernel, seat) {
             return Err(NO_SEAT);
         }
-        tell_withdrawn(self.kernel.withdraw(seat), line);
+        tell_withdrawn(line, self.kernel.withdraw(seat));
         Ok(())
     }
 
@@ -395,13 +395,5 @@ impl Seats {
         }
         lists.tell(self.kernel.journal(), line);
         self.kernel.forget();
-    }
-}
-
-/// Tells the call that was taken back, if there was one.
-fn tell_withdrawn(call: Option<Call>, line: &mut Line) {
-    match call {
-        Some(call) => tell_call(line, &call),
-        None => line.word("none"),
     }
 }

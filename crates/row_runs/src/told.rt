@@ -135,8 +135,16 @@ fn tell_info(line: &mut Line, info: &QueueInfo) {
     line.mode(info.permissions.mode);
 }
 
+/// The call that was taken back, if there was one.
+pub fn tell_withdrawn(line: &mut Line, call: Option<Call>) {
+    match call {
+        Some(call) => tell_call(line, &call),
+        None => line.word("none"),
+    }
+}
+
 /// A call as in a script, without its options.
-pub fn tell_call(line: &mut Line, call: &Call) {
+fn tell_call(line: &mut Line, call: &Call) {
     match call {
         Call::Get(arguments) => {
             line.word("get");
