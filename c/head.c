@@ -48,44 +48,26 @@ static void spell(uint8_t *head, const uint8_t *magic, uint32_t version, uint64_
     msgq_session_digest(head, SUM_AT, head + SUM_AT);
 }
 
-int head_find(const struct opened *journal, uint8_t *head, uint64_t *size, enum found *found) {
-    int wrong = size_of(journal, size);
-    *found = TORN;
-    if (wrong != 0 || *size < HEAD_BYTES)
-        return of_journal(wrong);
-    if ((wrong = read_at(journal, head, HEAD_BYTES, 0)) != 0)
-        return of_journal(wrong);
-    if (!has_digest(head, SUM_AT, head + SUM_AT))
-        return 0;
+/* Whether a head stands there, of a save that is under way or was ended. */
+static bool is_head(const uint8_t *head) {
     uint32_t version = number_at(head + VERSION_AT);
-    if (memcmp(head, UNDER_WAY, sizeof UNDER_WAY) == 0)
-        *found = version >= FIRST && version <= VERSION_OF_CALLS ? WHOLE : OTHER_VERSION;
-    if (memcmp(head, ENDED, sizeof ENDED) == 0 && version == VERSION)
-        *found = IS_ENDED;
-    return 0;
+    bool is_under_way = memcmp(head, UNDER_WAY, sizeof UNDER_WAY) == 0 && version >= FIRST && version <= VERSION_OF_CALLS;
+    bool is_ended = memcmp(head, ENDED, sizeof ENDED) == 0 && version == VERSION;
+    return has_digest(head, SUM_AT, head + SUM_AT) && (is_under_way || is_ended);
 }
 
 uint64_t head_save(const uint8_t *head) {
     return number_at(head + VERSION_AT) == FIRST ? 0 : long_number_at(head + NAMED_AT);
 }
 
-bool head_takes_calls(const uint8_t *head) {
-    return number_at(head + VERSION_AT) == VERSION_OF_CALLS;
-}
-
-bool head_is_of(const uint8_t *head, const uint8_t *page) {
-    if (number_at(head + VERSION_AT) == FIRST)
-        return has_digest(page, PAGE_BYTES, head + NAMED_AT);
-    return memcmp(page + PAGE_BYTES - DIGEST_BYTES, head + SEAL_AT, SEAL_BYTES) == 0;
-}
-
 int head_next(const struct opened *journal, uint64_t *size, uint64_t *save) {
-    uint8_t head[HEAD_BYTES];
-    enum found found;
-    int wrong = head_find(journal, head, size, &found);
+    uint8_t head[HEAD_BYTES] = {0};
+    int wrong = size_of(journal, size);
+    if (wrong == 0 && *size >= HEAD_BYTES)
+        wrong = read_at(journal, head, HEAD_BYTES, 0);
     if (wrong != 0)
-        return wrong;
-    uint64_t last = found == WHOLE || found == IS_ENDED ? head_save(head) : UINT64_MAX;
+        return of_journal(wrong);
+    uint64_t last = is_head(head) ? head_save(head) : UINT64_MAX;
     *save = last == UINT64_MAX ? 1 : last + 1;
     if (last != UINT64_MAX || *size == 0)
         return 0;

@@ -12,24 +12,13 @@ enum { HEAD_BYTES = 80, COUNT_AT = 12, SUM_AT = 48 };
 /* Versions that are written: behind a head of the second calls stand, and before the images. */
 enum { VERSION = 2, VERSION_OF_CALLS };
 
-enum found { TORN, IS_ENDED, OTHER_VERSION, WHOLE };
-
 void put_number(uint8_t *at, uint32_t number);
 uint32_t number_at(const uint8_t *at);
 bool are_equal(const uint8_t *one, const uint8_t *other);
 bool has_digest(const uint8_t *bytes, size_t count, const uint8_t *digest);
 
-/* Reads what stands where a head is looked for. A journal that is too short for one has none; a read that fails says nothing of it. */
-int head_find(const struct opened *journal, uint8_t *head, uint64_t *size, enum found *found);
-
 /* The number of the save whose head that is; in version 1 it has none. */
 uint64_t head_save(const uint8_t *head);
-
-/* Whether calls may stand behind it. */
-bool head_takes_calls(const uint8_t *head);
-
-/* Whether a page is page 0 as it was when the head was written. */
-bool head_is_of(const uint8_t *head, const uint8_t *page);
 
 /* A number that no save had of which images may stand in the journal: one above the last; and how many bytes that has. Where no head tells the
  * last the journal is cut, and that has to outlast a crash before a number is used again. */

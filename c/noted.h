@@ -15,26 +15,9 @@ struct noted {
 /* What is spelled before the calls of an addition, and behind them. */
 enum { BEFORE_CALLS = HEAD_BYTES + 4, BEHIND_CALLS = DIGEST_BYTES };
 
-/* An entry that was read. */
-struct entry {
-    uint8_t *all;   /* the digest before it, its word, its bytes and its digest; NULL where none is whole */
-    uint32_t count; /* as many bytes it has; 0 where images were put back */
-};
-
-/* Reads an addition of calls, or what says that images were put back, in a journal of so many bytes; the noted go on behind it. What was read
- * is the caller's to free. */
-int noted_read(const struct opened *journal, uint64_t size, struct noted *noted, struct entry *entry);
-
-/* Calls a function for each addition, in their order, until one gives an error. */
-int noted_each(const struct opened *journal, const struct noted *noted,
-               int (*act)(void *with, const uint8_t *calls, size_t count), void *with);
-
 /* Adds calls to the journal of a file of so many pages, whose page 0 ends with this digest, and brings them to where they outlast a crash. The
  * first addition alone asks for these two. So many bytes of calls stand in `all` between BEFORE_CALLS and BEHIND_CALLS others, which are
  * written over. Where it fails the journal is not added to again. */
 int noted_add(const struct opened *journal, struct noted *noted, uint32_t pages, const uint8_t *digest, uint8_t *all, size_t count);
-
-/* Notes that the images behind the calls were put back, which lets them go. */
-int noted_put_back(const struct opened *journal, struct noted *noted);
 
 #endif

@@ -1,7 +1,6 @@
 /* A file of queues and its journal: opened, saved, made. */
 #include "pair.h"
 #include "beside.h"
-#include "journal.h"
 #include "making.h"
 #include "reason.h"
 
@@ -73,6 +72,95 @@ static int open_both(struct pair *pair, const char *path) {
     return wrong;
 }
 
+/* ---- transfers */
+
+/* Makes a transfer. What is read stands in the bytes behind it. */
+static int make(const struct pair *pair, const struct order *order, uint8_t *bytes) {
+    switch (order->kind) {
+    case READ_JOURNAL:
+        return of_journal(read_at(&pair->journal, bytes, order->length, order->at));
+    case READ_FILE:
+        return read_at(&pair->file, bytes, order->length, order->at);
+    case WRITE_JOURNAL:
+        return of_journal(write_at(&pair->journal, bytes, order->length, order->at));
+    case WRITE_FILE:
+        return write_at(&pair->file, bytes, order->length, order->at);
+    case CUT_JOURNAL:
+        return of_journal(cut_at(&pair->journal, 0));
+    case CUT_FILE:
+        return cut_at(&pair->file, order->at);
+    case SYNC_JOURNAL:
+        return of_journal(sync_it(&pair->journal));
+    case SYNC_JOURNAL_BYTES:
+        return of_journal(sync_bytes(&pair->journal));
+    case SYNC_FILE_BYTES:
+        return sync_bytes(&pair->file);
+    default: /* SYNC_FILE */
+        return sync_it(&pair->file);
+    }
+}
+
+/* ---- a recovery */
+
+/* Room for what is read: of calls that may be more than of a page. */
+struct room {
+    uint8_t *bytes;
+    size_t count;
+};
+
+static int take_room(struct room *room, size_t count) {
+    if (count <= room->count)
+        return 0;
+    uint8_t *more = realloc(room->bytes, count);
+    if (more == NULL)
+        return ENOMEM;
+    *room = (struct room){more, count};
+    return 0;
+}
+
+/* Makes what a recovery tells: a transfer, or that a session makes calls again. */
+static int recover_one(const struct pair *pair, struct handle *session, const struct order *order, struct room *room) {
+    if (order->kind == REMAKE)
+        return error_of(msgq_session_remake(session, room->bytes + order->at, order->length));
+    int wrong = take_room(room, order->length);
+    return wrong != 0 ? wrong : make(pair, order, room->bytes);
+}
+
+/* Goes on with a recovery until it is over. Where it was told of no failure it fails by what it read. */
+static int recover(struct pair *pair, struct handle *session) {
+    struct room room = {calloc(1, ORDER_BYTES), ORDER_BYTES};
+    struct order order;
+    int wrong = room.bytes == NULL ? ENOMEM : 0;
+    while (wrong == 0 && (wrong = error_of(msgq_recovery_next(&pair->recovery, &order, room.bytes))) == 0 && order.kind != OVER) {
+        wrong = recover_one(pair, session, &order, &room);
+        if (msgq_recovery_told(&pair->recovery, room.bytes, room.count, wrong == 0) != DONE && wrong == 0)
+            wrong = why(EIO, "its journal reads otherwise than before");
+    }
+    free(room.bytes);
+    return wrong;
+}
+
+/* Undoes what a save that was cut off has left; where that is nothing, sees to it that this is on the disk. */
+static int recover_both(struct pair *pair) {
+    uint64_t journal = 0, file = 0;
+    struct stands stands;
+    int wrong = of_journal(size_of(&pair->journal, &journal));
+    if (wrong == 0)
+        wrong = size_of(&pair->file, &file);
+    if (wrong == 0)
+        wrong = error_of(msgq_recovery_begin(&pair->recovery, journal, file));
+    if (wrong == 0)
+        wrong = recover(pair, NULL);
+    if (wrong == 0)
+        wrong = error_of(msgq_recovery_stands(&pair->recovery, &stands, pair->noted.sum));
+    if (wrong == 0) {
+        pair->noted.end = stands.end;
+        pair->noted.save = stands.number;
+        pair->noted.size = stands.size;
+    }
+    return wrong;
+}
+
 int pair_open(struct pair *pair, const char *path) {
     /* More than one that moves the file has to come between, each time. */
     enum { MOST_TRIES = 100 };
@@ -83,7 +171,7 @@ int pair_open(struct pair *pair, const char *path) {
         wrong = open_both(pair, path);
     }
     if (wrong == 0)
-        wrong = journal_recover(&pair->file, &pair->journal, &pair->noted);
+        wrong = recover_both(pair);
     if (wrong != 0)
         pair_close(pair);
     return wrong;
@@ -95,6 +183,7 @@ void pair_close(struct pair *pair) {
         (void)flock(pair->journal.file, LOCK_UN);
     free(pair->room);
     pair->room = NULL;
+    (void)msgq_recovery_end(&pair->recovery);
     pair_leave(pair);
 }
 
@@ -128,28 +217,6 @@ static int know_file(const struct pair *pair, struct handle *session, uint32_t *
     if (msgq_session_pages(session, pages) != DONE)
         return EIO;
     return read_at(&pair->file, digest, DIGEST_BYTES, PAGE_BYTES - DIGEST_BYTES);
-}
-
-/* Makes a transfer. What is read stands in the bytes behind it. */
-static int make(const struct pair *pair, const struct order *order, uint8_t *bytes) {
-    switch (order->kind) {
-    case READ_JOURNAL:
-        return of_journal(read_at(&pair->journal, bytes, order->length, order->at));
-    case READ_FILE:
-        return read_at(&pair->file, bytes, order->length, order->at);
-    case WRITE_JOURNAL:
-        return of_journal(write_at(&pair->journal, bytes, order->length, order->at));
-    case WRITE_FILE:
-        return write_at(&pair->file, bytes, order->length, order->at);
-    case CUT_JOURNAL:
-        return of_journal(cut_at(&pair->journal, 0));
-    case SYNC_JOURNAL:
-        return of_journal(sync_it(&pair->journal));
-    case SYNC_JOURNAL_BYTES:
-        return of_journal(sync_bytes(&pair->journal));
-    default: /* SYNC_FILE */
-        return sync_bytes(&pair->file);
-    }
 }
 
 /* Sees to it that both numbers are still those of the files: the program may have closed them, and opened others. */
@@ -211,12 +278,11 @@ int pair_note(struct pair *pair, struct handle *session) {
 
 /* ---- calls are made again */
 
-static int remake(void *session, const uint8_t *calls, size_t count) {
-    return error_of(msgq_session_remake(session, calls, count));
-}
-
 int pair_bring_in(struct pair *pair, struct handle *session) {
-    int wrong = noted_each(&pair->journal, &pair->noted, remake, session);
+    int wrong = error_of(msgq_recovery_calls(&pair->recovery));
+    if (wrong == 0)
+        wrong = recover(pair, session);
+    (void)msgq_recovery_end(&pair->recovery);
     return wrong == 0 && pair->noted.end > 0 ? pair_save(pair, session) : wrong;
 }
 

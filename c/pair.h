@@ -2,12 +2,13 @@
 #ifndef MSGQ_PAIR_H
 #define MSGQ_PAIR_H
 
-#include "journal.h"
+#include "noted.h"
 
 struct pair {
     struct opened file, journal;
-    struct noted noted; /* the calls that stand in the journal */
-    uint8_t *room;      /* in which calls are noted, once some were */
+    struct recovery recovery; /* under way until the calls of the journal are brought in */
+    struct noted noted;       /* the calls that stand in the journal */
+    uint8_t *room;            /* in which calls are noted, once some were */
 };
 
 /* Opens both, locks the journal and undoes what a save that was cut off has left. EBUSY where another has them. */

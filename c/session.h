@@ -22,11 +22,19 @@ enum {
     NO_PAGE = 103,
     FOREIGN = 104,
     DUE = 105,
+    OTHER_VERSION = 106,
+    OTHER_FILE = 107,
 };
 
 struct handle {
     void *at;
     bool is_open;
+};
+
+/* The same of a file that is recovered. */
+struct recovery {
+    void *at;
+    bool is_begun;
 };
 
 struct owner {
@@ -75,9 +83,9 @@ struct info {
     bool has_key;
 };
 
-/* What a transfer of a save is. */
+/* What a transfer is. */
 enum {
-    OVER, /* none: the pages are saved */
+    OVER, /* none: all is done */
     READ_JOURNAL,
     READ_FILE,
     WRITE_JOURNAL,
@@ -85,7 +93,10 @@ enum {
     CUT_JOURNAL,
     SYNC_JOURNAL,
     SYNC_JOURNAL_BYTES,
+    SYNC_FILE_BYTES,
     SYNC_FILE,
+    CUT_FILE,
+    REMAKE, /* none: calls are made again, which stand in what was read last */
 };
 
 /* Which one it is, with how many bytes, from which place on. */
@@ -118,6 +129,12 @@ uint32_t msgq_session_end_notes(struct handle *);
 uint32_t msgq_session_remake(struct handle *, const uint8_t *calls, size_t count);
 uint32_t msgq_session_close(struct handle *);
 size_t msgq_session_handle_size(void);
+uint32_t msgq_recovery_begin(struct recovery *, uint64_t journal, uint64_t file);
+uint32_t msgq_recovery_next(struct recovery *, struct order *, uint8_t *bytes);
+uint32_t msgq_recovery_told(struct recovery *, const uint8_t *read, size_t count, bool is_done);
+uint32_t msgq_recovery_calls(struct recovery *);
+uint32_t msgq_recovery_stands(struct recovery *, struct stands *, uint8_t *sum);
+uint32_t msgq_recovery_end(struct recovery *);
 void msgq_session_digest(const uint8_t *bytes, size_t count, uint8_t *into);
 
 #endif

@@ -5,6 +5,7 @@
  * Without a word FILE is opened, so that what a save has left is undone; else the calls of its journal are brought in, of five bytes
  * each: a page, and what fills it. Ends with status 0, or with 1 and the number of the error. */
 #include "../pair.h"
+#include "recovering.h"
 #include "sha256.h"
 
 #include <stdio.h>
@@ -100,7 +101,7 @@ uint32_t msgq_session_save_next(struct handle *it, struct order *order, uint8_t 
     case WRITE_IMAGE: *order = (struct order){WRITE_JOURNAL, IMAGE, at.stands.end}; break;
     case SYNC_IMAGES: *order = (struct order){at.stands.end > at.stands.size ? SYNC_JOURNAL : SYNC_JOURNAL_BYTES, 0, 0}; break;
     case WRITE_PAGE: *order = (struct order){WRITE_FILE, PAGE_BYTES, place}; break;
-    case SYNC_PAGES: *order = (struct order){SYNC_FILE, 0, 0}; break;
+    case SYNC_PAGES: *order = (struct order){SYNC_FILE_BYTES, 0, 0}; break;
     case END: *order = is_long() ? (struct order){CUT_JOURNAL, 0, 0} : (struct order){WRITE_JOURNAL, HEAD_BYTES, 0}; break;
     case SYNC_END: *order = (struct order){is_long() ? SYNC_JOURNAL : SYNC_JOURNAL_BYTES, 0, 0}; break;
     default: *order = (struct order){OVER, 0, 0};

@@ -2,7 +2,7 @@
 ghost use Rattle.std.specs.Prelude.{◌≡◌, ◌≤◌, length};
 ghost use Rattle.journal_bytes.specs.Entries.{calls_sum, calls_word, entry_in, image_in, put_back_of, put_back_sum, sum_in};
 
-use crate::image::{IMAGE_BYTES, Sum, digest_behind, join};
+use crate::image::{Sum, digest_behind, join};
 use numbers::fields::{four_at, write_four};
 use page_device::{DIGEST_BYTES, PAGE_BYTES, Page};
 use sha2::{Digest, Sha256};
@@ -44,7 +44,8 @@ pub struct Image {
 }
 
 /// Which entry a word begins.
-pub fn read_word(word: &[u8; WORD_BYTES]) -> Entry
+pub fn read_word(word: &[u8]) -> Entry
+    requires { 4 ≤ length word.now }
     ensures { result ≡ entry_in word.now }
 {
     let number = four_at(word, 0);
@@ -72,7 +73,8 @@ pub fn read_sum(before: &Sum, entry: &[u8]) -> Option<Sum>
 }
 
 /// An image: told exactly where its digest is right behind what ends with this digest.
-pub fn read_image(before: &Sum, entry: &[u8; IMAGE_BYTES]) -> Option<Image>
+pub fn read_image(before: &Sum, entry: &[u8]) -> Option<Image>
+    requires { length entry.now ≡ 4132 }
     ensures { result ≡ image_in before.now entry.now }
 {
     let sum = read_sum(before, entry)?;

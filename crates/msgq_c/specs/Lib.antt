@@ -1,7 +1,9 @@
 pub mod Arguments
 pub mod Codes
 pub mod Held
+pub mod HeldRecovery
 pub mod Keeping
+pub mod Recovering
 pub mod Telling
 pub mod Saving
 pub mod Serving

@@ -11,6 +11,7 @@ mod handle;
 mod held;
 mod kept;
 mod laws;
+mod recovered;
 mod saving;
 mod serving;
 mod telling;
@@ -28,6 +29,10 @@ pub use files::{
 };
 pub use handle::Handle;
 pub use laws::what_is_noted_leads_on;
+pub use recovered::{
+    RecoveryHandle, msgq_recovery_begin, msgq_recovery_calls, msgq_recovery_end,
+    msgq_recovery_next, msgq_recovery_stands, msgq_recovery_told,
+};
 pub use saving::{
     Order, Stands, msgq_session_save_begin, msgq_session_save_next, msgq_session_save_told,
 };
