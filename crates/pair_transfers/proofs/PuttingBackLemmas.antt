@@ -117,7 +117,7 @@ cut_kept j d c journal cut =
     let kept = cut.journal ∙ journal in (
       kept,
       by_parts c (Some j) (take cut.file.0 d.file) kept cut.file.2
-          ∙ ap (λ (ps : Pages). saved (put_back ps j.images) j.calls) (take-take j.count d.file cut.file.0 cut.file.1)
+          ∙ ap (λ (ps : Pages). saved (put_back ps j.images) j.calls) (take-take j.count cut.file.0 d.file cut.file.1)
           ∙ sym (by_parts d (Some j) d.file journal refl),
     )
 

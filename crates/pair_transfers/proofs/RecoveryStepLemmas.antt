@@ -124,6 +124,10 @@ module _ {P : Type 0} (honest : Bool) (file : P → Pages) (journal : P → Opti
       is_resting found many ≡ true → IsResting (journal first) (file first)
   calls_lie found many sees is = by_journal (journal first) (file first) sees.found_is sees.many_is
     where
+      empty : (images : List PageImage) → length images ≡ 0 → images ≡ []
+      empty [] is = refl
+      empty (i ∷ more) is = absurd (omega (arith, is))
+
       by_journal : (q : Option Journal) (pages : Pages) → Some found ≡ found_of q → many ≡ length pages →
           IsResting q pages
       by_journal None pages found_is many_is = absurd cc
@@ -138,10 +142,6 @@ module _ {P : Type 0} (honest : Bool) (file : P → Pages) (journal : P → Opti
             whole = sym says.count ∙ whole ∙ many_is;
             no_image = empty j.images (sym says.images ∙ none);
           }
-
-      empty : (images : List PageImage) → length images ≡ 0 → images ≡ []
-      empty [] is = refl
-      empty (i ∷ more) is = absurd (omega (arith, is))
 
   untouched : IsUntouched file journal may_leave first first
   untouched = record { file_is = refl; journal_is = refl; left = λ c now. now }
@@ -194,9 +194,9 @@ module _ {P : Type 0} (honest : Bool) (file : P → Pages) (journal : P → Opti
         (left_behind file journal may_leave recovery.found first old new done recovery.place act (sym next)
         (so_far.stands sound) (makes sound))
 
-    pub next_comes : (then : Recovery) → done ≡ true →
-        then ≡ record recovery { place = behind recovery.found recovery.place } → IsComing new then
-    next_comes then ok is = subst (IsComing new) (sym is) (record {
+    pub next_comes : (after : Recovery) → done ≡ true →
+        after ≡ record recovery { place = behind recovery.found recovery.place } → IsComing new after
+    next_comes after ok is = subst (IsComing new) (sym is) (record {
       stands = λ sound. stands_behind file journal may_leave recovery.found first old new done recovery.place act
           (sym next) (so_far.stands sound) (makes sound) ok;
       unseen = unseen_act;

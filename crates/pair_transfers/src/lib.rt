@@ -23,3 +23,6 @@ pub use recovery::{RecoverFault, Recovery, RecoveryAct, RecoveryPlace, Seen};
 pub use save::{Act, Place, Save, SaveFault};
 pub use transfers::{Standing, Step, Transfer, Transfers};
 pub use unsaved::Unsaved;
+
+#[cfg(test)]
+mod tests;

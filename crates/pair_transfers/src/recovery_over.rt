@@ -10,6 +10,7 @@ ghost use Rattle.pair_transfers.specs.declared.recovery.RecoveryAct.TheVariants.
 use crate::recovery::{RecoverFault, Recovery, RecoveryAct, Seen};
 use safe_device::page_device::PAGE_BYTES;
 use safe_device::{FoundJournal, PagePair};
+use std::io;
 
 /// No recovery has more acts: one for each image, and six.
 const MOST_ACTS: u64 = 0x1_0000_0006;
@@ -58,28 +59,27 @@ fn look<P: PagePair>(pair: &P) -> Result<Seen, RecoverFault>
     let Some(journal) = found else {
         return Ok(Seen::Nothing);
     };
-    if !fits(pair, journal)? {
+    let Ok(does_fit) = fits(pair, journal) else {
+        return Err(RecoverFault::Device);
+    };
+    if !does_fit {
         return Ok(Seen::Foreign);
     }
     Ok(Seen::Whole(journal, pair.pages()))
 }
 
 /// Whether a journal speaks of pages that are there.
-fn fits<P: PagePair>(pair: &P, journal: FoundJournal) -> Result<bool, RecoverFault>
+fn fits<P: PagePair>(pair: &P, journal: FoundJournal) -> io::Result<bool>
     requires found { IsTrue P.is_honest → Some journal ≡ found_of (P.journal pair.now) }
-    ensures ok { IsTrue P.is_honest →
+    ensures { IsTrue P.is_honest →
         IfOk result (λ does. IsTrue does ↔ Fits (P.journal pair.now) (P.file pair.now)) }
-    ensures err { IfErr result (λ fault. fault ≡ Device) }
 {
     if journal.count > pair.pages() {
         return Ok(false);
     }
     let mut bytes = [0; PAGE_BYTES];
     for index in 0..journal.images {
-        let Ok(page) = pair.load_image(index, &mut bytes) else {
-            return Err(RecoverFault::Device);
-        };
-        if page >= journal.count {
+        if pair.load_image(index, &mut bytes)? >= journal.count {
             return Ok(false);
         }
     }

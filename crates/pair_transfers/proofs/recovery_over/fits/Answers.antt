@@ -11,19 +11,19 @@ loop-index-preserved g c =
     let P = g.P.PagePair in
     let images = images_of (P.journal c.args.pair.now) in
     let loop = c.loop-index in
-    let image : PageImage = record { page = c.in-Ok.page; bytes = c.load_image.new.into } in
-    let within : c.in-Ok.page < c.args.journal.count = search rules in
+    let image : PageImage = record { page = c.in_ok-load_image.field-0; bytes = c.load_image.new.into } in
+    let within : c.in_ok-load_image.field-0 < c.args.journal.count = search rules in
     let fits = λ (x : PageImage). x.page < c.args.journal.count in
     record {
       counts = loop.invariant.counts;
       so_far = λ honest.
           subst (λ (xs : List PageImage). All fits xs)
-          (sym (take_found images loop.index image (c.in-Ok-load_image.ensures.ok honest)))
+          (sym (take_found images loop.index image (c.in_ok-load_image.ensures.ok honest)))
           (All-push fits (take loop.index images) image (loop.invariant.so_far honest) within);
     }
 
-pub returns-clause-ok : goal.returns-clause-ok
-returns-clause-ok g c honest =
+pub returns : goal.returns
+returns g c honest =
     let P = g.P.PagePair in
     let loop = c.loop-index in
     let many : c.args.journal.images ≤ loop.index = search rules in
