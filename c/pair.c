@@ -100,45 +100,65 @@ static int make(const struct pair *pair, const struct order *order, uint8_t *byt
     }
 }
 
-/* ---- a recovery */
+/* What tells its next transfer, and is told how that went. */
+struct machine {
+    uint32_t (*next)(void *it, struct order *order, uint8_t *bytes);
+    uint32_t (*told)(void *it, const uint8_t *read, size_t count, bool is_done);
+};
 
-/* Room for what is read: of calls that may be more than of a page. */
+/* Room for the bytes of a transfer. Of calls that are read there may be more than of a page. */
 struct room {
-    uint8_t *bytes;
+    uint8_t first[ORDER_BYTES], *bytes, *more;
     size_t count;
 };
 
 static int take_room(struct room *room, size_t count) {
     if (count <= room->count)
         return 0;
-    uint8_t *more = realloc(room->bytes, count);
+    uint8_t *more = realloc(room->more, count);
     if (more == NULL)
         return ENOMEM;
-    *room = (struct room){more, count};
+    room->bytes = room->more = more;
+    room->count = count;
     return 0;
 }
 
-/* Makes what a recovery tells: a transfer, or that a session makes calls again. */
-static int recover_one(const struct pair *pair, struct handle *session, const struct order *order, struct room *room) {
+/* Makes one, or has a session make calls again that were read last. */
+static int make_one(const struct pair *pair, struct handle *session, const struct order *order, struct room *room) {
     if (order->kind == REMAKE)
         return error_of(msgq_session_remake(session, room->bytes + order->at, order->length));
     int wrong = take_room(room, order->length);
     return wrong != 0 ? wrong : make(pair, order, room->bytes);
 }
 
-/* Goes on with a recovery until it is over. Where it was told of no failure it fails by what it read. */
-static int recover(struct pair *pair, struct handle *session) {
-    struct room room = {calloc(1, ORDER_BYTES), ORDER_BYTES};
+/* Makes what a machine tells, one transfer after another, until it is over. */
+static int make_all(const struct pair *pair, struct handle *session, const struct machine *machine, void *it) {
+    struct room room = {.count = ORDER_BYTES};
     struct order order;
-    int wrong = room.bytes == NULL ? ENOMEM : 0;
-    while (wrong == 0 && (wrong = error_of(msgq_recovery_next(&pair->recovery, &order, room.bytes))) == 0 && order.kind != OVER) {
-        wrong = recover_one(pair, session, &order, &room);
-        if (msgq_recovery_told(&pair->recovery, room.bytes, room.count, wrong == 0) != DONE && wrong == 0)
-            wrong = why(EIO, "its journal reads otherwise than before");
+    int wrong;
+    memset(room.first, 0, sizeof room.first);
+    room.bytes = room.first;
+    while ((wrong = error_of(machine->next(it, &order, room.bytes))) == 0 && order.kind != OVER) {
+        wrong = make_one(pair, session, &order, &room);
+        uint32_t code = machine->told(it, room.bytes, room.count, wrong == 0);
+        if (wrong != 0 || (wrong = error_of(code)) != 0)
+            break;
     }
-    free(room.bytes);
+    free(room.more);
     return wrong;
 }
+
+/* ---- a recovery */
+
+static uint32_t next_of_recovery(void *it, struct order *order, uint8_t *bytes) {
+    return msgq_recovery_next(it, order, bytes);
+}
+
+static uint32_t told_of_recovery(void *it, const uint8_t *read, size_t count, bool is_done) {
+    return msgq_recovery_told(it, read, count, is_done);
+}
+
+static const struct machine RECOVERY = {next_of_recovery, told_of_recovery};
 
 /* Undoes what a save that was cut off has left; where that is nothing, sees to it that this is on the disk. */
 static int recover_both(struct pair *pair) {
@@ -150,7 +170,7 @@ static int recover_both(struct pair *pair) {
     if (wrong == 0)
         wrong = error_of(msgq_recovery_begin(&pair->recovery, journal, file));
     if (wrong == 0)
-        wrong = recover(pair, NULL);
+        wrong = make_all(pair, NULL, &RECOVERY, &pair->recovery);
     if (wrong == 0)
         wrong = error_of(msgq_recovery_stands(&pair->recovery, &stands, pair->noted.sum));
     if (wrong == 0) {
@@ -234,18 +254,22 @@ static int begin_save(const struct pair *pair, struct handle *session) {
     return wrong != 0 ? wrong : error_of(msgq_session_save_begin(session, &stands, pair->noted.sum));
 }
 
+static uint32_t next_of_save(void *it, struct order *order, uint8_t *bytes) {
+    return msgq_session_save_next(it, order, bytes);
+}
+
+static uint32_t told_of_save(void *it, const uint8_t *read, size_t count, bool is_done) {
+    (void)count;
+    return msgq_session_save_told(it, read, is_done);
+}
+
 int pair_save(struct pair *pair, struct handle *session) {
-    uint8_t bytes[ORDER_BYTES] = {0};
-    struct order order;
+    static const struct machine save = {next_of_save, told_of_save};
     int wrong = test_both(pair);
     if (wrong == 0)
         wrong = begin_save(pair, session);
-    while (wrong == 0 && (wrong = error_of(msgq_session_save_next(session, &order, bytes))) == 0 && order.kind != OVER) {
-        wrong = make(pair, &order, bytes);
-        uint32_t code = msgq_session_save_told(session, bytes, wrong == 0);
-        if (wrong == 0)
-            wrong = error_of(code);
-    }
+    if (wrong == 0)
+        wrong = make_all(pair, session, &save, session);
     if (wrong == 0)
         pair->noted.end = 0;
     return wrong;
@@ -281,7 +305,7 @@ int pair_note(struct pair *pair, struct handle *session) {
 int pair_bring_in(struct pair *pair, struct handle *session) {
     int wrong = error_of(msgq_recovery_calls(&pair->recovery));
     if (wrong == 0)
-        wrong = recover(pair, session);
+        wrong = make_all(pair, session, &RECOVERY, &pair->recovery);
     (void)msgq_recovery_end(&pair->recovery);
     return wrong == 0 && pair->noted.end > 0 ? pair_save(pair, session) : wrong;
 }
