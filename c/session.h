@@ -9,7 +9,8 @@
 
 #define PAGE_BYTES 4096
 #define DIGEST_BYTES 32
-#define ORDER_BYTES 4132 /* as many bytes are transferred at most */
+#define ORDER_BYTES 4132 /* as many bytes are transferred at most, but for calls */
+#define FRONT_BYTES 84   /* before calls that are noted: a head and a word */
 
 enum {
     DONE = 0,
@@ -97,6 +98,8 @@ enum {
     SYNC_FILE,
     CUT_FILE,
     REMAKE, /* none: calls are made again, which stand in what was read last */
+    WRITE_ZEROS,
+    WRITE_CALLS, /* calls that are noted, and what stands before them and behind */
 };
 
 /* Which one it is, with how many bytes, from which place on. */
@@ -125,7 +128,10 @@ uint32_t msgq_session_save_begin(struct handle *, const struct stands *, const u
 uint32_t msgq_session_save_next(struct handle *, struct order *, uint8_t *bytes);
 uint32_t msgq_session_save_told(struct handle *, const uint8_t *read, bool is_done);
 uint32_t msgq_session_notes(struct handle *, uint8_t *into, size_t room, size_t *count);
-uint32_t msgq_session_end_notes(struct handle *);
+uint32_t msgq_session_note_begin(struct handle *, const struct stands *, const uint8_t *sum);
+uint32_t msgq_session_note_next(struct handle *, struct order *, uint8_t *front, uint8_t *back);
+uint32_t msgq_session_note_told(struct handle *, const uint8_t *read, bool is_done);
+uint32_t msgq_session_note_stands(struct handle *, struct stands *, uint8_t *sum);
 uint32_t msgq_session_remake(struct handle *, const uint8_t *calls, size_t count);
 uint32_t msgq_session_close(struct handle *);
 size_t msgq_session_handle_size(void);

@@ -1,13 +1,9 @@
-/* A recovery in plain C, typed from docs/FORMAT.md ("The journal"), as a stand-in for that of crates/msgq_c: it runs on a stack of its
- * own, and stands still at each transfer until it is told how that went. */
+/* A recovery in plain C, typed from docs/FORMAT.md ("The journal"), as a stand-in for that of crates/msgq_c. */
 #ifndef MSGQ_TESTS_RECOVERING_H
 #define MSGQ_TESTS_RECOVERING_H
 
-#include "../head.h"
-
-#include <stdlib.h>
-#include <string.h>
-#include <ucontext.h>
+#include "heads.h"
+#include "routine.h"
 
 enum { IMAGE_BYTES = 4 + PAGE_BYTES + DIGEST_BYTES, LEAST_ENTRY = 4 + DIGEST_BYTES };
 
@@ -22,12 +18,6 @@ struct passed {
 };
 
 static struct {
-    ucontext_t caller, own;
-    char *stack;
-    struct order order;    /* that is asked for */
-    uint8_t *bytes;        /* its bytes, or those that were read */
-    bool is_done;
-    uint32_t code;         /* what came of it once it is over */
     uint64_t journal, file;
     uint8_t head[HEAD_BYTES];
     struct passed calls, passed;
@@ -35,20 +25,6 @@ static struct {
     bool has_calls;
     struct stands stands;
 } recovering;
-
-/* Asks for a transfer, and waits until it is told of it. */
-static bool ask(uint32_t kind, uint64_t at, uint32_t length, const void *written) {
-    recovering.order = (struct order){kind, length, at};
-    if (written != NULL)
-        memcpy(recovering.bytes, written, length);
-    swapcontext(&recovering.own, &recovering.caller);
-    return recovering.is_done;
-}
-
-/* Goes on until the next transfer is asked for. */
-static void go_on(void) {
-    swapcontext(&recovering.caller, &recovering.own);
-}
 
 static bool is_first_version(void) {
     return number_at(recovering.head + 8) == 1;
@@ -83,12 +59,12 @@ static int64_t next_calls(struct passed *passed, uint64_t size) {
         return -1;
     if (!ask(READ_JOURNAL, passed->at, 4, NULL))
         return -2;
-    uint32_t word = number_at(recovering.bytes), count = word == WERE_PUT_BACK ? 0 : word & ~CALLS_FOLLOW;
+    uint32_t word = number_at(routine.bytes), count = word == WERE_PUT_BACK ? 0 : word & ~CALLS_FOLLOW;
     if ((word != WERE_PUT_BACK && (word & CALLS_FOLLOW) == 0) || count > 0x3fffffff || size - passed->at < (uint64_t)LEAST_ENTRY + count)
         return -1;
     if (!ask(READ_JOURNAL, passed->at, LEAST_ENTRY + count, NULL))
         return -2;
-    return pass(passed, recovering.bytes, LEAST_ENTRY + count) ? (int64_t)count : -1;
+    return pass(passed, routine.bytes, LEAST_ENTRY + count) ? (int64_t)count : -1;
 }
 
 static uint32_t pass_calls(void) {
@@ -105,16 +81,16 @@ static uint32_t test_images(void) {
         return OTHER_FILE;
     if (!ask(READ_FILE, 0, PAGE_BYTES, NULL))
         return FAILED;
-    bool is_its = is_page_zero(recovering.bytes);
+    bool is_its = is_page_zero(routine.bytes);
     recovering.passed = recovering.calls;
     while (recovering.journal - recovering.passed.at >= IMAGE_BYTES) {
         if (!ask(READ_JOURNAL, recovering.passed.at, IMAGE_BYTES, NULL))
             return FAILED;
-        if (!pass(&recovering.passed, recovering.bytes, IMAGE_BYTES))
+        if (!pass(&recovering.passed, routine.bytes, IMAGE_BYTES))
             break;
-        if (number_at(recovering.bytes) >= count)
+        if (number_at(routine.bytes) >= count)
             return OTHER_FILE;
-        is_its = is_its || (number_at(recovering.bytes) == 0 && is_page_zero(recovering.bytes + 4));
+        is_its = is_its || (number_at(routine.bytes) == 0 && is_page_zero(routine.bytes + 4));
         recovering.images++;
     }
     return is_its ? DONE : OTHER_FILE;
@@ -128,7 +104,7 @@ static uint32_t look(bool *is_whole) {
         return DONE;
     if (!ask(READ_JOURNAL, 0, HEAD_BYTES, NULL))
         return FAILED;
-    memcpy(head, recovering.bytes, HEAD_BYTES);
+    memcpy(head, routine.bytes, HEAD_BYTES);
     if (!has_digest(head, SUM_AT, head + SUM_AT) || memcmp(head, "msgqundo", 8) != 0)
         return DONE;
     uint32_t version = number_at(head + 8);
@@ -146,10 +122,10 @@ static uint32_t look(bool *is_whole) {
 static bool put_back(void) {
     recovering.passed = recovering.calls;
     for (uint64_t index = 0; index < recovering.images; index++) {
-        if (!ask(READ_JOURNAL, recovering.passed.at, IMAGE_BYTES, NULL) || !pass(&recovering.passed, recovering.bytes, IMAGE_BYTES))
+        if (!ask(READ_JOURNAL, recovering.passed.at, IMAGE_BYTES, NULL) || !pass(&recovering.passed, routine.bytes, IMAGE_BYTES))
             return false;
-        uint64_t page = number_at(recovering.bytes);
-        memmove(recovering.bytes, recovering.bytes + 4, PAGE_BYTES);
+        uint64_t page = number_at(routine.bytes);
+        memmove(routine.bytes, routine.bytes + 4, PAGE_BYTES);
         if (!ask(WRITE_FILE, page * PAGE_BYTES, PAGE_BYTES, NULL))
             return false;
     }
@@ -208,48 +184,31 @@ static uint32_t hand_on(void) {
     return DONE;
 }
 
-/* Both, on the stack of its own. */
-static void run(void) {
-    recovering.code = recover();
-    recovering.order = (struct order){OVER, 0, 0};
-    swapcontext(&recovering.own, &recovering.caller);
-    recovering.code = hand_on();
-    recovering.order = (struct order){OVER, 0, 0};
-    swapcontext(&recovering.own, &recovering.caller);
+/* Both, one after the other. */
+static void run_recovery(void) {
+    rest(recover());
+    rest(hand_on());
 }
 
 /* ---- the exports */
 
 uint32_t msgq_recovery_begin(struct recovery *it, uint64_t journal, uint64_t file) {
-    enum { STACK = 1 << 20 };
     memset(&recovering, 0, sizeof recovering);
     recovering.journal = journal;
     recovering.file = file;
-    recovering.stack = malloc(STACK);
-    recovering.order.kind = UINT32_MAX; /* nothing is asked for yet */
-    if (recovering.stack == NULL || getcontext(&recovering.own) != 0)
-        return NO_MEMORY;
-    recovering.own.uc_stack.ss_sp = recovering.stack;
-    recovering.own.uc_stack.ss_size = STACK;
-    makecontext(&recovering.own, run, 0);
     it->is_begun = true;
-    return DONE;
+    return begin_routine(run_recovery);
 }
 
 uint32_t msgq_recovery_next(struct recovery *it, struct order *order, uint8_t *bytes) {
     (void)it;
-    recovering.bytes = bytes;
-    go_on();
-    *order = recovering.order;
-    return order->kind == OVER ? recovering.code : DONE;
+    return next_of_routine(order, bytes);
 }
 
 uint32_t msgq_recovery_told(struct recovery *it, const uint8_t *read, size_t count, bool is_done) {
     (void)it;
     (void)count;
-    recovering.bytes = (uint8_t *)read;
-    recovering.is_done = is_done;
-    return is_done ? DONE : FAILED;
+    return told_of_routine(read, is_done);
 }
 
 uint32_t msgq_recovery_calls(struct recovery *it) {
@@ -267,8 +226,7 @@ uint32_t msgq_recovery_stands(struct recovery *it, struct stands *stands, uint8_
 uint32_t msgq_recovery_end(struct recovery *it) {
     if (!it->is_begun)
         return NO_SESSION;
-    free(recovering.stack);
-    recovering.stack = NULL;
+    end_routine();
     it->is_begun = false;
     return DONE;
 }

@@ -8,4 +8,5 @@ pub mod Telling
 pub mod Saving
 pub mod Serving
 pub mod Files
+pub mod Noted
 pub mod Noting

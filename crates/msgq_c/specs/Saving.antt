@@ -7,7 +7,7 @@ use Rattle.pair_transfers.specs.declared.save.SaveFault.{SaveFault}
 use Rattle.pair_transfers.specs.declared.save.SaveFault.TheVariants.{Device, Pages, NoMemory}
 use Rattle.pair_transfers.specs.declared.transfers.Standing.{Standing}
 use Rattle.pair_transfers.specs.declared.transfers.Transfer.{Transfer}
-use Rattle.pair_transfers.specs.declared.transfers.Transfer.TheVariants.{ReadHead, ReadJournal, ReadPage, WriteHead, WriteImage, WriteEntry, WritePage, CutFile, CutJournal, SyncJournal, SyncFile, Remake}
+use Rattle.pair_transfers.specs.declared.transfers.Transfer.TheVariants.{ReadHead, ReadJournal, ReadPage, WriteHead, WriteImage, WriteEntry, WritePage, CutFile, CutJournal, SyncJournal, SyncFile, Remake, WriteZeros, WriteCalls}
 use Rattle.msgq_c.specs.Files.{Of}
 use Rattle.msgq_c.specs.Held.{KeptSession}
 use Rattle.msgq_c.specs.Keeping.{IsSaved}
@@ -15,7 +15,7 @@ use Rattle.msgq_c.specs.declared.codes.TheConstants.{DONE, FAILED, NO_MEMORY}
 use Rattle.msgq_c.specs.declared.kept.Kept.{Kept}
 use Rattle.msgq_c.specs.declared.saving.Order.{Order}
 use Rattle.msgq_c.specs.declared.saving.Stands.{Stands}
-use Rattle.msgq_c.specs.declared.saving.TheConstants.{CUT_FILE, CUT_JOURNAL, OVER, READ_FILE, READ_JOURNAL, REMAKE, SYNC_FILE, SYNC_FILE_BYTES, SYNC_JOURNAL, SYNC_JOURNAL_BYTES, WRITE_FILE, WRITE_JOURNAL}
+use Rattle.msgq_c.specs.declared.saving.TheConstants.{CUT_FILE, CUT_JOURNAL, OVER, READ_FILE, READ_JOURNAL, REMAKE, SYNC_FILE, SYNC_FILE_BYTES, SYNC_JOURNAL, SYNC_JOURNAL_BYTES, WRITE_CALLS, WRITE_FILE, WRITE_JOURNAL, WRITE_ZEROS}
 
 -- ---- its pages, as a save sees them
 
@@ -74,6 +74,8 @@ order_of (Some (SyncFile true)) = order_at SYNC_FILE 0 0
 order_of (Some (SyncFile false)) = order_at SYNC_FILE_BYTES 0 0
 -- behind the word of the entry
 order_of (Some (Remake calls)) = order_at REMAKE calls 4
+order_of (Some (WriteZeros at zeros)) = order_at WRITE_ZEROS zeros at
+order_of (Some (WriteCalls at length)) = order_at WRITE_CALLS length at
 
 -- these over the first ones
 abbrev pub laid_over : (part whole : List ℕ) → List ℕ

@@ -50,6 +50,12 @@ pub(crate) const CUT_FILE: u32 = 10;
 /// So many bytes of calls are made again, which stand from there on in what was read last.
 pub(crate) const REMAKE: u32 = 11;
 
+/// So many zeros are written into the journal.
+pub(crate) const WRITE_ZEROS: u32 = 12;
+
+/// An addition of calls of so many bytes is written into the journal.
+pub(crate) const WRITE_CALLS: u32 = 13;
+
 /// A transfer that C is to make, but for its bytes.
 #[repr(C)]
 #[derive(Clone, Copy)]
@@ -216,7 +222,7 @@ pub extern "C" fn msgq_session_save_told(
 }
 
 /// That of a save that is not made.
-fn code_of_fault(fault: SaveFault) -> u32
+pub(crate) fn code_of_fault(fault: SaveFault) -> u32
     ensures { result ≡ fault_code fault }
 {
     match fault {
@@ -250,7 +256,7 @@ fn put_first(part: &[u8], whole: &mut [u8])
 }
 
 /// What is told of a transfer, but for its bytes.
-fn order_of(transfer: &Option<Transfer>) -> Order
+pub(crate) fn order_of(transfer: &Option<Transfer>) -> Order
     ensures { result ≡ order_of transfer.now }
 {
     match transfer {
@@ -269,6 +275,8 @@ fn order_of(transfer: &Option<Transfer>) -> Order
         Some(Transfer::SyncFile(true)) => Order::at(SYNC_FILE, 0, 0),
         Some(Transfer::SyncFile(false)) => Order::at(SYNC_FILE_BYTES, 0, 0),
         Some(Transfer::Remake(calls)) => Order::at(REMAKE, *calls, 4),
+        Some(Transfer::WriteZeros(at, zeros)) => Order::at(WRITE_ZEROS, *zeros, *at),
+        Some(Transfer::WriteCalls(at, length)) => Order::at(WRITE_CALLS, *length, *at),
     }
 }
 

@@ -1,5 +1,6 @@
 mod AmongLemmas
 mod MomentLemmas
+mod NoteLemmas
 mod PuttingBackLemmas
 mod RecoveringLemmas
 mod RecoveryStepLemmas

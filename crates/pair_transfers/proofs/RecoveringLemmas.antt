@@ -1,18 +1,18 @@
 -- What the files are behind each act of a recovery, and what a crash leaves of it.
-use Rattle.std.proofs.Common.{arith, ℕ, ◌≡◌, ◌≤◌, ◌<◌, ◌+◌, ◌⊎◌, inl, inr, ⊎_elim, refl, sym, ap, ◌∙◌, subst, Bool, true, false, List, [], ◌∷◌, length, take, set, slice_get, Option, Some, None, IsTrue, is_some}
+use Rattle.std.proofs.Common.{arith, ℕ, ◌≡◌, ◌≤◌, ◌<◌, ◌+◌, ◌⊎◌, inl, inr, ⊎_elim, refl, sym, ap, ◌∙◌, subst, Bool, true, false, List, [], ◌∷◌, length, take, set, slice_get, Option, Some, None}
 use Rattle.std.specs.Prelude.{nat_lt}
 use Rattle.std.proofs.lemmas.Bool.Decides.{nat_tests}
 use Rattle.std.proofs.lemmas.List.{take_all}
-use Rattle.safe_device.specs.Crash.{Cleared as ClearedBy, Follows, HasFile, HasJournal, Keeps}
-use Rattle.safe_device.specs.Left.{Left, Saved, calls_of, calls_alone, found_of, images_of, put_back, recovered, recovered_by, rest_of, restored_by, without_images}
-use Rattle.safe_device.specs.Safe.{Fits, IsFoundOrLeft, IsLeftBefore, IsRestoring, IsResting, StandsFor, committed}
+use Rattle.safe_device.specs.Crash.{Cleared as ClearedBy, Follows}
+use Rattle.safe_device.specs.Left.{Left, Saved, calls_of, calls_alone, found_of, images_of, put_back, recovered_by, rest_of, restored_by, without_images}
+use Rattle.safe_device.specs.Safe.{IsFoundOrLeft, IsRestoring, IsResting, committed}
 use Rattle.safe_device.specs.declared.journal.Journal.{Journal}
 use Rattle.safe_device.specs.declared.journal.PageImage.{PageImage}
 use Rattle.safe_device.specs.declared.page_pair.FoundJournal.{FoundJournal}
 use Rattle.pair_transfers.proofs.PuttingBackLemmas.{cleared_step, found_some, left_earlier, number_found, put_back_found, rest_recovers, rest_rests, resting_held, restoring_cut_on, restoring_on, says_of}
 use Rattle.pair_transfers.proofs.RestoringLemmas.{by_parts}
 use Rattle.pair_transfers.specs.Acts.{EndsJournal, Pages, SyncsFile, SyncsJournal}
-use Rattle.pair_transfers.specs.Recovering.{Cuts, EndsImages, IsCleared, IsDurable, IsFound, IsLying, IsOf, IsPutting, IsRecovered, IsRestored, IsSettled, IsUntouched, PutsBack}
+use Rattle.pair_transfers.specs.Recovering.{Cuts, EndsImages, IsCleared, IsDurable, IsFound, IsLying, IsPutting, IsRecovered, IsRestored, IsSettled, IsUntouched, PutsBack}
 
 -- the file once all images are in their places
 all_put : (q : Option Journal) (found : FoundJournal) (pages : Pages) (index : ℕ) → Some found ≡ found_of q →
@@ -23,7 +23,8 @@ all_put (Some j) found pages index is all =
     let count_is = says.count in
     let many = says.images in
     ap (λ (n : ℕ). put_back (take n pages) (take index j.images)) count_is
-    ∙ ap (λ (xs : List PageImage). put_back (take j.count pages) xs) (take_all index j.images (omega (arith, all, many)))
+    ∙ ap (λ (xs : List PageImage). put_back (take j.count pages) xs)
+    (take_all index j.images (omega (arith, all, many)))
 
 -- calls stay where there are some
 kept_calls : (count : ℕ) (calls : List (List ℕ)) → 0 < length calls →
@@ -56,7 +57,8 @@ none_stays (Some j) found is none =
     zero_is : (n : ℕ) → nat_lt 0 n ≡ false → n ≡ 0
     zero_is n is = grind (arith, nat_tests)
 
-module _ {P : Type 0} (file : P → Pages) (journal : P → Option Journal) (may_leave : P → Left → Type 0) (first : P) where
+module _ {P : Type 0} (file : P → Pages) (journal : P → Option Journal) (may_leave : P → Left → Type 0)
+    (first : P) where
   abbrev base : Saved
   base = committed file journal first
 

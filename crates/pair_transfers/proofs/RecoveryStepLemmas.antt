@@ -1,6 +1,6 @@
 -- A recovery goes on: an act is made that was told.
-use Rattle.std.proofs.Common.{arith, ℕ, ◌≡◌, ◌≤◌, ◌<◌, ◌&&◌, inl, inr, refl, sym, ap, ◌∙◌, subst, Bool, true, false, length, List, [], ◌∷◌, Option, Some, None, IsTrue}
-use Rattle.std.specs.Prelude.{nat_lt, if◌then◌else◌, Result, Ok, Err}
+use Rattle.std.proofs.Common.{arith, ℕ, ◌≡◌, ◌≤◌, ◌<◌, inl, inr, refl, sym, ◌∙◌, subst, Bool, true, false, length, List, [], ◌∷◌, Option, Some, None, IsTrue}
+use Rattle.std.specs.Prelude.{nat_lt, if◌then◌else◌, Ok}
 use Rattle.std.proofs.lemmas.Bool.Decides.{nat_tests}
 use Rattle.safe_device.specs.Crash.{Elapses, LeavesOnly}
 use Rattle.safe_device.specs.Left.{Left, found_of}

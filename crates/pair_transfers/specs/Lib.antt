@@ -1,4 +1,6 @@
 pub mod Acts
+pub mod NoteTransfers
+pub mod Noting
 pub mod Reading
 pub mod Recovering
 pub mod RecoveryTransfers

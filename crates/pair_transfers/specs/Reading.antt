@@ -1,6 +1,5 @@
--- How a journal is read: its head, the additions of calls behind it, and then its images. docs/FORMAT.md, "The journal".
-use Rattle.std.specs.Prelude.{◌≡◌, ℕ, ◌+◌, ◌*◌, ◌/◌, ◌==◌, ◌||◌, ◌&&◌, nat_le, nat_lt, min, not, Bool, true, false, List, length, take, if◌then◌else◌, Option, Some, None}
-use Rattle.safe_device.specs.declared.page_pair.FoundJournal.{FoundJournal}
+-- How a journal is read: its head, the additions of calls behind it, and its images. docs/FORMAT.md, "The journal".
+use Rattle.std.specs.Prelude.{ℕ, ◌+◌, ◌*◌, ◌/◌, ◌==◌, ◌||◌, ◌&&◌, nat_le, nat_lt, min, Bool, false, List, length, if◌then◌else◌, Option, Some, None}
 use Rattle.journal_bytes.specs.Bytes.{is_page_zero, says}
 use Rattle.journal_bytes.specs.Entries.{entry_in, image_in, sum_in}
 use Rattle.journal_bytes.specs.declared.entry.Entry.{Entry}

@@ -1,6 +1,6 @@
 -- A recovery: what is seen of a journal, what is done next, and what the files are meanwhile. docs/FORMAT.md,
 -- "The journal".
-use Rattle.std.specs.Prelude.{◌≡◌, ◌⊎◌, ℕ, ◌+◌, ◌==◌, ◌&&◌, nat_lt, Bool, true, false, List, length, take, slice_get, if◌then◌else◌, Option, Some, None, Result, Ok, Err}
+use Rattle.std.specs.Prelude.{◌≡◌, ◌⊎◌, ℕ, ◌+◌, ◌==◌, ◌&&◌, nat_lt, Bool, true, false, length, take, slice_get, if◌then◌else◌, Option, Some, None, Result, Ok, Err}
 use Rattle.safe_device.specs.Crash.{CutTo, Emptied, Follows, HasFile, HasJournal, Keeps}
 use Rattle.safe_device.specs.Left.{Left, found_of, images_of, put_back, rest_of, without_images}
 use Rattle.safe_device.specs.Safe.{Fits, Holds, IsAtRest, IsFoundOrLeft, IsRestoring, IsResting, StandsFor, committed}

@@ -5,6 +5,9 @@
 
 mod additions;
 mod looking;
+mod note;
+mod noting;
+mod noting_over;
 mod over;
 mod recovering;
 mod recovery;
@@ -16,6 +19,9 @@ mod unsaved;
 pub use additions::{Additions, Came};
 pub use journal_bytes;
 pub use looking::{Look, Looking};
+pub use note::{Note, NoteAct, NotePlace};
+pub use noting::{FRONT_BYTES, NoteStep, Noting};
+pub use noting_over::note_over;
 pub use over::save_over;
 pub use recovering::{Recovering, RecoveryStep};
 pub use recovery_over::recover_over;

@@ -264,7 +264,8 @@ impl Recovering {
     /// The image that is put back was read.
     fn put_next(&mut self, read: &[u8]) -> Result<(), RecoverFault>
         requires { length read.now ≡ 4132 }
-        ensures ok { OnOk result (Some self.new ≡ put_next (image_in self.old.sum read.now) self.old) }
+        ensures ok { OnOk result
+            (Some self.new ≡ put_next (image_in self.old.sum read.now) self.old) }
         ensures failed { OnErr result (self.new.recovery.place ≡ Failed) }
         ensures err { IfErr result (λ fault. fault ≡ Device) }
     {

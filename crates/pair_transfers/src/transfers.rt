@@ -50,6 +50,10 @@ pub enum Transfer {
     WriteHead([u8; HEAD_BYTES]),
     /// An image is written into the journal, from this place on.
     WriteImage(u64, [u8; IMAGE_BYTES]),
+    /// So many zeros are written into the journal, from this place on.
+    WriteZeros(u64, u32),
+    /// An addition of calls is written into the journal, from this place on, of so many bytes.
+    WriteCalls(u64, u32),
     /// An entry without bytes is written into the journal, from this place on.
     WriteEntry(u64, [u8; LEAST_ENTRY]),
     /// This page of the file is written.
@@ -349,7 +353,7 @@ impl Transfers {
 }
 
 /// One above the number of the last save, where a head tells that.
-fn next_number(read: &Page) -> Option<u64>
+pub(crate) fn next_number(read: &Page) -> Option<u64>
     ensures { result ≡ next_number (says (take 80 read.now)) }
 {
     let mut head = [0; HEAD_BYTES];
