@@ -24,9 +24,9 @@ pub use calls::{
 };
 pub use digest::msgq_session_digest;
 pub use files::{
-    Owner, msgq_session_close, msgq_session_create, msgq_session_handle_size,
-    msgq_session_notes, msgq_session_open, msgq_session_page,
-    msgq_session_pages, msgq_session_remake, msgq_session_stop,
+    Owner, msgq_session_close, msgq_session_create, msgq_session_handle_size, msgq_session_notes,
+    msgq_session_open, msgq_session_page, msgq_session_pages, msgq_session_remake,
+    msgq_session_stop,
 };
 pub use handle::Handle;
 pub use laws::what_is_noted_leads_on;

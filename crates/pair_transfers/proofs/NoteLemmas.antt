@@ -1,5 +1,5 @@
 -- A note goes on: what the files are behind each act, and what a crash leaves of it.
-use Rattle.std.proofs.Common.{arith, ℕ, ◌≡◌, inl, inr, ⊎_elim, refl, sym, ap, ◌∙◌, subst, Bool, true, List, [], ◌∷◌, length, Option, Some, None, IsTrue}
+use Rattle.std.proofs.Common.{arith, ℕ, ◌≡◌, ◌⊎◌, inl, inr, ⊎_elim, refl, sym, ap, ◌∙◌, subst, Bool, true, List, [], ◌∷◌, length, Option, Some, None, IsTrue}
 use Rattle.std.proofs.lemmas.List.{length_push, take_all}
 use Rattle.safe_device.specs.Crash.{Elapses, LeavesOnly}
 use Rattle.safe_device.specs.Left.{Left, Saved, images_of, noted, recovered_by, with_calls}
@@ -151,9 +151,8 @@ module _ {P : Type 0} (file : P → Pages) (journal : P → Option Journal) (may
 -- ---- a whole note
 
 module _ {P : Type 0} (honest : Bool) (file : P → Pages) (journal : P → Option Journal)
-    (may_leave : P → Left → Type 0) (moment : P → ℕ) (left_since : P → ℕ → Left → Type 0) (calls : List ℕ) (first : P)
-    (ready : IsTrue honest → IsReady file journal may_leave (file first) first) (count : ℕ)
-    (counted : IsTrue honest → count ≡ length (file first)) where
+    (may_leave : P → Left → Type 0) (moment : P → ℕ) (left_since : P → ℕ → Left → Type 0) (calls : List ℕ)
+    (first : P) where
   abbrev Either : Left → Type 0
   Either c = IsEither (committed file journal first) (with_calls calls (committed file journal first)) c
 
@@ -161,36 +160,38 @@ module _ {P : Type 0} (honest : Bool) (file : P → Pages) (journal : P → Opti
     pub stands : IsTrue honest → NoteStands file journal may_leave note.place calls first pair
     pub unseen : IsTrue honest → LeavesOnly moment left_since first pair Either
 
-  pub note_begins : ((c : Left) → left_since first (moment first) c → may_leave first c) →
-      IsGoingOn first (record { place = Unnoted })
-  note_begins only_now = record {
-    stands = λ sound. record { file_is = refl; journal_is = refl; left = λ c now. now };
-    unseen = λ sound. started moment left_since may_leave first Either only_now
-        (left_first file journal may_leave calls first (ready sound).rests first
-        (record { file_is = refl; journal_is = refl; left = λ c now. now }));
-  }
+  module _ (ready : IsTrue honest → IsReady file journal may_leave (file first) first) (count : ℕ)
+      (counted : IsTrue honest → count ≡ length (file first)) where
+    pub note_begins : ((c : Left) → left_since first (moment first) c → may_leave first c) →
+        IsGoingOn first (record { place = Unnoted })
+    note_begins only_now = record {
+      stands = λ sound. record { file_is = refl; journal_is = refl; left = λ c now. now };
+      unseen = λ sound. started moment left_since may_leave first Either only_now
+          (left_first file journal may_leave calls first (ready sound).rests first
+          (record { file_is = refl; journal_is = refl; left = λ c now. now }));
+    }
 
-  pub no_image_yet : (pair : P) (note : Note) → IsGoingOn pair note → IsTrue honest → images_of (journal pair) ≡ []
-  no_image_yet pair note so_far sound =
-      has_no_image file journal may_leave calls first (ready sound).rests pair note.place (so_far.stands sound)
+    pub no_image_yet : (pair : P) (note : Note) → IsGoingOn pair note → IsTrue honest → images_of (journal pair) ≡ []
+    no_image_yet pair note so_far sound =
+        has_no_image file journal may_leave calls first (ready sound).rests pair note.place (so_far.stands sound)
 
-  module _ (old new : P) (done : Bool) (note : Note) (so_far : IsGoingOn old note) (act : NoteAct)
-      (next : Some act ≡ next_of_note note.place)
-      (makes : IsTrue honest → DoesNote file journal may_leave count calls act done old new)
-      (time : Elapses moment left_since may_leave old new) where
-    does : IsTrue honest → DoesNote file journal may_leave (length (file first)) calls act done old new
-    does sound = subst (λ (n : ℕ). DoesNote file journal may_leave n calls act done old new) (counted sound)
-        (makes sound)
+    module _ (old new : P) (done : Bool) (note : Note) (so_far : IsGoingOn old note) (act : NoteAct)
+        (next : Some act ≡ next_of_note note.place)
+        (makes : IsTrue honest → DoesNote file journal may_leave count calls act done old new)
+        (time : Elapses moment left_since may_leave old new) where
+      does : IsTrue honest → DoesNote file journal may_leave (length (file first)) calls act done old new
+      does sound = subst (λ (n : ℕ). DoesNote file journal may_leave n calls act done old new) (counted sound)
+          (makes sound)
 
-    pub unseen_note : IsTrue honest → LeavesOnly moment left_since first new Either
-    unseen_note sound = goes_on moment left_since may_leave first old new Either (so_far.unseen sound) time
-        (note_left file journal may_leave calls first (ready sound).rests old new done note.place act (sym next)
-        (so_far.stands sound) (does sound))
+      pub unseen_note : IsTrue honest → LeavesOnly moment left_since first new Either
+      unseen_note sound = goes_on moment left_since may_leave first old new Either (so_far.unseen sound) time
+          (note_left file journal may_leave calls first (ready sound).rests old new done note.place act (sym next)
+          (so_far.stands sound) (does sound))
 
-    pub next_goes_on : (after : Note) → done ≡ true → after ≡ record { place = behind_note note.place } →
-        IsGoingOn new after
-    next_goes_on after ok is = subst (IsGoingOn new) (sym is) (record {
-      stands = λ sound. note_stands file journal may_leave calls first (ready sound).rests old new done note.place act
-          (sym next) (so_far.stands sound) (does sound) ok;
-      unseen = unseen_note;
-    })
+      pub next_goes_on : (after : Note) → done ≡ true → after ≡ record { place = behind_note note.place } →
+          IsGoingOn new after
+      next_goes_on after ok is = subst (IsGoingOn new) (sym is) (record {
+        stands = λ sound. note_stands file journal may_leave calls first (ready sound).rests old new done note.place act
+            (sym next) (so_far.stands sound) (does sound) ok;
+        unseen = unseen_note;
+      })

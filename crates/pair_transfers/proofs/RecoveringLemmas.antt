@@ -218,14 +218,17 @@ module _ {P : Type 0} (file : P → Pages) (journal : P → Option Journal) (may
         pub images_follow : nat_lt 0 found.calls ≡ true → EndsImages file journal may_leave done old new →
             Follows (ClearedBy (journal first)) (may_leave old) (may_leave new)
         images_follow some ends c now =
-            let from = ends.crash c now in
-            (from.0, from.1, record {
-              file = from.2.file;
-              left = ⊎_elim (λ same. inl (same ∙ is.restoring.journal_kept from.0 from.1))
-                  (λ let_go. inr (let_go ∙ ap without_images (is.restoring.journal_kept from.0 from.1)
-                  ∙ calls_stay (journal first) found is.its.found_is some))
-                  from.2.journal;
-            })
+            let from = ends.crash c now in (
+              from.0,
+              from.1,
+              record {
+                file = from.2.file;
+                left = ⊎_elim (λ same. inl (same ∙ is.restoring.journal_kept from.0 from.1))
+                    (λ let_go. inr (let_go ∙ ap without_images (is.restoring.journal_kept from.0 from.1)
+                    ∙ calls_stay (journal first) found is.its.found_is some))
+                    from.2.journal;
+              },
+            )
 
         pub images_end : nat_lt 0 found.calls ≡ true → EndsImages file journal may_leave done old new →
             done ≡ true → journal new ≡ rest_of (journal first)
@@ -236,13 +239,16 @@ module _ {P : Type 0} (file : P → Pages) (journal : P → Option Journal) (may
         pub end_follows : nat_lt 0 found.calls ≡ false → EndsJournal file journal may_leave done old new →
             Follows (ClearedBy (journal first)) (may_leave old) (may_leave new)
         end_follows none ends c now =
-            let from = ends.crash c now in
-            (from.0, from.1, record {
-              file = from.2.file;
-              left = ⊎_elim (λ same. inl (same ∙ is.restoring.journal_kept from.0 from.1))
-                  (λ gone. inr (gone ∙ sym (none_stays (journal first) found is.its.found_is none)))
-                  from.2.journal;
-            })
+            let from = ends.crash c now in (
+              from.0,
+              from.1,
+              record {
+                file = from.2.file;
+                left = ⊎_elim (λ same. inl (same ∙ is.restoring.journal_kept from.0 from.1))
+                    (λ gone. inr (gone ∙ sym (none_stays (journal first) found is.its.found_is none)))
+                    from.2.journal;
+              },
+            )
 
         pub ends_so : nat_lt 0 found.calls ≡ false → EndsJournal file journal may_leave done old new →
             done ≡ true → journal new ≡ rest_of (journal first)

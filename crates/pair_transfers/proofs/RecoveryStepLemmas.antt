@@ -177,7 +177,7 @@ module _ {P : Type 0} (honest : Bool) (file : P → Pages) (journal : P → Opti
           })
       by_seen (Whole found many) is sees =
           let same : recovery ≡
-              record { place = if is_resting found many then Resting else Found; found = found } = cc in
+          record { place = if is_resting found many then Resting else Found; found = found } = cc in
           subst (λ (r : Recovery). RecoveryStands file journal may_leave r.place r.found first first) (sym same)
           (begins_whole (is_resting found many) found many refl sees)
       by_seen Foreign is sees = absurd cc

@@ -1,8 +1,9 @@
 //! The transfers of a note of calls, with their places and their bytes.
-ghost use Rattle.std.specs.Prelude.{◌≡◌, ◌≤◌, IfErr, IfOk, OnErr, OnOk, length};
+ghost use Rattle.std.specs.Prelude.{◌≡◌, ◌≤◌, true, IfErr, IfOk, OnErr, OnOk, length, take};
 ghost use Rattle.journal_bytes.specs.Bytes.{says};
 ghost use Rattle.journal_bytes.specs.Entries.{calls_sum};
 ghost use Rattle.pair_transfers.specs.NoteTransfers.{addition_of_note, asked_note, begins_note, end_of_note, first_step_of_note, front_of_note, head_over, head_read, is_noted, notes_over, room_taken, step_behind, told_note, transfer_of_note, with_calls_added, with_head_of};
+ghost use Rattle.pair_transfers.specs.Transfers.{next_number};
 ghost use Rattle.pair_transfers.specs.declared.note.NotePlace.TheVariants.{Failed};
 ghost use Rattle.pair_transfers.specs.declared.save.SaveFault.TheVariants.{Device};
 

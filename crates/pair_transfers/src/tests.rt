@@ -1,6 +1,7 @@
-//! Recoveries of a file and a journal in memory, whose bytes are spelled as docs/FORMAT.md has them.
+//! Recoveries of a file and a journal in memory, whose bytes are spelled as docs/FORMAT.md has them, and
+//! notes.
 
-use crate::{RecoverFault, Recovering, Transfer};
+use crate::{FRONT_BYTES, Noting, RecoverFault, Recovering, Standing, Transfer};
 use journal_bytes::{Sum, seal_of, spell_calls, spell_head, spell_head_of_calls, spell_image};
 use safe_device::page_device::{PAGE_BYTES, Page};
 use std::alloc::Global;
@@ -145,6 +146,57 @@ fn recover_both(alloc: Global, both: &mut Both) -> Result<Result<u32, RecoverFau
     recover(alloc, both, &mut recovering)
 }
 
+/// Notes calls, and tells what is known of the journal then.
+fn note(
+    alloc: Global,
+    both: &mut Both,
+    journal: Standing,
+    calls: &[u8; 5],
+) -> Result<Option<Standing>, Fail> {
+    let mut noting = Noting::begin(2, 5, journal);
+    let mut read = Vec::new(alloc);
+    let mut front = [0; FRONT_BYTES];
+    let mut back = [0; 32];
+    for _ in 0..20 {
+        let Ok(told) = noting.next() else {
+            return Ok(None);
+        };
+        let Some(told) = told else {
+            return Ok(Some(noting.standing()));
+        };
+        let is_done = match told {
+            Transfer::WriteCalls(at, many) => {
+                noting.spell(calls, &mut front, &mut back);
+                let mut all = Vec::new(alloc);
+                all.extend_from_slice(&front)?;
+                all.extend_from_slice(calls)?;
+                all.extend_from_slice(&back)?;
+                let from = all.len().saturating_sub(many as usize);
+                write_part(&mut both.journal, at, all.get(from..).unwrap_or(&[]))?
+            }
+            Transfer::WriteZeros(at, many) => {
+                both.journal
+                    .resize(at.saturating_add(u64::from(many)) as usize, 0)?;
+                true
+            }
+            told => make(both, &told, &mut read)?,
+        };
+        let mut page = page_of(0);
+        write_page(&read, &mut page);
+        let Ok(()) = noting.told(&page, calls, is_done) else {
+            return Ok(None);
+        };
+    }
+    Ok(None)
+}
+
+/// As many bytes as there are, over the first of a page.
+fn write_page(read: &[u8], page: &mut Page) {
+    for (old, byte) in page.iter_mut().zip(read) {
+        *old = *byte;
+    }
+}
+
 /// The byte of which a page of the file is.
 fn byte_of(both: &Both, page: u32) -> Option<u8> {
     both.file.get(place_of(page) as usize).copied()
@@ -203,5 +255,31 @@ fn a_journal_of_another_file_is_refused(rt: HostRuntime) -> Result<(), Fail> {
     both.file.extend_from_slice(&page_of(5))?;
     assert!(rt; recover_both(rt.alloc(), &mut both)? == Err(RecoverFault::Foreign));
     assert!(rt; byte_of(&both, 1) == Some(5));
+    Ok(())
+}
+
+#[test]
+fn calls_are_noted_and_handed_on(rt: HostRuntime) -> Result<(), Fail> {
+    let mut both = two_pages(rt.alloc())?;
+    let none = Standing {
+        size: 0,
+        end: 0,
+        number: 0,
+        sum: [0; 32],
+    };
+    let one = note(rt.alloc(), &mut both, none, b"call1")?;
+    let Some(one) = one else {
+        assert!(rt; false, "the first note");
+        return Ok(());
+    };
+    assert!(rt; one.number == 1 && one.end == 121 && one.size == 262_144);
+    let two = note(rt.alloc(), &mut both, one, b"call2")?;
+    let Some(two) = two else {
+        assert!(rt; false, "the second note");
+        return Ok(());
+    };
+    assert!(rt; two.number == 1 && two.end == 162 && two.size == 262_144);
+    assert!(rt; both.journal.len() == 262_144);
+    assert!(rt; recover_both(rt.alloc(), &mut both)? == Ok(10));
     Ok(())
 }
