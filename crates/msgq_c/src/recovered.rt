@@ -170,7 +170,8 @@ pub extern "C" fn msgq_recovery_stands(
         end: standing.end,
         number: standing.number,
     };
-    *sum = standing.sum;
+    let last = standing.sum;
+    *sum = last;
     DONE
 }
 
