@@ -162,14 +162,14 @@ module _ {P : Type 0} (honest : Bool) (file : P → Pages) (journal : P → Opti
 
   module _ (ready : IsTrue honest → IsReady file journal may_leave (file first) first) (count : ℕ)
       (counted : IsTrue honest → count ≡ length (file first)) where
-    pub note_begins : ((c : Left) → left_since first (moment first) c → may_leave first c) →
-        IsGoingOn first (record { place = Unnoted })
-    note_begins only_now = record {
+    pub note_begins : (note : Note) → note ≡ record { place = Unnoted } →
+        ((c : Left) → left_since first (moment first) c → may_leave first c) → IsGoingOn first note
+    note_begins note is only_now = subst (IsGoingOn first) (sym is) (record {
       stands = λ sound. record { file_is = refl; journal_is = refl; left = λ c now. now };
       unseen = λ sound. started moment left_since may_leave first Either only_now
           (left_first file journal may_leave calls first (ready sound).rests first
           (record { file_is = refl; journal_is = refl; left = λ c now. now }));
-    }
+    })
 
     pub no_image_yet : (pair : P) (note : Note) → IsGoingOn pair note → IsTrue honest → images_of (journal pair) ≡ []
     no_image_yet pair note so_far sound =

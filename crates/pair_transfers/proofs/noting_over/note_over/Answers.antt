@@ -7,7 +7,7 @@ pub loop-init : goal.loop-init
 loop-init g c =
     note_begins g.P.PagePair.is_honest g.P.PagePair.file g.P.PagePair.journal g.P.PagePair.may_leave
     g.P.PagePair.moment g.P.PagePair.left_since c.args.calls.now c.args.pair.now c.requires c.pages-count.result
-    c.pages-count.ensures (g.met.P.PagePair.only_now c.args.pair.now)
+    c.pages-count.ensures c.begin-note.result c.begin-note.ensures (g.met.P.PagePair.only_now c.args.pair.now)
 
 -- an act adds to a journal without images
 pub make-is_done-requires : goal.make-is_done-requires
