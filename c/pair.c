@@ -1,8 +1,8 @@
 /* A file of queues and its journal: opened, saved, made. */
 #include "pair.h"
 #include "beside.h"
-#include "journal.h"
 #include "making.h"
+#include "orders.h"
 #include "reason.h"
 
 #include <errno.h>
@@ -73,6 +73,31 @@ static int open_both(struct pair *pair, const char *path) {
     return wrong;
 }
 
+/* ---- a recovery */
+
+static uint32_t next_of_recovery(const struct teller *teller, struct order *order, uint8_t **bytes) {
+    return msgq_recovery_next(&teller->pair->recovery, order, *bytes);
+}
+
+static uint32_t told_of_recovery(const struct teller *teller, const uint8_t *read, size_t count, bool is_done) {
+    return msgq_recovery_told(&teller->pair->recovery, read, count, is_done);
+}
+
+static const struct machine RECOVERY = {next_of_recovery, told_of_recovery};
+
+/* Undoes what a save that was cut off has left; where that is nothing, sees to it that this is on the disk. */
+static int recover(struct pair *pair) {
+    uint64_t journal = 0, file = 0;
+    int wrong = of_journal(size_of(&pair->journal, &journal));
+    if (wrong == 0)
+        wrong = size_of(&pair->file, &file);
+    if (wrong == 0)
+        wrong = error_of(msgq_recovery_begin(&pair->recovery, journal, file));
+    if (wrong == 0)
+        wrong = make_all(&(struct teller){.pair = pair}, &RECOVERY);
+    return wrong != 0 ? wrong : error_of(msgq_recovery_stands(&pair->recovery, &pair->stands, pair->sum));
+}
+
 int pair_open(struct pair *pair, const char *path) {
     /* More than one that moves the file has to come between, each time. */
     enum { MOST_TRIES = 100 };
@@ -83,7 +108,7 @@ int pair_open(struct pair *pair, const char *path) {
         wrong = open_both(pair, path);
     }
     if (wrong == 0)
-        wrong = journal_recover(&pair->file, &pair->journal, &pair->noted);
+        wrong = recover(pair);
     if (wrong != 0)
         pair_close(pair);
     return wrong;
@@ -95,6 +120,7 @@ void pair_close(struct pair *pair) {
         (void)flock(pair->journal.file, LOCK_UN);
     free(pair->room);
     pair->room = NULL;
+    (void)msgq_recovery_end(&pair->recovery);
     pair_leave(pair);
 }
 
@@ -119,39 +145,6 @@ int pair_read(const struct pair *pair, uint8_t **bytes, size_t *count) {
 
 /* ---- a save */
 
-static int page_of(struct handle *session, uint32_t page, uint8_t *into) {
-    return msgq_session_page(session, page, into) == DONE ? 0 : EIO;
-}
-
-/* How many pages the file has, and the digest with which its page 0 ends: that was checked when the session was opened, or was sealed by it. */
-static int know_file(const struct pair *pair, struct handle *session, uint32_t *pages, uint8_t *digest) {
-    if (msgq_session_pages(session, pages) != DONE)
-        return EIO;
-    return read_at(&pair->file, digest, DIGEST_BYTES, PAGE_BYTES - DIGEST_BYTES);
-}
-
-/* Makes a transfer. What is read stands in the bytes behind it. */
-static int make(const struct pair *pair, const struct order *order, uint8_t *bytes) {
-    switch (order->kind) {
-    case READ_JOURNAL:
-        return of_journal(read_at(&pair->journal, bytes, order->length, order->at));
-    case READ_FILE:
-        return read_at(&pair->file, bytes, order->length, order->at);
-    case WRITE_JOURNAL:
-        return of_journal(write_at(&pair->journal, bytes, order->length, order->at));
-    case WRITE_FILE:
-        return write_at(&pair->file, bytes, order->length, order->at);
-    case CUT_JOURNAL:
-        return of_journal(cut_at(&pair->journal, 0));
-    case SYNC_JOURNAL:
-        return of_journal(sync_it(&pair->journal));
-    case SYNC_JOURNAL_BYTES:
-        return of_journal(sync_bytes(&pair->journal));
-    default: /* SYNC_FILE */
-        return sync_bytes(&pair->file);
-    }
-}
-
 /* Sees to it that both numbers are still those of the files: the program may have closed them, and opened others. */
 static int test_both(const struct pair *pair) {
     int wrong = test_opened(&pair->file);
@@ -160,27 +153,30 @@ static int test_both(const struct pair *pair) {
     return wrong == 0 ? 0 : why(wrong, "the program has closed its descriptor");
 }
 
-/* Tells what is known of the journal, beside which a save begins. */
-static int begin_save(const struct pair *pair, struct handle *session) {
-    struct stands stands = {pair->noted.size, pair->noted.end, pair->noted.save};
-    int wrong = stands.end > 0 ? 0 : of_journal(size_of(&pair->journal, &stands.size));
-    return wrong != 0 ? wrong : error_of(msgq_session_save_begin(session, &stands, pair->noted.sum));
+/* What a save or a note begins beside: of a journal without calls it is known how long it is. */
+static int stands_of(struct pair *pair) {
+    int wrong = test_both(pair);
+    return wrong == 0 && pair->stands.end == 0 ? of_journal(size_of(&pair->journal, &pair->stands.size)) : wrong;
+}
+
+static uint32_t next_of_save(const struct teller *teller, struct order *order, uint8_t **bytes) {
+    return msgq_session_save_next(teller->session, order, *bytes);
+}
+
+static uint32_t told_of_save(const struct teller *teller, const uint8_t *read, size_t count, bool is_done) {
+    (void)count;
+    return msgq_session_save_told(teller->session, read, is_done);
 }
 
 int pair_save(struct pair *pair, struct handle *session) {
-    uint8_t bytes[ORDER_BYTES] = {0};
-    struct order order;
-    int wrong = test_both(pair);
+    static const struct machine save = {next_of_save, told_of_save};
+    int wrong = stands_of(pair);
     if (wrong == 0)
-        wrong = begin_save(pair, session);
-    while (wrong == 0 && (wrong = error_of(msgq_session_save_next(session, &order, bytes))) == 0 && order.kind != OVER) {
-        wrong = make(pair, &order, bytes);
-        uint32_t code = msgq_session_save_told(session, bytes, wrong == 0);
-        if (wrong == 0)
-            wrong = error_of(code);
-    }
+        wrong = error_of(msgq_session_save_begin(session, &pair->stands, pair->sum));
     if (wrong == 0)
-        pair->noted.end = 0;
+        wrong = make_all(&(struct teller){pair, session, 0}, &save);
+    if (wrong == 0)
+        pair->stands.end = 0;
     return wrong;
 }
 
@@ -189,35 +185,50 @@ int pair_save(struct pair *pair, struct handle *session) {
 /* So many bytes of calls are noted at once, which a session keeps at most; and behind so many bytes of them in the journal pages are saved. */
 enum { MOST_NOTED = 1 << 20, MOST_IN_JOURNAL = 8 << 20 };
 
+/* The calls stand in the room, between what is written before them and behind. Where no head is written less goes before them. */
+static uint32_t next_of_note(const struct teller *teller, struct order *order, uint8_t **bytes) {
+    uint8_t *front = teller->pair->room, *end = front + FRONT_BYTES + teller->count + DIGEST_BYTES;
+    uint32_t code = msgq_session_note_next(teller->session, order, front, end - DIGEST_BYTES);
+    if (code == DONE && order->kind == WRITE_CALLS)
+        *bytes = end - order->length;
+    return code;
+}
+
+static uint32_t told_of_note(const struct teller *teller, const uint8_t *read, size_t count, bool is_done) {
+    (void)count;
+    return msgq_session_note_told(teller->session, read, is_done);
+}
+
 static int note(struct pair *pair, struct handle *session, size_t count) {
-    uint8_t digest[DIGEST_BYTES];
-    uint32_t pages = 0;
-    int wrong = test_both(pair);
-    if (wrong != 0 || (pair->noted.end == 0 && (wrong = know_file(pair, session, &pages, digest)) != 0)
-        || (wrong = noted_add(&pair->journal, &pair->noted, pages, digest, pair->room, count)) != 0)
-        return wrong;
-    return msgq_session_end_notes(session) == DONE ? 0 : EIO;
+    static const struct machine machine = {next_of_note, told_of_note};
+    int wrong = make_all(&(struct teller){pair, session, count}, &machine);
+    return wrong != 0 ? wrong : error_of(msgq_session_note_stands(session, &pair->stands, pair->sum));
 }
 
 int pair_note(struct pair *pair, struct handle *session) {
     size_t count;
     if (pair->room == NULL)
-        pair->room = malloc(BEFORE_CALLS + MOST_NOTED + BEHIND_CALLS);
-    if (pair->room == NULL || pair->noted.end > MOST_IN_JOURNAL
-        || msgq_session_notes(session, pair->room + BEFORE_CALLS, MOST_NOTED, &count) != DONE)
+        pair->room = calloc(1, FRONT_BYTES + MOST_NOTED + DIGEST_BYTES);
+    if (pair->room == NULL || pair->stands.end > MOST_IN_JOURNAL
+        || msgq_session_notes(session, pair->room + FRONT_BYTES, MOST_NOTED, &count) != DONE)
         return pair_save(pair, session);
-    return count == 0 ? 0 : note(pair, session, count);
+    if (count == 0)
+        return 0;
+    int wrong = stands_of(pair);
+    if (wrong != 0)
+        return wrong;
+    uint32_t code = msgq_session_note_begin(session, &pair->stands, pair->sum);
+    return code == DUE ? pair_save(pair, session) : code != DONE ? error_of(code) : note(pair, session, count);
 }
 
 /* ---- calls are made again */
 
-static int remake(void *session, const uint8_t *calls, size_t count) {
-    return error_of(msgq_session_remake(session, calls, count));
-}
-
 int pair_bring_in(struct pair *pair, struct handle *session) {
-    int wrong = noted_each(&pair->journal, &pair->noted, remake, session);
-    return wrong == 0 && pair->noted.end > 0 ? pair_save(pair, session) : wrong;
+    int wrong = error_of(msgq_recovery_calls(&pair->recovery));
+    if (wrong == 0)
+        wrong = make_all(&(struct teller){pair, session, 0}, &RECOVERY);
+    (void)msgq_recovery_end(&pair->recovery);
+    return wrong == 0 && pair->stands.end > 0 ? pair_save(pair, session) : wrong;
 }
 
 /* ---- a file is made */
@@ -232,7 +243,7 @@ int pair_make(const char *path, struct handle *session) {
     if (wrong != 0)
         return wrong;
     for (uint32_t page = 0; wrong == 0 && page < pages; page++)
-        if ((wrong = page_of(session, page, bytes)) == 0)
+        if ((wrong = msgq_session_page(session, page, bytes) == DONE ? 0 : EIO) == 0)
             wrong = write_at(&made.file, bytes, sizeof bytes, (uint64_t)page * PAGE_BYTES);
     if (wrong == 0)
         wrong = sync_it(&made.file);

@@ -2,12 +2,15 @@
 #ifndef MSGQ_PAIR_H
 #define MSGQ_PAIR_H
 
-#include "journal.h"
+#include "session.h"
+#include "transfers.h"
 
 struct pair {
     struct opened file, journal;
-    struct noted noted; /* the calls that stand in the journal */
-    uint8_t *room;      /* in which calls are noted, once some were */
+    struct recovery recovery;  /* under way until the calls of the journal are brought in */
+    struct stands stands;      /* the calls that stand in the journal */
+    uint8_t sum[DIGEST_BYTES]; /* with which they end */
+    uint8_t *room;             /* in which calls are noted, once some were */
 };
 
 /* Opens both, locks the journal and undoes what a save that was cut off has left. EBUSY where another has them. */

@@ -60,6 +60,10 @@ int error_of(uint32_t code) {
         return why(EINVAL, "a file has 258 to 65536 pages");
     case FOREIGN:
         return why(EBADMSG, "the calls in its journal are of another file: put the file or the journal that belongs there");
+    case OTHER_VERSION:
+        return why(ENOTSUP, "its journal is of another version");
+    case OTHER_FILE:
+        return why(EBADMSG, "its journal is of another file: put the file or the journal that belongs there");
     case IN_USE:
         return EBUSY;
     case NO_SESSION:

@@ -9,7 +9,8 @@
 
 #define PAGE_BYTES 4096
 #define DIGEST_BYTES 32
-#define ORDER_BYTES 4132 /* as many bytes are transferred at most */
+#define ORDER_BYTES 4132 /* as many bytes are transferred at most, but for calls */
+#define FRONT_BYTES 84   /* before calls that are noted: a head and a word */
 
 enum {
     DONE = 0,
@@ -22,11 +23,19 @@ enum {
     NO_PAGE = 103,
     FOREIGN = 104,
     DUE = 105,
+    OTHER_VERSION = 106,
+    OTHER_FILE = 107,
 };
 
 struct handle {
     void *at;
     bool is_open;
+};
+
+/* The same of a file that is recovered. */
+struct recovery {
+    void *at;
+    bool is_begun;
 };
 
 struct owner {
@@ -75,9 +84,9 @@ struct info {
     bool has_key;
 };
 
-/* What a transfer of a save is. */
+/* What a transfer is. */
 enum {
-    OVER, /* none: the pages are saved */
+    OVER, /* none: all is done */
     READ_JOURNAL,
     READ_FILE,
     WRITE_JOURNAL,
@@ -85,7 +94,12 @@ enum {
     CUT_JOURNAL,
     SYNC_JOURNAL,
     SYNC_JOURNAL_BYTES,
+    SYNC_FILE_BYTES,
     SYNC_FILE,
+    CUT_FILE,
+    REMAKE, /* none: calls are made again, which stand in what was read last */
+    WRITE_ZEROS,
+    WRITE_CALLS, /* calls that are noted, and what stands before them and behind */
 };
 
 /* Which one it is, with how many bytes, from which place on. */
@@ -114,10 +128,19 @@ uint32_t msgq_session_save_begin(struct handle *, const struct stands *, const u
 uint32_t msgq_session_save_next(struct handle *, struct order *, uint8_t *bytes);
 uint32_t msgq_session_save_told(struct handle *, const uint8_t *read, bool is_done);
 uint32_t msgq_session_notes(struct handle *, uint8_t *into, size_t room, size_t *count);
-uint32_t msgq_session_end_notes(struct handle *);
+uint32_t msgq_session_note_begin(struct handle *, const struct stands *, const uint8_t *sum);
+uint32_t msgq_session_note_next(struct handle *, struct order *, uint8_t *front, uint8_t *back);
+uint32_t msgq_session_note_told(struct handle *, const uint8_t *read, bool is_done);
+uint32_t msgq_session_note_stands(struct handle *, struct stands *, uint8_t *sum);
 uint32_t msgq_session_remake(struct handle *, const uint8_t *calls, size_t count);
 uint32_t msgq_session_close(struct handle *);
 size_t msgq_session_handle_size(void);
+uint32_t msgq_recovery_begin(struct recovery *, uint64_t journal, uint64_t file);
+uint32_t msgq_recovery_next(struct recovery *, struct order *, uint8_t *bytes);
+uint32_t msgq_recovery_told(struct recovery *, const uint8_t *read, size_t count, bool is_done);
+uint32_t msgq_recovery_calls(struct recovery *);
+uint32_t msgq_recovery_stands(struct recovery *, struct stands *, uint8_t *sum);
+uint32_t msgq_recovery_end(struct recovery *);
 void msgq_session_digest(const uint8_t *bytes, size_t count, uint8_t *into);
 
 #endif

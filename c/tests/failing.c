@@ -156,13 +156,13 @@ static void save_fails(struct both start, int (*save)(msgq *), enum call call, i
     }
 }
 
-/* An opening that finds no journal may not know that this is on the disk: it syncs it before it tells anything. */
+/* An opening that finds no journal may not know that this is on the disk, nor the file: it syncs both before it tells anything. */
 static void emptiness_is_synced(struct both left) {
     msgq *queues;
     put(left);
     arm(FSYNC, INT_MAX, 0);
     is(msgq_open(path, &queues), 0, "open");
-    is(seen, 1, "syncs of an opening without a journal");
+    is(seen, 2, "syncs of an opening without a journal");
     (void)disarm();
     is(msgq_abandon(queues), 0, "abandon");
 }

@@ -5,6 +5,9 @@
  * Without a word FILE is opened, so that what a save has left is undone; else the calls of its journal are brought in, of five bytes
  * each: a page, and what fills it. Ends with status 0, or with 1 and the number of the error. */
 #include "../pair.h"
+#include "../reason.h"
+#include "heads.h"
+#include "recovering.h"
 #include "sha256.h"
 
 #include <stdio.h>
@@ -100,7 +103,7 @@ uint32_t msgq_session_save_next(struct handle *it, struct order *order, uint8_t 
     case WRITE_IMAGE: *order = (struct order){WRITE_JOURNAL, IMAGE, at.stands.end}; break;
     case SYNC_IMAGES: *order = (struct order){at.stands.end > at.stands.size ? SYNC_JOURNAL : SYNC_JOURNAL_BYTES, 0, 0}; break;
     case WRITE_PAGE: *order = (struct order){WRITE_FILE, PAGE_BYTES, place}; break;
-    case SYNC_PAGES: *order = (struct order){SYNC_FILE, 0, 0}; break;
+    case SYNC_PAGES: *order = (struct order){SYNC_FILE_BYTES, 0, 0}; break;
     case END: *order = is_long() ? (struct order){CUT_JOURNAL, 0, 0} : (struct order){WRITE_JOURNAL, HEAD_BYTES, 0}; break;
     case SYNC_END: *order = (struct order){is_long() ? SYNC_JOURNAL : SYNC_JOURNAL_BYTES, 0, 0}; break;
     default: *order = (struct order){OVER, 0, 0};
@@ -118,10 +121,9 @@ uint32_t msgq_session_save_next(struct handle *it, struct order *order, uint8_t 
 
 /* Takes the number above that of the head that was read; the journal is cut where none stands there. */
 static void number(const uint8_t *read) {
-    bool is_head = has_digest(read, SUM_AT, read + SUM_AT) && memcmp(read, "msgq", 4) == 0;
-    if (is_head)
+    if (is_head(read))
         at.stands.number = head_save(read) + 1;
-    at.step = is_head ? READ_ZERO : CUT;
+    at.step = is_head(read) ? READ_ZERO : CUT;
 }
 
 /* The journal is synced with its images. */
@@ -179,11 +181,108 @@ uint32_t msgq_session_notes(struct handle *it, uint8_t *into, size_t room, size_
     return DONE;
 }
 
-uint32_t msgq_session_end_notes(struct handle *it) {
+static struct {
+    struct stands stands;
+    uint8_t sum[DIGEST_BYTES], head[HEAD_BYTES], word[4], behind[DIGEST_BYTES];
+    bool is_first;
+} noting;
+
+/* Writes the head before calls that are the first: its number is above that of the head that stands there, or the journal is cut. */
+static bool begin_calls(void) {
+    struct stands *stands = &noting.stands;
+    bool is_numbered = stands->size >= HEAD_BYTES && ask(READ_JOURNAL, 0, HEAD_BYTES, NULL) && is_head(routine.bytes);
+    stands->number = is_numbered ? head_save(routine.bytes) + 1 : 1;
+    if (!is_numbered && stands->size > 0) {
+        if (!ask(CUT_JOURNAL, 0, 0, NULL) || !ask(SYNC_JOURNAL, 0, 0, NULL))
+            return false;
+        stands->size = 0;
+    }
+    if (!ask(READ_FILE, 0, PAGE_BYTES, NULL))
+        return false;
+    head_begin(noting.head, VERSION_OF_CALLS, stands->number, count, routine.bytes + PAGE_BYTES - DIGEST_BYTES);
+    memcpy(noting.sum, noting.head + SUM_AT, DIGEST_BYTES);
+    stands->end = HEAD_BYTES;
+    noting.is_first = true;
+    return true;
+}
+
+/* Adds zeros in steps, where the addition has no room. */
+static bool take_zeros(uint64_t end) {
+    enum { STEP = 256 << 10, PART = 64 << 10 };
+    struct stands *stands = &noting.stands;
+    if (end <= stands->size)
+        return true;
+    for (uint64_t wanted = stands->size + ((end - stands->size) / STEP + 1) * STEP; stands->size < wanted; stands->size += PART)
+        if (!ask(WRITE_ZEROS, stands->size, PART, NULL))
+            return false;
+    return ask(SYNC_JOURNAL, 0, 0, NULL);
+}
+
+/* Spells what stands before the calls and behind them. */
+static void spell_calls(void) {
+    static uint8_t all[DIGEST_BYTES + 4 + sizeof made];
+    put_number(noting.word, CALLS_FOLLOW | (uint32_t)length);
+    memcpy(all, noting.sum, DIGEST_BYTES);
+    memcpy(all + DIGEST_BYTES, noting.word, 4);
+    memcpy(all + DIGEST_BYTES + 4, made, length);
+    digest(all, DIGEST_BYTES + 4 + length, noting.behind);
+}
+
+static bool note(void) {
+    if (noting.stands.end == 0 && !begin_calls())
+        return false;
+    uint64_t end = noting.stands.end + LEAST_ENTRY + length;
+    if (!take_zeros(end))
+        return false;
+    spell_calls();
+    uint32_t many = (uint32_t)(LEAST_ENTRY + length);
+    if (!(noting.is_first ? ask(WRITE_CALLS, 0, many + HEAD_BYTES, NULL) : ask(WRITE_CALLS, noting.stands.end, many, NULL)))
+        return false;
+    noting.stands.end = end;
+    memcpy(noting.sum, noting.behind, DIGEST_BYTES);
+    return ask(SYNC_JOURNAL_BYTES, 0, 0, NULL);
+}
+
+static void run_note(void) {
+    bool is_done = note();
+    if (is_done)
+        length = 0;
+    rest(is_done ? DONE : FAILED);
+}
+
+uint32_t msgq_session_note_begin(struct handle *it, const struct stands *stands, const uint8_t *sum) {
     (void)it;
-    length = 0;
+    memset(&noting, 0, sizeof noting);
+    noting.stands = *stands;
+    memcpy(noting.sum, sum, DIGEST_BYTES);
+    return begin_routine(run_note);
+}
+
+uint32_t msgq_session_note_next(struct handle *it, struct order *order, uint8_t *front, uint8_t *back) {
+    (void)it;
+    uint32_t code = next_of_routine(order, routine.bytes);
+    if (order->kind == WRITE_CALLS) {
+        memcpy(front, noting.head, HEAD_BYTES);
+        memcpy(front + HEAD_BYTES, noting.word, 4);
+        memcpy(back, noting.behind, DIGEST_BYTES);
+    }
+    return code;
+}
+
+uint32_t msgq_session_note_told(struct handle *it, const uint8_t *read, bool is_done) {
+    (void)it;
+    return told_of_routine(read, is_done);
+}
+
+uint32_t msgq_session_note_stands(struct handle *it, struct stands *stands, uint8_t *sum) {
+    (void)it;
+    *stands = noting.stands;
+    memcpy(sum, noting.sum, DIGEST_BYTES);
+    end_routine();
     return DONE;
 }
+
+/* ---- and are made again */
 
 /* Makes a call: fills a page, and seals it. */
 static bool make(const uint8_t *call) {

@@ -23,10 +23,7 @@ pub fn spell_image(before: &Sum, number: u32, page: &Page) -> ([u8; IMAGE_BYTES]
     let mut word = [0; 4];
     write_four(&mut word, number);
     join(&word, page, &mut front);
-    let mut hasher = Sha256::new();
-    hasher.update(before);
-    hasher.update(front);
-    let sum = hasher.finalize();
+    let sum = digest_behind(before, &front);
     let mut bytes = [0; IMAGE_BYTES];
     join(&front, &sum, &mut bytes);
     (bytes, sum)
@@ -40,6 +37,16 @@ pub(crate) fn join(front: &[u8], back: &[u8], whole: &mut [u8])
     let (head, tail) = whole.split_at_mut(front.len());
     head.copy_from_slice(front);
     tail.copy_from_slice(back);
+}
+
+/// The digest of a digest and of bytes behind it.
+pub(crate) fn digest_behind(before: &Sum, bytes: &[u8]) -> Sum
+    ensures { result ≡ sha256 (before.now ++ bytes.now) }
+{
+    let mut hasher = Sha256::new();
+    hasher.update(before);
+    hasher.update(bytes);
+    hasher.finalize()
 }
 
 /// The digest of bytes.

@@ -1,13 +1,14 @@
 -- What the exports promise that open, read, stop and close a session.
-use Rattle.std.specs.Prelude.{ℕ, ◌≡◌, ◌≤◌, ◌/◌, ◌⊎◌, Bool, true, false, List, [], Option, Some, None, Result, Ok, Err, length}
+use Rattle.std.specs.Prelude.{ℕ, ◌≡◌, ◌≤◌, ◌/◌, ◌⊎◌, List, [], Option, Some, None, Result, Ok, Err, length}
 use Rattle.page_device.specs.declared.page.TheConstants.{PAGE_BYTES}
 use Rattle.queue_model.specs.declared.caller.Caller.{Caller}
 use Rattle.call_entries.specs.Log.{empty}
+use Rattle.pair_transfers.specs.NoteTransfers.{notes_over}
 use Rattle.pair_transfers.specs.Transfers.{none_under_way}
 use Rattle.session.specs.Words.{IsFaultNumber, OpenFault, open_number_of}
 use Rattle.session.specs.Session.{GivesPage, Opens, OpensNew, SessionState, Stops, pages_in, pages_of}
 use Rattle.msgq_c.specs.Held.{KeptSession}
-use Rattle.msgq_c.specs.Keeping.{AreNotes, MakesAll, noted}
+use Rattle.msgq_c.specs.Keeping.{AreNotes, MakesAll}
 use Rattle.msgq_c.specs.declared.codes.TheConstants.{DONE, DUE, FAILED, FOREIGN, IN_USE, NO_MEMORY, NO_PAGE, NO_SESSION}
 use Rattle.msgq_c.specs.declared.files.Owner.{Owner}
 use Rattle.msgq_c.specs.declared.kept.Kept.{Kept}
@@ -17,7 +18,14 @@ caller_of owner = record { pid = owner.pid; uid = owner.uid; gid = owner.gid }
 
 -- a session for a caller, of which nothing is to be noted
 abbrev pub fresh : Caller → SessionState → Kept
-fresh caller k = record { session = k; caller = caller; log = empty; lacked_room = false; transfers = none_under_way }
+fresh caller k = record {
+  session = k;
+  caller = caller;
+  log = empty;
+  lacked_room = false;
+  transfers = none_under_way;
+  noting = notes_over;
+}
 
 -- what came of opening is put into a handle that has none, or a number says why not
 abbrev pub IsKept : Caller → Result SessionState OpenFault → ℕ → (after : KeptSession) → Type 0
@@ -88,10 +96,6 @@ Copies count into code k = ((code ≡ DONE) × AreNotes into count k) ⊎ (code 
 
 abbrev pub CopiesHandle : (count : ℕ) → (into : List ℕ) → ℕ → (old after : KeptSession) → Type 0
 CopiesHandle count into = Of (λ old code after. Copies count into code old × (after ≡ Some old))
-
--- they stand in the journal
-abbrev pub EndsNotes : ℕ → (old after : KeptSession) → Type 0
-EndsNotes = Of (λ old code after. (code ≡ DONE) × (after ≡ Some (noted old)))
 
 -- the calls of an addition were made again
 pub record HasRemade (calls : List ℕ) (code : ℕ) (old : Kept) (after : KeptSession) : Type 0 where

@@ -1,9 +1,12 @@
 pub mod Arguments
 pub mod Codes
 pub mod Held
+pub mod HeldRecovery
 pub mod Keeping
+pub mod Recovering
 pub mod Telling
 pub mod Saving
 pub mod Serving
 pub mod Files
+pub mod Noted
 pub mod Noting

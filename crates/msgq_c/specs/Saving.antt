@@ -7,7 +7,7 @@ use Rattle.pair_transfers.specs.declared.save.SaveFault.{SaveFault}
 use Rattle.pair_transfers.specs.declared.save.SaveFault.TheVariants.{Device, Pages, NoMemory}
 use Rattle.pair_transfers.specs.declared.transfers.Standing.{Standing}
 use Rattle.pair_transfers.specs.declared.transfers.Transfer.{Transfer}
-use Rattle.pair_transfers.specs.declared.transfers.Transfer.TheVariants.{ReadHead, ReadPage, WriteHead, WriteImage, WritePage, CutJournal, SyncJournal, SyncFile}
+use Rattle.pair_transfers.specs.declared.transfers.Transfer.TheVariants.{ReadHead, ReadJournal, ReadPage, WriteHead, WriteImage, WriteEntry, WritePage, CutFile, CutJournal, SyncJournal, SyncFile, Remake, WriteZeros, WriteCalls}
 use Rattle.msgq_c.specs.Files.{Of}
 use Rattle.msgq_c.specs.Held.{KeptSession}
 use Rattle.msgq_c.specs.Keeping.{IsSaved}
@@ -15,7 +15,7 @@ use Rattle.msgq_c.specs.declared.codes.TheConstants.{DONE, FAILED, NO_MEMORY}
 use Rattle.msgq_c.specs.declared.kept.Kept.{Kept}
 use Rattle.msgq_c.specs.declared.saving.Order.{Order}
 use Rattle.msgq_c.specs.declared.saving.Stands.{Stands}
-use Rattle.msgq_c.specs.declared.saving.TheConstants.{CUT_JOURNAL, OVER, READ_FILE, READ_JOURNAL, SYNC_FILE, SYNC_JOURNAL, SYNC_JOURNAL_BYTES, WRITE_FILE, WRITE_JOURNAL}
+use Rattle.msgq_c.specs.declared.saving.TheConstants.{CUT_FILE, CUT_JOURNAL, OVER, READ_FILE, READ_JOURNAL, REMAKE, SYNC_FILE, SYNC_FILE_BYTES, SYNC_JOURNAL, SYNC_JOURNAL_BYTES, WRITE_CALLS, WRITE_FILE, WRITE_JOURNAL, WRITE_ZEROS}
 
 -- ---- its pages, as a save sees them
 
@@ -60,14 +60,22 @@ order_at kind length at = record { kind = kind; length = length; at = at }
 abbrev pub order_of : Option Transfer → Order
 order_of None = order_at OVER 0 0
 order_of (Some ReadHead) = order_at READ_JOURNAL 80 0
+order_of (Some (ReadJournal at length)) = order_at READ_JOURNAL length at
 order_of (Some (ReadPage page)) = order_at READ_FILE 4096 (page * 4096)
 order_of (Some (WriteHead head)) = order_at WRITE_JOURNAL 80 0
 order_of (Some (WriteImage at image)) = order_at WRITE_JOURNAL 4132 at
+order_of (Some (WriteEntry at entry)) = order_at WRITE_JOURNAL 36 at
 order_of (Some (WritePage page bytes)) = order_at WRITE_FILE 4096 (page * 4096)
+order_of (Some (CutFile pages)) = order_at CUT_FILE 0 (pages * 4096)
 order_of (Some CutJournal) = order_at CUT_JOURNAL 0 0
 order_of (Some (SyncJournal true)) = order_at SYNC_JOURNAL 0 0
 order_of (Some (SyncJournal false)) = order_at SYNC_JOURNAL_BYTES 0 0
-order_of (Some SyncFile) = order_at SYNC_FILE 0 0
+order_of (Some (SyncFile true)) = order_at SYNC_FILE 0 0
+order_of (Some (SyncFile false)) = order_at SYNC_FILE_BYTES 0 0
+-- behind the word of the entry
+order_of (Some (Remake calls)) = order_at REMAKE calls 4
+order_of (Some (WriteZeros at zeros)) = order_at WRITE_ZEROS zeros at
+order_of (Some (WriteCalls at length)) = order_at WRITE_CALLS length at
 
 -- these over the first ones
 abbrev pub laid_over : (part whole : List ℕ) → List ℕ
@@ -77,6 +85,7 @@ laid_over part whole = part ++ drop (length part) whole
 abbrev pub HasBytes : Option Transfer → (old new : List ℕ) → Type 0
 HasBytes (Some (WriteHead head)) old new = new ≡ laid_over head old
 HasBytes (Some (WriteImage at image)) old new = new ≡ laid_over image old
+HasBytes (Some (WriteEntry at entry)) old new = new ≡ laid_over entry old
 HasBytes (Some (WritePage page written)) old new = new ≡ laid_over written old
 HasBytes transfer old new = ⊤
 

@@ -37,6 +37,12 @@ pub(crate) const FOREIGN: u32 = 104;
 /// The pages are to be written: what was done is not noted.
 pub(crate) const DUE: u32 = 105;
 
+/// The journal is of another version.
+pub(crate) const OTHER_VERSION: u32 = 106;
+
+/// The journal is of another file.
+pub(crate) const OTHER_FILE: u32 = 107;
+
 /// That of a call.
 pub(crate) fn code_of(came: &Result<Answer, Unanswered>) -> u32
     ensures { result ≡ code_of came.now }

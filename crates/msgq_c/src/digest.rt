@@ -1,4 +1,4 @@
-//! Digests, for the journal of a file.
+//! Digests, for who tells what is wrong with a page.
 
 ghost use Rattle.std.specs.Prelude.{◌≡◌};
 ghost use Rattle.sha2.specs.Sha256.{sha256};

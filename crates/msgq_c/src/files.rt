@@ -2,13 +2,13 @@
 
 ghost use Rattle.std.specs.Prelude.{◌≡◌, IsNone, Ok};
 ghost use Rattle.session.specs.Words.{CanHavePages};
-ghost use Rattle.msgq_c.specs.Files.{Closes, CopiesHandle, CopiesPage, Counts, Creates, EndsNotes, HasNoSuchSize, IsKept, OpensHandle, RemakesHandle, StopsHandle, caller_of};
+ghost use Rattle.msgq_c.specs.Files.{Closes, CopiesHandle, CopiesPage, Counts, Creates, HasNoSuchSize, IsKept, OpensHandle, RemakesHandle, StopsHandle, caller_of};
 
 use crate::codes::{DONE, DUE, FAILED, FOREIGN, IN_USE, NO_MEMORY, NO_PAGE, NO_SESSION};
 use crate::handle::Handle;
 use crate::kept::{Kept, Unmade};
 use call_entries::CallLog;
-use pair_transfers::Transfers;
+use pair_transfers::{Noting, Transfers};
 use session::queue_model::Caller;
 use session::{LEAST_PAGES, MAX_PAGES, OpenFault, PAGE_BYTES, Session};
 use std::alloc::Global;
@@ -140,20 +140,6 @@ pub extern "C" fn msgq_session_notes(
     }
 }
 
-/// These entries stand in the journal.
-#[unsafe(no_mangle)]
-pub extern "C" fn msgq_session_end_notes(alloc: Global, handle: &mut Handle) -> u32
-    ensures { EndsNotes result handle.old.held.session handle.new.held.session }
-{
-    if !handle.is_open {
-        return NO_SESSION;
-    }
-    let mut kept = handle.take(alloc);
-    kept.end_notes();
-    handle.put(kept);
-    DONE
-}
-
 /// Makes the calls again of an addition to the journal of the file, which a server had answered. Where
 /// one of them is not answered as it was, or there is no memory, the session is let go.
 #[unsafe(no_mangle)]
@@ -242,6 +228,7 @@ fn put(alloc: Global, handle: &mut Handle, caller: Caller, session: Session) -> 
         log,
         lacked_room: false,
         transfers,
+        noting: Noting::none(),
     };
     match Box::new(alloc, kept) {
         Ok(kept) => {

@@ -4,6 +4,7 @@ ghost use Rattle.std.specs.Prelude.{◌≡◌, IsSome, None, Some};
 ghost use Rattle.msgq_c.specs.Held.{KeptSession, kept_session_coded, owns_kept_session};
 
 mod parts;
+pub(crate) mod recovery;
 
 use crate::kept::Kept;
 use parts::Parts;

@@ -5,7 +5,7 @@ ghost use Rattle.call_entries.specs.Log.{Ends};
 ghost use Rattle.msgq_c.specs.Keeping.{CopiesNotes, IsSaved, Makes, MakesAgain, MakesAll, answer_of, lacks_room, noted};
 
 use call_entries::{CallEntry, CallLog, CallReader, Unreadable, check_of};
-use pair_transfers::Transfers;
+use pair_transfers::{Noting, Transfers};
 use session::queue_model::{Answer, Call, Caller};
 use session::{Session, Unanswered};
 use std::alloc::Global;
@@ -22,6 +22,8 @@ pub struct Kept {
     pub(crate) lacked_room: bool,
     /// A save of its pages, transfer by transfer.
     pub(crate) transfers: Transfers,
+    /// A note of its calls, transfer by transfer.
+    pub(crate) noting: Noting,
 }
 
 /// Why calls are not made again.

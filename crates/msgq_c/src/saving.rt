@@ -39,7 +39,22 @@ pub(crate) const SYNC_JOURNAL: u32 = 6;
 pub(crate) const SYNC_JOURNAL_BYTES: u32 = 7;
 
 /// The file is synced, whose length is as it was.
-pub(crate) const SYNC_FILE: u32 = 8;
+pub(crate) const SYNC_FILE_BYTES: u32 = 8;
+
+/// The file is synced.
+pub(crate) const SYNC_FILE: u32 = 9;
+
+/// The file is ended behind so many bytes, which stand as the place.
+pub(crate) const CUT_FILE: u32 = 10;
+
+/// So many bytes of calls are made again, which stand from there on in what was read last.
+pub(crate) const REMAKE: u32 = 11;
+
+/// So many zeros are written into the journal.
+pub(crate) const WRITE_ZEROS: u32 = 12;
+
+/// An addition of calls of so many bytes is written into the journal.
+pub(crate) const WRITE_CALLS: u32 = 13;
 
 /// A transfer that C is to make, but for its bytes.
 #[repr(C)]
@@ -207,7 +222,7 @@ pub extern "C" fn msgq_session_save_told(
 }
 
 /// That of a save that is not made.
-fn code_of_fault(fault: SaveFault) -> u32
+pub(crate) fn code_of_fault(fault: SaveFault) -> u32
     ensures { result ≡ fault_code fault }
 {
     match fault {
@@ -217,7 +232,7 @@ fn code_of_fault(fault: SaveFault) -> u32
 }
 
 /// Tells a transfer, and puts its bytes first.
-fn tell(transfer: &Option<Transfer>, order: &mut Order, bytes: &mut [u8; IMAGE_BYTES])
+pub(crate) fn tell(transfer: &Option<Transfer>, order: &mut Order, bytes: &mut [u8; IMAGE_BYTES])
     ensures order { order.new ≡ order_of transfer.now }
     ensures bytes { HasBytes transfer.now bytes.old bytes.new }
 {
@@ -225,6 +240,7 @@ fn tell(transfer: &Option<Transfer>, order: &mut Order, bytes: &mut [u8; IMAGE_B
     match transfer {
         Some(Transfer::WriteHead(head)) => put_first(head, bytes),
         Some(Transfer::WriteImage(_, image)) => put_first(image, bytes),
+        Some(Transfer::WriteEntry(_, entry)) => put_first(entry, bytes),
         Some(Transfer::WritePage(_, page)) => put_first(page, bytes),
         _ => {}
     }
@@ -240,20 +256,27 @@ fn put_first(part: &[u8], whole: &mut [u8])
 }
 
 /// What is told of a transfer, but for its bytes.
-fn order_of(transfer: &Option<Transfer>) -> Order
+pub(crate) fn order_of(transfer: &Option<Transfer>) -> Order
     ensures { result ≡ order_of transfer.now }
 {
     match transfer {
         None => Order::at(OVER, 0, 0),
         Some(Transfer::ReadHead) => Order::at(READ_JOURNAL, 80, 0),
+        Some(Transfer::ReadJournal(at, length)) => Order::at(READ_JOURNAL, *length, *at),
         Some(Transfer::ReadPage(page)) => Order::of_page(READ_FILE, *page),
         Some(Transfer::WriteHead(_)) => Order::at(WRITE_JOURNAL, 80, 0),
         Some(Transfer::WriteImage(at, _)) => Order::at(WRITE_JOURNAL, 4132, *at),
+        Some(Transfer::WriteEntry(at, _)) => Order::at(WRITE_JOURNAL, 36, *at),
         Some(Transfer::WritePage(page, _)) => Order::of_page(WRITE_FILE, *page),
+        Some(Transfer::CutFile(pages)) => Order::at(CUT_FILE, 0, u64::from(*pages) * 4096),
         Some(Transfer::CutJournal) => Order::at(CUT_JOURNAL, 0, 0),
         Some(Transfer::SyncJournal(true)) => Order::at(SYNC_JOURNAL, 0, 0),
         Some(Transfer::SyncJournal(false)) => Order::at(SYNC_JOURNAL_BYTES, 0, 0),
-        Some(Transfer::SyncFile) => Order::at(SYNC_FILE, 0, 0),
+        Some(Transfer::SyncFile(true)) => Order::at(SYNC_FILE, 0, 0),
+        Some(Transfer::SyncFile(false)) => Order::at(SYNC_FILE_BYTES, 0, 0),
+        Some(Transfer::Remake(calls)) => Order::at(REMAKE, *calls, 4),
+        Some(Transfer::WriteZeros(at, zeros)) => Order::at(WRITE_ZEROS, *zeros, *at),
+        Some(Transfer::WriteCalls(at, length)) => Order::at(WRITE_CALLS, *length, *at),
     }
 }
 

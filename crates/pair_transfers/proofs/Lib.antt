@@ -1,5 +1,9 @@
 mod AmongLemmas
 mod MomentLemmas
+mod NoteLemmas
+mod PuttingBackLemmas
+mod RecoveringLemmas
+mod RecoveryStepLemmas
 mod RestoringLemmas
 mod SavingLemmas
 mod StepLemmas

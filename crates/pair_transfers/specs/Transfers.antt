@@ -1,9 +1,8 @@
 -- The transfers of a save: which stands for which step, and what comes behind it. docs/FORMAT.md, "The journal".
-use Rattle.std.specs.Prelude.{◌≡◌, ℕ, ◌+◌, ◌==◌, Bool, true, false, List, [], if◌then◌else◌, max, min, nat_le, nat_lt, take, drop, replicate, Option, Some, None}
+use Rattle.std.specs.Prelude.{◌≡◌, ℕ, ◌+◌, ◌==◌, Bool, true, false, List, [], if◌then◌else◌, max, min, nat_le, nat_lt, take, replicate, Option, Some, None}
 use Rattle.sha2.specs.Sha256.{sha256}
-use Rattle.journal_bytes.specs.Bytes.{end_of, front_of, head_of, image_of, image_sum, says}
+use Rattle.journal_bytes.specs.Bytes.{end_of, front_of, head_of, image_of, image_sum, number_of, says, seal_in}
 use Rattle.journal_bytes.specs.declared.head.FoundHead.{FoundHead}
-use Rattle.journal_bytes.specs.declared.head.FoundHead.TheVariants.{Torn, Of}
 use Rattle.pair_transfers.specs.Acts.{Pages}
 use Rattle.pair_transfers.specs.Saving.{Ends, IsNext, IsTurned, SaveState, advanced, begun}
 use Rattle.pair_transfers.specs.declared.save.Act.{Act}
@@ -47,7 +46,7 @@ abbrev pub transfer_of_act : TransfersState → Act → Transfer
 transfer_of_act t (Guard page) = ReadPage page
 transfer_of_act t SyncImages = SyncJournal (nat_lt t.journal.size t.journal.end)
 transfer_of_act t (Write page bytes) = WritePage page bytes
-transfer_of_act t SyncFile = SyncsFile
+transfer_of_act t SyncFile = SyncsFile false
 transfer_of_act t End = if is_long t then CutJournal else WriteHead (end_of t.journal.number)
 transfer_of_act t SyncEnd = SyncJournal (is_long t)
 
@@ -111,17 +110,17 @@ Asks saved_of wants turned pages after old new None = IsOver saved_of wants turn
 -- ---- what is so once it was made
 
 -- one above the number of the last save, where a head tells that
+abbrev pub above : Option ℕ → Option ℕ
+above None = None
+above (Some last) = if last == 18446744073709551615 then None else Some (last + 1)
+
 abbrev pub next_number : FoundHead → Option ℕ
-next_number Torn = None
-next_number (Of last) = if last == 18446744073709551615 then None else Some (last + 1)
+next_number found = above (number_of found)
 
 abbrev pub numbered : ℕ → Option ℕ → TransfersState → TransfersState
 numbered page None t = record t { step = step.Cut page }
 numbered page (Some number) t =
     record t { journal = record t.journal { number = number }; step = step.ReadZero page }
-
-abbrev pub seal_in : List ℕ → List ℕ
-seal_in page = take 24 (drop 4064 page)
 
 -- a head stands in the journal, and nothing behind it
 abbrev pub begun_with : ℕ → (seal : List ℕ) → Standing → Standing

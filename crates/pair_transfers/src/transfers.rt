@@ -2,7 +2,7 @@
 ghost use Rattle.std.specs.Prelude.{◌≡◌, true, false, IfOk, OnErr, OnOk, take};
 ghost use Rattle.journal_bytes.specs.Bytes.{says};
 ghost use Rattle.pair_transfers.specs.Saving.{Ends, is_over};
-ghost use Rattle.pair_transfers.specs.Transfers.{Asks, Tells, begins_at, begun_with, counted, done_with, first_step, gone_on, is_long, next_number, none_under_way, numbered, seal_in, transfer_of, transfer_of_act, with_image};
+ghost use Rattle.pair_transfers.specs.Transfers.{Asks, Tells, begins_at, begun_with, counted, done_with, first_step, gone_on, is_long, next_number, none_under_way, numbered, transfer_of, transfer_of_act, with_image};
 ghost use Rattle.pair_transfers.specs.declared.save.Act.TheVariants.{Guard};
 ghost use Rattle.pair_transfers.specs.declared.save.Place.TheVariants.{Failed};
 ghost use Rattle.pair_transfers.specs.declared.transfers.Step.TheVariants.{ReadPage};
@@ -10,18 +10,19 @@ ghost use Rattle.pair_transfers.specs.declared.transfers.Step.TheVariants.{ReadP
 use crate::save::{Act, Save, SaveFault};
 use crate::unsaved::Unsaved;
 use journal_bytes::{
-    FoundHead, HEAD_BYTES, IMAGE_BYTES, Seal, Sum, read_head, spell_end, spell_head, spell_image,
+    HEAD_BYTES, IMAGE_BYTES, LEAST_ENTRY, Seal, Sum, read_head, seal_of, spell_end, spell_head,
+    spell_image,
 };
-use safe_device::page_device::{PAYLOAD_BYTES, Page};
+use safe_device::page_device::Page;
 use std::alloc::{AllocError, Global};
 use std::marker::Model;
 
 /// A journal of no more bytes, 256 images, keeps its length when it is ended: what is written over costs
 /// less than what is cut and added again.
-const MOST_KEPT: u64 = 1_057_872;
+pub(crate) const MOST_KEPT: u64 = 1_057_872;
 
 /// The same of one that has calls.
-const MOST_KEPT_OF_CALLS: u64 = 8_388_608;
+pub(crate) const MOST_KEPT_OF_CALLS: u64 = 8_388_608;
 
 /// What is known of a journal.
 #[derive(Clone, Copy)]
@@ -41,20 +42,32 @@ pub struct Standing {
 pub enum Transfer {
     /// The first bytes of the journal are read, where a head stands.
     ReadHead,
+    /// So many bytes of the journal are read, from this place on.
+    ReadJournal(u64, u32),
     /// This page of the file is read.
     ReadPage(u32),
     /// These bytes are written over the first of the journal.
     WriteHead([u8; HEAD_BYTES]),
     /// An image is written into the journal, from this place on.
     WriteImage(u64, [u8; IMAGE_BYTES]),
+    /// So many zeros are written into the journal, from this place on.
+    WriteZeros(u64, u32),
+    /// An addition of calls is written into the journal, from this place on, of so many bytes.
+    WriteCalls(u64, u32),
+    /// An entry without bytes is written into the journal, from this place on.
+    WriteEntry(u64, [u8; LEAST_ENTRY]),
     /// This page of the file is written.
     WritePage(u32, Page),
+    /// The file is ended after its first so many pages.
+    CutFile(u32),
     /// The journal is cut to nothing.
     CutJournal,
     /// The journal is synced, with its length where that has changed.
     SyncJournal(bool),
-    /// The file is synced, whose length is as it was.
-    SyncFile,
+    /// The file is synced, with its length where that may have changed.
+    SyncFile(bool),
+    /// So many bytes of calls, behind a word, were read last: they are made again.
+    Remake(u32),
 }
 
 /// How far an act has come.
@@ -216,7 +229,7 @@ impl Transfers {
             Act::Guard(page) => Transfer::ReadPage(*page),
             Act::SyncImages => Transfer::SyncJournal(self.journal.size < self.journal.end),
             Act::Write(page, bytes) => Transfer::WritePage(*page, *bytes),
-            Act::SyncFile => Transfer::SyncFile,
+            Act::SyncFile => Transfer::SyncFile(false),
             Act::End if self.is_long() => Transfer::CutJournal,
             Act::End => Transfer::WriteHead(spell_end(self.journal.number)),
             Act::SyncEnd => Transfer::SyncJournal(self.is_long()),
@@ -340,22 +353,13 @@ impl Transfers {
 }
 
 /// One above the number of the last save, where a head tells that.
-fn next_number(read: &Page) -> Option<u64>
+pub(crate) fn next_number(read: &Page) -> Option<u64>
     ensures { result ≡ next_number (says (take 80 read.now)) }
 {
     let mut head = [0; HEAD_BYTES];
     head.copy_from_slice(&read[..HEAD_BYTES]);
-    match read_head(&head) {
-        FoundHead::Of(last) if last < u64::MAX => Some(last + 1),
+    match read_head(&head).number() {
+        Some(last) if last < u64::MAX => Some(last + 1),
         _ => None,
     }
-}
-
-/// The first bytes of the digest with which a page ends. It is not computed again.
-fn seal_of(page: &Page) -> Seal
-    ensures { result ≡ seal_in page.now }
-{
-    let mut seal = [0; 24];
-    seal.copy_from_slice(&page[PAYLOAD_BYTES..PAYLOAD_BYTES + 24]);
-    seal
 }

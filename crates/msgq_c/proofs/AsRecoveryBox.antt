@@ -1,0 +1,25 @@
+-- A held recovery and its parts own what a box at the same types owns.
+use mir.Syntax.{impl, tnil, dnil}
+use mathlib.Core.List.{[]}
+use denote.Signature.{Slot, plain}
+use Rattle.std_alloc.proofs.BoxSteps.Form.{Bx}
+use Rattle.std_heap.specs.contracts.Global as Heap
+use Rattle.std_heap.specs.contracts.GlobalAllocator.TheImpl.{ghosts, dict}
+use Rattle.std_heap.proofs.Global.TheLaws as heap
+use Rattle.msgq_c.specs.contracts.recovered.Recovered as Recovered
+use Rattle.msgq_c.proofs.recovered.Recovered.TheLaws as recovered
+use Rattle.msgq_c.specs.contracts.held.parts.Parts as Parts
+use Rattle.msgq_c.specs.contracts.held.recovery.HeldRecovery as Held
+
+abbrev pub E : Bx
+E = record {
+  row = Recovered.the_row;
+  laws = recovered.the_row_laws;
+  al = record { row = Heap.the_row; laws = heap.the_row_laws; g = ghosts; d = dict; drops = impl [] tnil dnil };
+}
+
+abbrev pub FromParts : Slot 0
+FromParts = plain (λ _. Parts.the_row Recovered.the_row Heap.the_row ghosts)
+
+abbrev pub FromHeld : Slot 0
+FromHeld = plain (λ _. Held.the_row)
