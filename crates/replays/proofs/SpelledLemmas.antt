@@ -34,9 +34,12 @@ leads_before : (callers : List Caller) (many : ℕ) (es : List Entry) (s t : Sta
 leads_before callers zero [] s t leads = refl
 leads_before callers zero (e ∷ es) s t leads = refl
 leads_before callers (suc many) [] s t leads = refl
-leads_before callers (suc many) (e ∷ es) s t (u, first, more) =
-    (u, first, subst (λ (x : State). LeadsAlong callers (take many es) u (after callers (take many es) x))
-    (sym (after-Leads callers e s u first)) (leads_before callers many es u t more))
+leads_before callers (suc many) (e ∷ es) s t (u, first, more) = (
+  u,
+  first,
+  subst (λ (x : State). LeadsAlong callers (take many es) u (after callers (take many es) x))
+      (sym (after-Leads callers e s u first)) (leads_before callers many es u t more),
+)
 
 module _ (script : Parts) (honest : Bool) (c : Effects) (ending : Ending) where
   unopened : IsUnopened honest c ending → IsLeftUnopened c ending

@@ -11,7 +11,7 @@ use Rattle.replays.proofs.desk.reply.Goals as goal
 pub returns-in-Err-clause-fits : goal.returns-in-Err-clause-fits
 returns-in-Err-clause-fits g c =
     let may = MayLackRoom g.N.Base.origin in
-    let call = c.in-Call.call.now in
+    let call = c.in-Call.call in
     subst (λ (command : Command). Fits may command (Failed c.number.result)) (sym c.in-Call.is)
     (subst (IsOfCall may call) (sym c.number.ensures)
     (call_fault may call c.in-Err.fault (λ is.
