@@ -1,5 +1,5 @@
 -- What the exports promise that open, read, stop and close a session.
-use Rattle.std.specs.Prelude.{ℕ, ◌≡◌, ◌≤◌, ◌/◌, ◌⊎◌, List, [], Option, Some, None, Result, Ok, Err, length}
+use Rattle.std.specs.Prelude.{ℕ, ◌≡◌, ◌≤◌, ◌/◌, ◌⊎◌, List, [], false, Option, Some, None, Result, Ok, Err, length}
 use Rattle.page_device.specs.declared.page.TheConstants.{PAGE_BYTES}
 use Rattle.queue_model.specs.declared.caller.Caller.{Caller}
 use Rattle.call_entries.specs.Log.{empty}
