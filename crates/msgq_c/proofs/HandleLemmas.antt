@@ -1,12 +1,12 @@
 -- What C is told of a session that is opened, and of a call on one.
-use Rattle.std.proofs.Common.{arith, ℕ, ◌≡◌, ◌≤◌, refl, sym, subst, inl, inr, Bool, true, false, Option, Some, None, Result, Ok, Err, IfOk}
+use Rattle.std.proofs.Common.{arith, ℕ, ◌≡◌, ◌≤◌, refl, sym, subst, inl, inr, Bool, true, false, Some, None, Result, Ok, Err, IfOk}
 use Rattle.std.specs.Prelude.{◌||◌}
 use Rattle.std.specs.Option.{is_some}
 use Rattle.queue_model.specs.declared.answer.Answer.{Answer}
 use Rattle.queue_model.specs.declared.call.Call.{Call}
 use Rattle.queue_model.specs.declared.caller.Caller.{Caller}
 use Rattle.session.specs.Session.{SessionState}
-use Rattle.session.specs.Words.{IsFaultNumber, OpenFault, open_number_of}
+use Rattle.session.specs.Words.{IsFaultNumber, OpenFault}
 use Rattle.session.specs.declared.unanswered.Unanswered.{Unanswered}
 use Rattle.session.specs.declared.unanswered.Unanswered.TheVariants as unanswered
 use Rattle.session.proofs.FaultLemmas.{fault_numbers}

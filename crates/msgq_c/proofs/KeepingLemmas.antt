@@ -1,6 +1,5 @@
 -- A caller's calls, and calls that are made again, one after another.
 use Rattle.std.proofs.Common.{ℕ, ◌≡◌, refl, sym, ap, ◌∙◌, subst, append-nil, append_assoc, List, [], ◌∷◌, ◌++◌, Result, Ok, Option, Some}
-use Rattle.queue_model.specs.State.{State}
 use Rattle.queue_model.specs.declared.answer.Answer.{Answer}
 use Rattle.queue_model.specs.declared.call.Call.{Call}
 use Rattle.session.specs.Session.{CallsAs, SessionState}

@@ -1,5 +1,5 @@
 -- What is noted leads on, call by call.
-use Rattle.std.proofs.Common.{◌≡◌, ℕ, refl, sym, ap, ◌∙◌, subst, Bool, true, false, not, ◌&&◌, List, [], ◌∷◌, ◌++◌, Result, Ok, Err, Some, append-nil}
+use Rattle.std.proofs.Common.{◌≡◌, ℕ, refl, sym, ap, ◌∙◌, subst, Bool, true, false, not, ◌&&◌, List, [], ◌∷◌, ◌++◌, Ok, Err, Some, append-nil}
 use Rattle.std.specs.Prelude.{if◌then◌else◌, IsTrue}
 use Rattle.queue_model.specs.Laws.{RefusalsLeave}
 use Rattle.queue_model.specs.Rules.{outcome}
@@ -7,15 +7,14 @@ use Rattle.queue_model.specs.State.{State}
 use Rattle.queue_model.specs.declared.answer.Answer.{Answer}
 use Rattle.queue_model.specs.declared.call.Call.{Call}
 use Rattle.queue_model.specs.declared.caller.Caller.{Caller}
-use Rattle.session.specs.Session.{Holds, SessionState, Stops}
-use Rattle.session.specs.declared.unanswered.Unanswered.{Unanswered}
+use Rattle.session.specs.Session.{Holds}
 use Rattle.session.specs.declared.unanswered.Unanswered.TheVariants.{Waits, NoRoom, NoMemory, Failed}
-use Rattle.call_entries.specs.Entries.{check_of, entry_of, entries_of, is_refusal, may_change, spelled}
+use Rattle.call_entries.specs.Entries.{entry_of, entries_of, is_refusal, may_change, spelled}
 use Rattle.call_entries.specs.declared.entry.CallEntry.{CallEntry}
 use Rattle.call_entries.proofs.EntryLemmas.{spelled_both}
 use Rattle.call_entries.proofs.RuleLemmas.{comes_again, lead_on, leaves_it}
 use Rattle.msgq_c.specs.Files.{fresh}
-use Rattle.msgq_c.specs.Keeping.{IsSaved, Makes, noted}
+use Rattle.msgq_c.specs.Keeping.{noted}
 use Rattle.msgq_c.specs.Noting.{CallsLeadOn, LeadOn, LeadsTo, NotesLeadOn, StillLeads, running}
 use Rattle.msgq_c.specs.declared.kept.Kept.{Kept}
 

@@ -1,8 +1,8 @@
 -- A session is saved, transfer by transfer. docs/FORMAT.md, "The journal".
-use Rattle.std.specs.Prelude.{ℕ, ◌≡◌, ◌⊎◌, ◌*◌, ◌++◌, ⊤, Bool, true, false, List, drop, length, Option, Some, None, Result, Ok, Err}
+use Rattle.std.specs.Prelude.{ℕ, ◌≡◌, ◌⊎◌, ◌*◌, ◌++◌, ⊤, Bool, true, false, List, drop, length, Option, Some, None}
 use Rattle.queue_model.specs.State.{State}
 use Rattle.session.specs.Session.{AreItsPages, Holds, pages_of, saved_of}
-use Rattle.pair_transfers.specs.Transfers.{Asks, Tells, TransfersState, begins_at, none_under_way}
+use Rattle.pair_transfers.specs.Transfers.{Asks, Tells, begins_at, none_under_way}
 use Rattle.pair_transfers.specs.declared.save.SaveFault.{SaveFault}
 use Rattle.pair_transfers.specs.declared.save.SaveFault.TheVariants.{Device, Pages, NoMemory}
 use Rattle.pair_transfers.specs.declared.transfers.Standing.{Standing}
