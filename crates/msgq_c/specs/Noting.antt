@@ -23,8 +23,8 @@ pub record LeadOn (bytes : List ℕ) (s t : State) : Type 0 where
 abbrev pub running : State → State
 running s = record s { stopped = false }
 
--- this system is held, and what is to be noted leads to it from the one that pages and journal have, unless an entry was
--- left out
+-- this system is held, and what is to be noted leads to it from the one that pages and journal have, unless an entry
+-- was left out
 pub record LeadsTo (s : State) (k : Kept) (t : State) : Type 0 where
   pub holds : Holds t k.session
   pub leads : IsTrue k.log.is_whole → LeadOn k.log.bytes s (running t)
