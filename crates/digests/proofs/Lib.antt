@@ -2,3 +2,4 @@ mod RowLemmas
 mod ColumnLemmas
 mod PageWords
 mod RunLemmas
+mod ShortLemmas
