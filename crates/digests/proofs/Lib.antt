@@ -1,3 +1,5 @@
+mod Rotations
+mod ChMaj
 mod RowLemmas
 mod ColumnLemmas
 mod PageWords

@@ -1,4 +1,3 @@
-use Rattle.std.proofs.Common.{ℕ}
 use Rattle.digests.proofs.ColumnLemmas.{below_four}
 use Rattle.digests.proofs.short.row_at.Goals as goal
 
