@@ -68,7 +68,16 @@ fn a_pseudokey_that_is_kept_is_not_computed_again(rt: HostRuntime) -> Result<(),
     let asked = Cell::new(0);
     let kept = KeptKeys::new(rt.alloc(), Counted { asked: &asked })?;
     // The numbers from 2 to 5 are computed together, since 1 is kept.
-    for (number, count) in [(1, 1), (1, 1), (2, 5), (1, 5), (5, 5), (8_193, 6), (2, 6), (1, 7)] {
+    for (number, count) in [
+        (1, 1),
+        (1, 1),
+        (2, 5),
+        (1, 5),
+        (5, 5),
+        (8_193, 6),
+        (2, 6),
+        (1, 7),
+    ] {
         assert!(rt; u64::from(kept.of(&message(number))) == number);
         assert!(rt; asked.get() == count);
     }

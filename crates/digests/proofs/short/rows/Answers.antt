@@ -1,4 +1,5 @@
-use Rattle.std.proofs.Common.{◌≡◌, ◌∙◌, sym, ap, inl, inr, ℕ, ◌*◌, ◌<◌, List, [], length, slice_index, slice_index_or, slice_set, arith, rules}
+use Rattle.std.proofs.Common.{◌≡◌, ◌∙◌, sym, ap, inl, inr, ℕ, ◌*◌, ◌<◌, List, [], length}
+use Rattle.std.proofs.Common.{slice_index, slice_index_or, slice_set, arith, rules}
 use Rattle.std.proofs.lemmas.Bool.{cases_lt}
 use Rattle.std.proofs.lemmas.List.{get_or-set_same, get_or-set_other, length-set}
 use Rattle.sha2.specs.Sha256.{word_at}
