@@ -35,7 +35,9 @@ impl<'a> PlanOf<'a> {
         PlanOf { call, inquiry }
     }
 
-    /// The deed that comes next, and what is due once it has written; none where no deed is left.
+    /// The deed that comes next, and what is due once it has written; none where no deed is left. It
+    /// stands in whoever asks, as its parts do, since a deed is large, and would else be moved.
+    #[inline(always)]
     pub(crate) fn next(&self, due: Due) -> Option<(Deed<'a>, Due)>
         ensures { MatchOption result (next_deed self.now due ≡ None)
             (λ next. IsNext self.now due next.0 next.1) }
@@ -48,6 +50,7 @@ impl<'a> PlanOf<'a> {
         }
     }
 
+    #[inline(always)]
     fn trial(&self, place: usize) -> Option<(Deed<'a>, Due)>
         ensures { MatchOption result (next_deed self.now (Due.Trying place) ≡ None)
             (λ next. IsNext self.now (Due.Trying place) next.0 next.1) }
@@ -58,6 +61,7 @@ impl<'a> PlanOf<'a> {
         }
     }
 
+    #[inline(always)]
     fn undo(&self, standing: usize) -> Option<(Deed<'a>, Due)>
         ensures { MatchOption result (next_deed self.now (Due.Undoing standing) ≡ None)
             (λ next. IsNext self.now (Due.Undoing standing) next.0 next.1) }
@@ -74,6 +78,7 @@ impl<'a> PlanOf<'a> {
         }
     }
 
+    #[inline(always)]
     fn write(&self, from: usize) -> Option<(Deed<'a>, Due)>
         ensures { MatchOption result (next_deed self.now (Due.Writing from) ≡ None)
             (λ next. IsNext self.now (Due.Writing from) next.0 next.1) }
