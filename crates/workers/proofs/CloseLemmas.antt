@@ -10,15 +10,15 @@ use Rattle.interleaving_core.specs.declared.fault.CloseFault.TheVariants as clos
 use Rattle.page_device.specs.Device.{HasRisen}
 use Rattle.page_device.specs.Sealed.{payload_of}
 use Rattle.interleavings.specs.Laws.{AnswersAsPlainLists, ClosesRefine}
-use Rattle.workers.specs.Views.{calls_in, no_place, nobody, place_at}
-use Rattle.workers.specs.Views as passes
+use Rattle.gauges.specs.Views.{calls_in, no_place, nobody, place_at}
+use Rattle.gauges.specs.Views as passes
 use Rattle.interleavings.proofs.RisenLemmas.{risen_within}
 use Rattle.interleavings.proofs.ToldLemmas.{risen_since}
 use Rattle.workers.proofs.DeviceLemmas.{stored_is}
 use Rattle.workers.proofs.EntryLemmas.{part_is, stops_are}
 use Rattle.workers.proofs.HeldLemmas.{place_is}
 use Rattle.workers.specs.Closing.{Each, HasItsPart, HasMissing, HasMostOfItsPart, IsBeside, IsClosed, IsFaulted, IsLeft, IsLetGo, IsMarked, IsSound, IsToComeBack, IsUnfailed, Remains, sits_at}
-use Rattle.workers.specs.Rule.{IsRight}
+use Rattle.gauges.specs.Rule.{IsRight}
 use Rattle.workers.specs.Entries.{seat_of}
 use Rattle.workers.specs.Held.{IsHeld, IsKept, KeepsDevice, place_of}
 use Rattle.workers.specs.Origins.{IsJournalOf, LeavesFile, Origin}

@@ -6,7 +6,7 @@ use Rattle.std.proofs.Math.Path.{fun_ext}
 use Rattle.interleavings.specs.Moments.{marked_by}
 use Rattle.interleaving_core.proofs.PartLemmas.{AreOf, part_other, part_own}
 use Rattle.queue_model.specs.declared.entry.Entry.TheVariants.{Decided, Stopped}
-use Rattle.workers.specs.Views as passes
+use Rattle.gauges.specs.Views as passes
 use Rattle.workers.specs.Entries.{seat_of}
 use Rattle.workers.specs.Words.{Entry, is_of, part_of}
 

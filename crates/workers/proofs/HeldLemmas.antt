@@ -15,11 +15,11 @@ use Rattle.interleavings.specs.Moments.{once_if}
 use Rattle.interleavings.specs.Refining.{Refines}
 use Rattle.interleavings.specs.Words.{IsStep}
 use Rattle.page_locks.proofs.ChangeLemmas.{length-with_row}
-use Rattle.workers.proofs.PartLemmas.{calls_append, part_append}
+use Rattle.gauges.proofs.PartLemmas.{calls_append, part_append}
 use Rattle.workers.proofs.DeviceLemmas.{device_by_turn, device_same}
 use Rattle.workers.proofs.EntryLemmas.{calls_and_stops, calls_below, calls_own, none_stops, part_of_other, part_of_own}
-use Rattle.workers.specs.Rule.{IsChange, IsRight, moved}
-use Rattle.workers.specs.Views.{calls_in, no_place, part_of, place_at}
+use Rattle.gauges.specs.Rule.{IsChange, IsRight, moved}
+use Rattle.gauges.specs.Views.{calls_in, no_place, part_of, place_at}
 use Rattle.workers.specs.Entries.{seat_of}
 use Rattle.workers.specs.Held.{IsHeld, IsKept, known_of, place_of, places_from}
 use Rattle.workers.specs.Origins.{Origin}

@@ -1,7 +1,3 @@
-pub mod PartLemmas
-pub mod FitLemmas
-pub mod PassLemmas
-pub mod TieLemmas
 pub mod EntryLemmas
 pub mod DeviceLemmas
 pub mod HeldLemmas

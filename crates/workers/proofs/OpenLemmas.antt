@@ -8,7 +8,7 @@ use Rattle.interleaving_core.proofs.BeginLemmas.{idle_at}
 use Rattle.interleavings.specs.Laws.{OpensRefine}
 use Rattle.interleavings.specs.Moments.{once_if}
 use Rattle.interleavings.specs.Words.{HasSystem, MAX_SEATS}
-use Rattle.workers.specs.Views.{calls_in, newcomer, no_place, part_of, place_at, with_one_more}
+use Rattle.gauges.specs.Views.{calls_in, newcomer, no_place, part_of, place_at, with_one_more}
 use Rattle.workers.specs.Entries.{seat_of}
 use Rattle.workers.proofs.DeviceLemmas.{all_spared}
 use Rattle.workers.proofs.RoomLemmas.{none_inserting}

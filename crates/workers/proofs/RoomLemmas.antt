@@ -15,9 +15,9 @@ use Rattle.workers.specs.Fault.{fault_of_step}
 use Rattle.workers.specs.Held.{IsKept, known_of}
 use Rattle.workers.specs.Entries.{seat_of}
 use Rattle.workers.specs.Origins.{Origin}
-use Rattle.workers.specs.Rule.{IsRight}
+use Rattle.gauges.specs.Rule.{IsRight}
 use Rattle.workers.specs.Told.{IsTold, IsTurnedAway, Sitter}
-use Rattle.workers.specs.Views.{place_at}
+use Rattle.gauges.specs.Views.{place_at}
 use Rattle.workers.specs.Words.{Call, Caller, Desk, Entry, IsLegal, KernelState, Place, RecordKey, State, Step, call_at, call_of, with_call}
 use Rattle.workers.specs.declared.fault.Fault.{Fault}
 use Rattle.workers.specs.declared.fault.Fault.TheVariants as calls

@@ -6,7 +6,7 @@ use Rattle.interleaving_core.specs.declared.fault.StepFault.{StepFault}
 use Rattle.interleaving_core.specs.declared.fault.StepFault.TheVariants as faults
 use Rattle.interleaving_core.specs.declared.step.Step.TheVariants as steps
 use Rattle.queue_model.specs.declared.entry.Entry.TheVariants.{Decided}
-use Rattle.workers.specs.Views.{no_place}
+use Rattle.gauges.specs.Views.{no_place}
 use Rattle.workers.specs.Told.{HasBegun, IsSameSeat, IsSeated, IsTakenBack, IsTold, IsTurnedAway, IsUnderWay, Rests, Sitter}
 use Rattle.workers.specs.Words.{Answer, Call, Entry, Step, answer_told, entry_of}
 use Rattle.workers.specs.Fault.{fault_of_step}

@@ -6,12 +6,12 @@ use Rattle.interleavings.specs.Laws.{StopsRefine}
 use Rattle.interleavings.proofs.InsertLemmas.{stop_inserting}
 use Rattle.interleavings.specs.Moments.{once_if}
 use Rattle.queue_model.specs.declared.entry.Entry.TheVariants.{Stopped}
-use Rattle.workers.proofs.PartLemmas.{calls_append, part_append}
-use Rattle.workers.proofs.PassLemmas.{right_moves}
+use Rattle.gauges.proofs.PartLemmas.{calls_append, part_append}
+use Rattle.gauges.proofs.PassLemmas.{right_moves}
 use Rattle.workers.proofs.DeviceLemmas.{device_same}
 use Rattle.workers.proofs.HeldLemmas.{carried}
-use Rattle.workers.specs.Rule.{IsChange, IsRight, moved}
-use Rattle.workers.specs.Views.{calls_in, part_of, place_at}
+use Rattle.gauges.specs.Rule.{IsChange, IsRight, moved}
+use Rattle.gauges.specs.Views.{calls_in, part_of, place_at}
 use Rattle.workers.specs.Entries.{seat_of}
 use Rattle.workers.specs.Held.{IsHeld, IsKept, known_of, places_from}
 use Rattle.workers.specs.Origins.{Origin}

@@ -7,8 +7,8 @@ use Rattle.interleavings.specs.Renewing.{WithdrawsRefine}
 use Rattle.workers.proofs.RoomLemmas.{withdrawn_inserting}
 use Rattle.workers.proofs.DeviceLemmas.{device_same}
 use Rattle.workers.proofs.HeldLemmas.{carried, nothing_told, place_is, stays_below, told_none}
-use Rattle.workers.specs.Rule.{IsChange, IsRight, moved}
-use Rattle.workers.specs.Views.{calls_in, part_of, place_at}
+use Rattle.gauges.specs.Rule.{IsChange, IsRight, moved}
+use Rattle.gauges.specs.Views.{calls_in, part_of, place_at}
 use Rattle.workers.specs.Entries.{seat_of}
 use Rattle.workers.specs.Held.{IsKept, known_of, place_of}
 use Rattle.workers.specs.Origins.{Origin}

@@ -6,8 +6,8 @@ use Rattle.interleaving_core.specs.declared.fault.CloseFault.{CloseFault}
 use Rattle.interleaving_core.specs.declared.fault.CloseFault.TheVariants as closes
 use Rattle.interleaving_core.specs.declared.fault.Failure.{Failure}
 use Rattle.interleavings.specs.Moments.{marked_by, once_if}
-use Rattle.workers.specs.Rule.{IsRight}
-use Rattle.workers.specs.Views.{calls_in, nobody}
+use Rattle.gauges.specs.Rule.{IsRight}
+use Rattle.gauges.specs.Views.{calls_in, nobody}
 use Rattle.workers.specs.Entries.{seat_of}
 use Rattle.workers.specs.Origins.{HasFrames, IsJournalOf, LeavesFile, Origin}
 use Rattle.workers.specs.Told.{Rests, Sitter}

@@ -4,7 +4,7 @@ use Rattle.page_device.specs.Device.{HasRisen}
 use Rattle.buffer_pool.specs.Pool.{PoolState, spared}
 use Rattle.interleavings.specs.Inserting.{AreInserting}
 use Rattle.interleavings.specs.Moments.{once_if}
-use Rattle.workers.specs.Views.{calls_in, part_of}
+use Rattle.gauges.specs.Views.{calls_in, part_of}
 use Rattle.workers.specs.Entries.{seat_of}
 use Rattle.workers.specs.Origins.{HasFrames, Origin}
 use Rattle.workers.specs.Words.{ActiveView, Call, Desk, Entry, RefinesFile, KernelState, Place, RecordKey, call_of, untold}

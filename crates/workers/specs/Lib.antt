@@ -1,6 +1,6 @@
-pub mod Views
-pub mod Rule
-pub mod Names
+pub use Rattle.gauges.specs.Views as Views
+pub use Rattle.gauges.specs.Rule as Rule
+pub use Rattle.gauges.specs.Names as Names
 pub mod Words
 pub mod Origins
 pub mod Entries

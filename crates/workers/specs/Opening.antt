@@ -1,7 +1,7 @@
 -- How a service begins.
 use Rattle.std.specs.Prelude.{ℕ, zero, suc, ◌≡◌, Bool, false, IsTrue, List, [], ◌∷◌, ◌++◌, None, length, replicate}
 use Rattle.atomic_table.specs.Seated.{TableId}
-use Rattle.workers.specs.Views.{first_desk, no_place}
+use Rattle.gauges.specs.Views.{first_desk, no_place}
 use Rattle.workers.specs.Origins.{Origin}
 use Rattle.workers.specs.Told.{Sitter}
 use Rattle.workers.specs.Words.{Call, Caller, Desk, Entry, RefinesFile, KernelState, RecordKey}

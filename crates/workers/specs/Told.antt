@@ -3,7 +3,7 @@ use Rattle.std.specs.Prelude.{ℕ, ◌≡◌, ◌≤◌, ◌<◌, ◌+◌, true,
 use Rattle.interleaving_core.specs.Owing.{is_end, is_failure}
 use Rattle.interleaving_core.specs.declared.kernel.TheConstants.{MAX_DECIDED}
 use Rattle.interleaving_core.specs.declared.step.Step.TheVariants as steps
-use Rattle.workers.specs.Views.{no_place}
+use Rattle.gauges.specs.Views.{no_place}
 use Rattle.workers.specs.Words.{Call, Entry, Sitting, Step, answer_told, entry_of}
 use Rattle.workers.specs.declared.fault.Fault.{Fault}
 use Rattle.workers.specs.declared.fault.Fault.TheVariants.{Failed, NoRoom, SessionFull}

@@ -8,12 +8,12 @@ use crate::entries::{Own, Passes};
 use crate::gate::Gate;
 use crate::held::Held;
 use crate::naming::Base;
-use crate::pass::Room;
 use crate::seat::Seat;
 use crate::service::Service;
 use crate::stopper::Stopper;
 use crate::unclosed::Unclosed;
 use bucket_page::PseudoKey;
+use gauges::Room;
 use interleavings::interleaving_core::{CloseFault, Closed, Failure, NotClosed};
 use interleavings::{
     a_refining_kernel_answers_as_plain_lists, a_refining_kernel_closes_on_its_file,

@@ -1,8 +1,6 @@
 //! Entries of a journal, as passes read them.
 
-use crate::gauge::{Gauge, Opened};
-use crate::pass::{KernelPass, SeatPass};
-use crate::rule::Recorded;
+use gauges::{Gauge, KernelPass, Opened, Recorded, SeatPass};
 use queue_model::{Call, Entry};
 
 /// An entry is of the seat whose call was decided; a stop is of none.

@@ -3,9 +3,9 @@
 ghost use Rattle.std.specs.Prelude.{◌≡◌, ◌≤◌, IfErr, IfOk, IsTrue, drop, false, length};
 ghost use Rattle.interleaving_core.specs.Renewing.{Withdraws};
 ghost use Rattle.interleavings.specs.Words.{answer_told, entry_of};
-ghost use Rattle.workers.specs.Rule.{IsChange, IsRight, moved};
+ghost use Rattle.gauges.specs.Rule.{IsChange, IsRight, moved};
 ghost use Rattle.workers.specs.Causes.{TellsNoRoom};
-ghost use Rattle.workers.specs.Views.{calls_in, place_at};
+ghost use Rattle.gauges.specs.Views.{calls_in, place_at};
 ghost use Rattle.workers.specs.Entries.{seat_of};
 ghost use Rattle.workers.specs.Held.{known_of};
 ghost use Rattle.workers.specs.Stopping.{HasStopped};
@@ -14,10 +14,9 @@ ghost use Rattle.workers.specs.Told.{HasBegun, IsTakenBack, IsTold, IsTurnedAway
 use crate::entries::{Own, Passes, Sitter};
 use crate::fault::Fault;
 use crate::naming::Base;
-use crate::pass::Room;
-use crate::rule::Change;
 use crate::sleepers::Sleepers;
 use bucket_page::PseudoKey;
+use gauges::{Change, Room};
 use interleavings::interleaving_core::{BeginFault, Kernel, Step};
 use interleavings::{
     a_step_does_what_its_seat_is_told, begins_refine, refusals_refine, steps_refine, stops_refine,

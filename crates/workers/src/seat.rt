@@ -4,7 +4,7 @@ ghost use Rattle.std.specs.Prelude.{◌≡◌};
 
 use crate::entries::Sitter;
 use crate::naming::Base;
-use crate::pass::Room;
+use gauges::Room;
 use queue_model::Entry;
 use std::marker::Model;
 

@@ -2,7 +2,7 @@
 
 use crate::entries::Sitter;
 use crate::naming::Base;
-use crate::pass::Room;
+use gauges::Room;
 use std::marker::Model;
 
 /// Who has it may stop the system of a service, again and again: there is one, and no copy of it.

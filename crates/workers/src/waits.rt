@@ -3,10 +3,10 @@
 use crate::gate::Gate;
 use crate::held::Held;
 use crate::naming::Base;
-use crate::pass::Room;
 use crate::service::Service;
 use crate::sleepers::Sleepers;
 use bucket_page::PseudoKey;
+use gauges::Room;
 use page_device::PageDevice;
 use std::sync::{Condvar, MutexGuard, Wait};
 use std::thread;

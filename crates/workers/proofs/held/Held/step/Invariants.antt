@@ -1,4 +1,4 @@
-use Rattle.workers.specs.Views.{place_at}
+use Rattle.gauges.specs.Views.{place_at}
 use Rattle.workers.specs.Held.{known_of}
 use Rattle.workers.specs.Words.{answer_told, entry_of}
 use Rattle.workers.proofs.held.Held.step.Given as goal

@@ -1,8 +1,8 @@
 use Rattle.std.proofs.Common.{ap, sym, ◌∙◌}
-use Rattle.workers.specs.Views.{reads}
-use Rattle.workers.proofs.PassLemmas.{look_as}
-use Rattle.workers.proofs.TieLemmas.{has_word}
-use Rattle.workers.proofs.gauge.Gauge.look.Goals as goal
+use Rattle.gauges.specs.Views.{reads}
+use Rattle.gauges.proofs.PassLemmas.{look_as}
+use Rattle.gauges.proofs.TieLemmas.{has_word}
+use Rattle.gauges.proofs.gauge.Gauge.look.Goals as goal
 
 pub load-requires : goal.load-requires
 load-requires g c = (

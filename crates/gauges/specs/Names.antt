@@ -2,9 +2,9 @@
 use Rattle.std.specs.Prelude.{◌≡◌, ℕ, Bool, List, [], ◌∷◌}
 use Rattle.atomic_table.specs.Seated.{TableId}
 use Rattle.atomic_table.specs.Table.{Me}
-use Rattle.workers.specs.declared.view.Sitting.{Sitting}
-use Rattle.workers.specs.declared.view.View.{View}
-use Rattle.workers.specs.Views.{desk_of, first_view, nobody, reads, sits, sitting_of, writes}
+use Rattle.gauges.specs.declared.view.Sitting.{Sitting}
+use Rattle.gauges.specs.declared.view.View.{View}
+use Rattle.gauges.specs.Views.{desk_of, first_view, nobody, reads, sits, sitting_of, writes}
 
 -- the name of no table
 abbrev pub no_table : TableId

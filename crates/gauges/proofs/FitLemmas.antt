@@ -5,11 +5,11 @@ use mathlib.Core.Option.{some, some-ne-none, some-injective}
 use lib.ListN.{get_elem?}
 use Rattle.atomic_table.specs.Table.{Joins, Splits, opening}
 use Rattle.atomic_table.proofs.Lists.{at_set, set_again}
-use Rattle.workers.specs.declared.view.Desk.{Desk}
-use Rattle.workers.specs.declared.view.Sitting.{Sitting}
-use Rattle.workers.specs.declared.view.View.{View}
-use Rattle.workers.specs.Views.{calls_in, first_desk, first_view, joined, newcomer, no_place, part_of, place_at, reads, sits, with_one_more, writes}
-use Rattle.workers.specs.Rule.{Fits, IsKept, IsRight}
+use Rattle.gauges.specs.declared.view.Desk.{Desk}
+use Rattle.gauges.specs.declared.view.Sitting.{Sitting}
+use Rattle.gauges.specs.declared.view.View.{View}
+use Rattle.gauges.specs.Views.{calls_in, first_desk, first_view, joined, newcomer, no_place, part_of, place_at, reads, sits, with_one_more, writes}
+use Rattle.gauges.specs.Rule.{Fits, IsKept, IsRight}
 
 -- ---- the ports of seats
 

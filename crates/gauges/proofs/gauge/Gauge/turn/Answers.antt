@@ -1,8 +1,8 @@
 use Rattle.std.proofs.Common.{ap, sym, ◌∙◌}
-use Rattle.workers.specs.Rule.{turned}
-use Rattle.workers.proofs.PassLemmas.{passes_join_as, passes_part_as, turn_as}
-use Rattle.workers.proofs.TieLemmas.{change_at, has_word, head_is, joined_is}
-use Rattle.workers.proofs.gauge.Gauge.turn.Goals as goal
+use Rattle.gauges.specs.Rule.{turned}
+use Rattle.gauges.proofs.PassLemmas.{passes_join_as, passes_part_as, turn_as}
+use Rattle.gauges.proofs.TieLemmas.{change_at, has_word, head_is, joined_is}
+use Rattle.gauges.proofs.gauge.Gauge.turn.Goals as goal
 
 pub join_seat-requires : goal.join_seat-requires
 join_seat-requires g c =

@@ -1,8 +1,8 @@
 use Rattle.std.proofs.Common.{sym, ap, ◌∙◌}
-use Rattle.workers.specs.Views.{place_at}
-use Rattle.workers.proofs.PassLemmas.{seat_is_dealt_as}
-use Rattle.workers.proofs.TieLemmas.{has_word}
-use Rattle.workers.proofs.gauge.Gauge.deal.Goals as goal
+use Rattle.gauges.specs.Views.{place_at}
+use Rattle.gauges.proofs.PassLemmas.{seat_is_dealt_as}
+use Rattle.gauges.proofs.TieLemmas.{has_word}
+use Rattle.gauges.proofs.gauge.Gauge.deal.Goals as goal
 
 pub split_seat-seat-requires : goal.split_seat-seat-requires
 split_seat-seat-requires g c = (

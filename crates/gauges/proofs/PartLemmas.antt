@@ -1,7 +1,7 @@
 -- The parts of a journal.
 use Rattle.std.proofs.Common.{◌≡◌, ◌≤◌, ℕ, zero, suc, ◌+◌, Bool, true, false, List, [], ◌∷◌, ◌++◌, length, Option, Some, None, refl, ap, ◌∙◌, arith, length-append}
 use Rattle.std.specs.Prelude.{filter, ◌==◌}
-use Rattle.workers.specs.Views.{calls_in, is_at, is_one, part_of}
+use Rattle.gauges.specs.Views.{calls_in, is_at, is_one, part_of}
 
 module _ {E : Type 0} (p : E → Bool) where
   filter_append_at : (e : E) (rest done : List E) (b : Bool) → p e ≡ b → filter p rest ≡ done → (more : List E)

@@ -1,8 +1,8 @@
 use Rattle.std.proofs.Common.{◌≤◌, [], ◌∷◌, ap, sym, ◌∙◌, subst}
-use Rattle.workers.specs.Names.{sitting_in}
-use Rattle.workers.proofs.PassLemmas.{seat_look_as}
-use Rattle.workers.proofs.TieLemmas.{has_word, head_is, seat_knows}
-use Rattle.workers.proofs.gauge.Gauge.look_from_seat.Goals as goal
+use Rattle.gauges.specs.Names.{sitting_in}
+use Rattle.gauges.proofs.PassLemmas.{seat_look_as}
+use Rattle.gauges.proofs.TieLemmas.{has_word, head_is, seat_knows}
+use Rattle.gauges.proofs.gauge.Gauge.look_from_seat.Goals as goal
 
 pub load-found-requires : goal.load-found-requires
 load-found-requires g c =

@@ -1,5 +1,5 @@
-use Rattle.workers.proofs.FitLemmas.{begins}
-use Rattle.workers.proofs.gauge.Opened.new.Goals as goal
+use Rattle.gauges.proofs.FitLemmas.{begins}
+use Rattle.gauges.proofs.gauge.Opened.new.Goals as goal
 
 pub of_words-requires : goal.of_words-requires
 of_words-requires g c = begins g.J.Recorded.seat_of c.args.seats

@@ -2,12 +2,12 @@
 use Rattle.std.proofs.Common.{◌≡◌, ◌<◌, ℕ, Bool, List, [], ◌∷◌, Option, sym, ap, ◌∙◌, subst, arith}
 use Rattle.atomic_table.specs.Seated.{TableId}
 use Rattle.atomic_table.specs.Table.{Me}
-use Rattle.workers.specs.declared.view.Desk.{Desk}
-use Rattle.workers.specs.declared.view.Sitting.{Sitting}
-use Rattle.workers.specs.declared.view.View.{View}
-use Rattle.workers.specs.Names.{sitting_in}
-use Rattle.workers.specs.Rule.{IsChange}
-use Rattle.workers.specs.Views.{joined, meets, sits, writes}
+use Rattle.gauges.specs.declared.view.Desk.{Desk}
+use Rattle.gauges.specs.declared.view.Sitting.{Sitting}
+use Rattle.gauges.specs.declared.view.View.{View}
+use Rattle.gauges.specs.Names.{sitting_in}
+use Rattle.gauges.specs.Rule.{IsChange}
+use Rattle.gauges.specs.Views.{joined, meets, sits, writes}
 
 pub head_is : {A : Type 0} {a b : A} → a ∷ [] ≡ b ∷ [] → a ≡ b
 head_is same = cc

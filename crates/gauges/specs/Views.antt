@@ -1,9 +1,9 @@
 -- What passes know, in the shapes that come.
 use Rattle.std.specs.Prelude.{ℕ, zero, suc, ◌==◌, false, true, Bool, List, [], Option, Some, None, option_map, length, filter, replicate, slice_index_or}
-use Rattle.workers.specs.declared.view.Place.{Place}
-use Rattle.workers.specs.declared.view.Desk.{Desk}
-use Rattle.workers.specs.declared.view.Sitting.{Sitting}
-use Rattle.workers.specs.declared.view.View.{View}
+use Rattle.gauges.specs.declared.view.Place.{Place}
+use Rattle.gauges.specs.declared.view.Desk.{Desk}
+use Rattle.gauges.specs.declared.view.Sitting.{Sitting}
+use Rattle.gauges.specs.declared.view.View.{View}
 
 module _ {E C : Type 0} where
   -- no call under way, and nothing owed

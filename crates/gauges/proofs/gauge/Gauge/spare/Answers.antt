@@ -1,7 +1,7 @@
 use Rattle.std.proofs.Common.{sym, ◌∙◌}
-use Rattle.workers.proofs.FitLemmas.{pass_is_spared}
-use Rattle.workers.proofs.TieLemmas.{has_word}
-use Rattle.workers.proofs.gauge.Gauge.spare.Goals as goal
+use Rattle.gauges.proofs.FitLemmas.{pass_is_spared}
+use Rattle.gauges.proofs.TieLemmas.{has_word}
+use Rattle.gauges.proofs.gauge.Gauge.spare.Goals as goal
 
 pub split_seat-pass-requires : goal.split_seat-pass-requires
 split_seat-pass-requires g c = (

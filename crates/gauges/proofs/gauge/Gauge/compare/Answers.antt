@@ -1,7 +1,7 @@
 use Rattle.std.proofs.Common.{ap, sym, ◌∙◌}
-use Rattle.workers.proofs.PassLemmas.{comparing_as, passes_join_as, passes_part_as}
-use Rattle.workers.proofs.TieLemmas.{has_word, head_is, joined_is}
-use Rattle.workers.proofs.gauge.Gauge.compare.Goals as goal
+use Rattle.gauges.proofs.PassLemmas.{comparing_as, passes_join_as, passes_part_as}
+use Rattle.gauges.proofs.TieLemmas.{has_word, head_is, joined_is}
+use Rattle.gauges.proofs.gauge.Gauge.compare.Goals as goal
 
 pub join_seat-requires : goal.join_seat-requires
 join_seat-requires g c =

@@ -2,8 +2,8 @@
 
 ghost use Rattle.std.specs.Prelude.{◌≡◌, ◌≤◌, ℕ, [], length, IfOk};
 ghost use Rattle.atomic_table.specs.Seated.{TableId};
-ghost use Rattle.workers.specs.Rule.{IsChange, IsRight, moved};
-ghost use Rattle.workers.specs.Views.{calls_in, first_desk, newcomer, no_place, place_at, with_one_more};
+ghost use Rattle.gauges.specs.Rule.{IsChange, IsRight, moved};
+ghost use Rattle.gauges.specs.Views.{calls_in, first_desk, newcomer, no_place, place_at, with_one_more};
 
 use crate::pass::{GaugePass, KernelPass, Room, SeatPass};
 use crate::rule::{
@@ -24,7 +24,7 @@ pub struct Opened<E, C, J: Recorded<E>> {
 
 impl<E, C, J: Recorded<E>> Model for Opened<E, C, J> {
     ghost use Rattle.std.specs.Prelude.{[]};
-    ghost use Rattle.workers.specs.Names.{IsOpened, Start};
+    ghost use Rattle.gauges.specs.Names.{IsOpened, Start};
 
     ghost Value = { Start };
 

@@ -1,7 +1,7 @@
 //! The rule of the passes, and what each step of one tells it.
 
 ghost use Rattle.std.specs.Prelude.{ℕ, List, Option};
-ghost use Rattle.workers.specs.declared.view.Desk.{Desk};
+ghost use Rattle.gauges.specs.declared.view.Desk.{Desk};
 
 use crate::view::{Desk, View};
 use atomic_table::{Join, Play, Split, TableRule};
@@ -18,7 +18,7 @@ pub trait Recorded<E> {
 /// What a step of the kernel leaves. Each call picks it.
 pub trait Change<E, C> {
     ghost use Rattle.std.specs.Prelude.{List};
-    ghost use Rattle.workers.specs.declared.view.Desk.{Desk};
+    ghost use Rattle.gauges.specs.declared.view.Desk.{Desk};
 
     /// What is then known beside the kernel.
     ghost desk: { Desk E C };
@@ -29,7 +29,7 @@ pub trait Change<E, C> {
 
 impl<E, C> Change<E, C> for Brand {
     ghost use Rattle.std.specs.Prelude.{[]};
-    ghost use Rattle.workers.specs.Views.{blank};
+    ghost use Rattle.gauges.specs.Views.{blank};
 
     ghost desk = { blank };
 
@@ -40,8 +40,8 @@ impl<E, C> Change<E, C> for Brand {
 pub(crate) struct Kept<J>(PhantomData<J>);
 
 impl<E, C, J: Recorded<E>> TableRule<bool, View<E, C>, u64> for Kept<J> {
-    ghost use Rattle.workers.specs.Views.{first_view};
-    ghost use Rattle.workers.specs.Rule.{IsKept};
+    ghost use Rattle.gauges.specs.Views.{first_view};
+    ghost use Rattle.gauges.specs.Rule.{IsKept};
 
     ghost holds = { λ _. IsKept J.seat_of };
 
@@ -53,7 +53,7 @@ pub(crate) struct Turns<J, M>(PhantomData<(J, M)>);
 
 impl<E, C, J: Recorded<E>, M: Change<E, C>> Play<bool, View<E, C>> for Turns<J, M> {
     ghost use Rattle.std.specs.Prelude.{◌≡◌};
-    ghost use Rattle.workers.specs.Rule.{IsTurned};
+    ghost use Rattle.gauges.specs.Rule.{IsTurned};
 
     ghost then = { λ step before found after.
         IsTurned J.seat_of M.desk M.told before.0 after.0 × (after.1 ≡ before.1) };
@@ -64,7 +64,7 @@ pub(crate) struct LooksFromSeat;
 
 impl<E, C> Play<bool, View<E, C>> for LooksFromSeat {
     ghost use Rattle.std.specs.Prelude.{◌≡◌};
-    ghost use Rattle.workers.specs.Rule.{SeesFromSeat};
+    ghost use Rattle.gauges.specs.Rule.{SeesFromSeat};
 
     ghost then = { λ step before found after.
         SeesFromSeat before.0 found after.0 × (after.1 ≡ before.1) };
@@ -75,7 +75,7 @@ pub(crate) struct Looks;
 
 impl<E, C> Play<bool, View<E, C>> for Looks {
     ghost use Rattle.std.specs.Prelude.{◌≡◌};
-    ghost use Rattle.workers.specs.Rule.{Sees};
+    ghost use Rattle.gauges.specs.Rule.{Sees};
 
     ghost then = { λ step before found after.
         Sees before.0 found after.0 × (after.1 ≡ before.1) };
@@ -86,7 +86,7 @@ pub(crate) struct Compares<J>(PhantomData<J>);
 
 impl<E, C, J: Recorded<E>> Play<bool, View<E, C>> for Compares<J> {
     ghost use Rattle.std.specs.Prelude.{◌≡◌};
-    ghost use Rattle.workers.specs.Rule.{IsCompared};
+    ghost use Rattle.gauges.specs.Rule.{IsCompared};
 
     ghost then = { λ step before found after.
         IsCompared J.seat_of before.0 after.0 × (after.1 ≡ before.1) };
@@ -96,7 +96,7 @@ impl<E, C, J: Recorded<E>> Play<bool, View<E, C>> for Compares<J> {
 pub(crate) struct Deals;
 
 impl<E, C> Split<View<E, C>> for Deals {
-    ghost use Rattle.workers.specs.Views.{deals_left, deals_right};
+    ghost use Rattle.gauges.specs.Views.{deals_left, deals_right};
 
     ghost left = { deals_left };
 
@@ -107,7 +107,7 @@ impl<E, C> Split<View<E, C>> for Deals {
 pub(crate) struct Spares;
 
 impl<E, C> Split<View<E, C>> for Spares {
-    ghost use Rattle.workers.specs.Views.{reads};
+    ghost use Rattle.gauges.specs.Views.{reads};
 
     ghost left = { λ v. v };
 
@@ -118,7 +118,7 @@ impl<E, C> Split<View<E, C>> for Spares {
 pub(crate) struct Meets;
 
 impl<E, C> Join<View<E, C>> for Meets {
-    ghost use Rattle.workers.specs.Views.{meets, reads};
+    ghost use Rattle.gauges.specs.Views.{meets, reads};
 
     ghost both = { meets };
 
@@ -126,7 +126,7 @@ impl<E, C> Join<View<E, C>> for Meets {
 }
 
 impl<E, C> Split<View<E, C>> for Meets {
-    ghost use Rattle.workers.specs.Views.{parts_left, parts_right};
+    ghost use Rattle.gauges.specs.Views.{parts_left, parts_right};
 
     ghost left = { parts_left };
 

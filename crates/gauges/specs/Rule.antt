@@ -3,10 +3,10 @@ use Rattle.std.specs.Prelude.{ℕ, ◌≡◌, ◌≢◌, ◌≤◌, ◌<◌, Boo
 use mathlib.Core.Option.{some}
 use lib.ListN.{get_elem?}
 use Rattle.atomic_table.specs.Table.{State}
-use Rattle.workers.specs.declared.view.Desk.{Desk}
-use Rattle.workers.specs.declared.view.Sitting.{Sitting}
-use Rattle.workers.specs.declared.view.View.{View}
-use Rattle.workers.specs.Views.{calls_in, joined, part_of, place_at, reads, sits}
+use Rattle.gauges.specs.declared.view.Desk.{Desk}
+use Rattle.gauges.specs.declared.view.Sitting.{Sitting}
+use Rattle.gauges.specs.declared.view.View.{View}
+use Rattle.gauges.specs.Views.{calls_in, joined, part_of, place_at, reads, sits}
 
 module _ {E C : Type 0} (seat_of : E → Option ℕ) where
   -- what a seat knows is right beside what is known of the kernel

@@ -15,7 +15,7 @@ pub trait Room {
 }
 
 impl Room for Brand {
-    ghost use Rattle.workers.specs.Names.{no_table};
+    ghost use Rattle.gauges.specs.Names.{no_table};
 
     ghost table = { no_table };
 }
@@ -28,9 +28,9 @@ pub struct KernelPass<E, C, N: Room> {
 }
 
 impl<E, C, N: Room> Model for KernelPass<E, C, N> {
-    ghost use Rattle.workers.specs.declared.view.Desk.{Desk};
-    ghost use Rattle.workers.specs.Views.{desk_of};
-    ghost use Rattle.workers.specs.Names.{IsKernelPass};
+    ghost use Rattle.gauges.specs.declared.view.Desk.{Desk};
+    ghost use Rattle.gauges.specs.Views.{desk_of};
+    ghost use Rattle.gauges.specs.Names.{IsKernelPass};
 
     ghost Value = { Desk E C };
 
@@ -47,8 +47,8 @@ pub struct SeatPass<E, C, N: Room> {
 }
 
 impl<E, C, N: Room> Model for SeatPass<E, C, N> {
-    ghost use Rattle.workers.specs.declared.view.Sitting.{Sitting};
-    ghost use Rattle.workers.specs.Names.{IsSeatPass, sitting_in};
+    ghost use Rattle.gauges.specs.declared.view.Sitting.{Sitting};
+    ghost use Rattle.gauges.specs.Names.{IsSeatPass, sitting_in};
 
     ghost Value = { Sitting E C };
 
@@ -66,7 +66,7 @@ pub struct GaugePass<E, C, N: Room> {
 
 impl<E, C, N: Room> Model for GaugePass<E, C, N> {
     ghost use Rattle.std.specs.Prelude.{ℕ};
-    ghost use Rattle.workers.specs.Names.{IsGaugePass};
+    ghost use Rattle.gauges.specs.Names.{IsGaugePass};
 
     ghost Value = { ℕ };
 

@@ -2,14 +2,14 @@
 use Rattle.std.proofs.Common.{◌≡◌, ◌≢◌, ◌≤◌, ℕ, Bool, List, [], ◌∷◌, ◌++◌, length, Option, Some, refl, sym, ap, ◌∙◌, subst, arith, le_refl, length-append, append_assoc, append-nil}
 use Rattle.std.specs.Prelude.{slice_index, slice_set}
 use Rattle.atomic_table.specs.Table.{Allows, Joins, Me, Splits, keeps}
-use Rattle.workers.specs.declared.view.Desk.{Desk}
-use Rattle.workers.specs.declared.view.Place.{Place}
-use Rattle.workers.specs.declared.view.Sitting.{Sitting}
-use Rattle.workers.specs.declared.view.View.{View}
-use Rattle.workers.specs.Views.{calls_in, desk_of, sitting_of, deals_left, deals_right, joined, meets, no_place, part_of, parts_left, parts_right, place_at, reads, sits, writes}
-use Rattle.workers.specs.Rule.{Fits, IsChange, IsCompared, IsKept, IsRight, IsTurned, Sees, SeesFromSeat, moved}
-use Rattle.workers.proofs.PartLemmas.{calls_append, part_append, part_below}
-use Rattle.workers.proofs.FitLemmas.{all_set, joined_fit, passes_join, passes_part, reads_fit, seat_is_dealt, sits_fit, word_stays}
+use Rattle.gauges.specs.declared.view.Desk.{Desk}
+use Rattle.gauges.specs.declared.view.Place.{Place}
+use Rattle.gauges.specs.declared.view.Sitting.{Sitting}
+use Rattle.gauges.specs.declared.view.View.{View}
+use Rattle.gauges.specs.Views.{calls_in, desk_of, sitting_of, deals_left, deals_right, joined, meets, no_place, part_of, parts_left, parts_right, place_at, reads, sits, writes}
+use Rattle.gauges.specs.Rule.{Fits, IsChange, IsCompared, IsKept, IsRight, IsTurned, Sees, SeesFromSeat, moved}
+use Rattle.gauges.proofs.PartLemmas.{calls_append, part_append, part_below}
+use Rattle.gauges.proofs.FitLemmas.{all_set, joined_fit, passes_join, passes_part, reads_fit, seat_is_dealt, sits_fit, word_stays}
 
 module _ {E C : Type 0} (seat_of : E → Option ℕ) where
   -- ---- a step of the kernel

@@ -1,0 +1,4 @@
+pub mod PartLemmas
+pub mod FitLemmas
+pub mod PassLemmas
+pub mod TieLemmas
