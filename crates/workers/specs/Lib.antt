@@ -1,6 +1,6 @@
-pub use Rattle.gauges.specs.Views as Views
-pub use Rattle.gauges.specs.Rule as Rule
-pub use Rattle.gauges.specs.Names as Names
+pub use Rattle.gauges.specs.Views
+pub use Rattle.gauges.specs.Rule
+pub use Rattle.gauges.specs.Names
 pub mod Words
 pub mod Origins
 pub mod Entries
