@@ -16,7 +16,7 @@ use Rattle.xsi_calls.specs.Words.{AskStep, AsksAtOnce, At, Way, WritesAtOnce, at
 use Rattle.xsi_calls.specs.declared.conclusion.Conclusion.{Conclusion}
 use Rattle.interleaving_core.specs.Words.{Answer, CallView, Entry, IsSeat, PoolState, Progress, RecordKey, Table, answer_of_call, conclusion_of}
 use Rattle.interleaving_core.specs.Active.{ActiveView, IsDrafted, IsKept, decided_by, draft_by, entries_by}
-use Rattle.interleaving_core.specs.Counting.{CountsState}
+use Rattle.search_counts.specs.Counting.{CountsState}
 use Rattle.interleaving_core.specs.Driving.{IsStep}
 use Rattle.interleaving_core.specs.Kernel.{IsWhole, KernelState, call_at, with_call}
 use Rattle.interleaving_core.specs.Searches.{Counts}

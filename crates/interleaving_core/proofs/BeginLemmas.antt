@@ -7,7 +7,7 @@ use Rattle.std.proofs.lemmas.List.Sums.{sum_by-cons}
 use Rattle.std.specs.List.{All}
 use Rattle.std.proofs.lemmas.Option.{get_or_from_slice_get, slice_get-get_or, slice_get_within}
 use Rattle.page_locks.proofs.ChangeLemmas.{with_row-own}
-use Rattle.interleaving_core.specs.Counting.{CountsState, opened_counts, unbegun_count}
+use Rattle.search_counts.specs.Counting.{CountsState, opened_counts, unbegun_count}
 use Rattle.interleaving_core.specs.Words.{Call, Caller, Entry, HasFittingCall, HasFittingCaller, IsReady, IsSeat, Table, caller_at, with_row}
 use Rattle.xsi_calls.proofs.RowLemmas.{new_holds_nothing}
 use Rattle.interleaving_core.specs.Active.{ActiveView, HasBegun, HasBegunAt, drafted}

@@ -5,7 +5,7 @@ use Rattle.std.proofs.lemmas.Bool.{cases_eq}
 use Rattle.std.proofs.lemmas.List.{get_or_read, length-map}
 use Rattle.file_pages.specs.Fault.{FileHasCause}
 use Rattle.file_pages.specs.declared.fault.FileFault.{FileFault}
-use Rattle.interleaving_core.specs.Counting.{CountsState, IsCountedSeat}
+use Rattle.search_counts.specs.Counting.{CountsState, IsCountedSeat}
 use Rattle.interleaving_core.specs.Words.{Caller, Entry, IsSeat, PoolState, RecordKey, Table, caller_at, row_of, with_row}
 use Rattle.interleaving_core.specs.Active.{ActiveView}
 use Rattle.interleaving_core.specs.Kernel.{AreFittingCallers, IsCallOf, IsWhole, KernelState, call_at, due_at, due_for_stop, entries_of, locks_of, with_call}

@@ -1,4 +1,3 @@
-pub mod CountLemmas
 pub mod SearchLemmas
 pub mod PlaceLemmas
 pub mod PartLemmas

@@ -2,9 +2,9 @@
 use Rattle.std.proofs.Common.{◌≡◌, refl, sym, ap, subst, ℕ, zero, suc, ◌-◌, ◌≤◌, ◌<◌, true, false, List, [], ◌∷◌, length, slice_set, slice_index_or, length-set, get_or-set_same, arith}
 use Rattle.std.proofs.lemmas.List.{set-set}
 use Rattle.step_rules.specs.declared.kind.Kind.TheVariants as kinds
-use Rattle.interleaving_core.specs.Counting.{AreSoundCounts, CountsState, IsCountedSeat, Notes, NotesSearch, answered_count, begun_count, no_count}
-use Rattle.interleaving_core.specs.declared.count.SearchCount.{SearchCount}
-use Rattle.interleaving_core.proofs.CountLemmas.{own_notes, own_sound}
+use Rattle.search_counts.specs.Counting.{AreSoundCounts, CountsState, IsCountedSeat, Notes, NotesSearch, answered_count, begun_count, no_count}
+use Rattle.search_counts.specs.declared.count.SearchCount.{SearchCount}
+use Rattle.search_counts.proofs.CountLemmas.{own_notes, own_sound}
 
 -- what is read at a default is read at itself
 again : (counts : List SearchCount) (place : ℕ) (c : SearchCount) →

@@ -11,13 +11,13 @@ use Rattle.xsi_calls.specs.Words.{AskStep, AsksAtOnce, At, SearchesOnce, Way, Wr
 use Rattle.xsi_calls.specs.declared.conclusion.Conclusion.{Conclusion}
 use Rattle.interleaving_core.specs.Words.{CallView, IsSeat, PoolState, RecordKey, Table, conclusion_of}
 use Rattle.interleaving_core.specs.Active.{ActiveView, IsDrafted, decided_by}
-use Rattle.interleaving_core.specs.Counting.{AreSoundCounts, CountsState, Notes, NotesSearch, changes_counts}
+use Rattle.search_counts.specs.Counting.{AreSoundCounts, CountsState, Notes, NotesSearch, changes_counts}
 use Rattle.interleaving_core.specs.Driving.{Moves}
 use Rattle.interleaving_core.specs.Kernel.{IsWhole, KernelState, call_at, with_call}
 use Rattle.interleaving_core.specs.Searches.{Counts, ends_search}
 use Rattle.interleaving_core.specs.declared.step.Step.TheVariants as steps
 use Rattle.interleaving_core.proofs.AtOnceLemmas.{IsAsFar, LeadsOn, far_on, leads_on, none_is, other_kind, undecided_at}
-use Rattle.interleaving_core.proofs.CountLemmas.{none_noted}
+use Rattle.search_counts.proofs.CountLemmas.{none_noted}
 use Rattle.interleaving_core.proofs.KernelLemmas.{is_counted, seat_there}
 use Rattle.interleaving_core.proofs.LentLemmas.{is_its, slot_is}
 use Rattle.interleaving_core.proofs.PlaceLemmas.{Seats, at_same, with_place, with_twice}

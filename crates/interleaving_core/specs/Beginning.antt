@@ -4,7 +4,7 @@ use Rattle.buffer_pool.specs.Pool.{opened}
 use Rattle.file_check.specs.Whole.{IsFileOf, IsToldOf}
 use Rattle.queue_model.specs.State.{State}
 use Rattle.queue_model.specs.declared.entry.Entry.TheVariants.{Stopped}
-use Rattle.interleaving_core.specs.Counting.{opened_counts}
+use Rattle.search_counts.specs.Counting.{opened_counts}
 use Rattle.interleaving_core.specs.Words.{Call, Caller, HasFittingCall, RecordKey, caller_at}
 use Rattle.interleaving_core.specs.Active.{ActiveView, HasBegun}
 use Rattle.interleaving_core.specs.Kernel.{AreFittingCallers, KernelState, call_at, entries_of, with_call}

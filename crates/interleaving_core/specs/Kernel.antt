@@ -3,7 +3,7 @@
 use Rattle.std.specs.Prelude.{ℕ, zero, suc, ◌≡◌, ◌+◌, ◌≤◌, Bool, true, false, List, [], map, Option, Some, None, length, slice_index_or, slice_set, sum_by, ⊤}
 use Rattle.std.specs.Option.{is_some}
 use Rattle.interleaving_core.specs.Words.{Caller, Entry, HasFittingCaller, IsReady, Lock, PoolState, Table, call_locks, caller_at}
-use Rattle.interleaving_core.specs.Counting.{CountsState}
+use Rattle.search_counts.specs.Counting.{CountsState}
 use Rattle.interleaving_core.specs.Active.{ActiveView, drafted}
 use Rattle.interleaving_core.specs.Past.{KeepsJournal}
 use Rattle.interleaving_core.specs.declared.fault.Failure.{Failure}

@@ -1,4 +1,3 @@
-pub mod Counting
 pub mod Words
 pub mod Active
 pub mod Lending
@@ -14,5 +13,7 @@ pub mod Beginning
 pub mod Closing
 pub mod Renewing
 pub mod Holding
+pub use Rattle.search_counts.specs.Counting
+pub use Rattle.search_counts.specs as search_counts
 pub use Rattle.file_check.specs as file_check
 pub use Rattle.xsi_calls.specs as xsi_calls

@@ -7,7 +7,7 @@ use Rattle.page_locks.specs.declared.lock.LockName.TheVariants.{Key, Counter, Qu
 use Rattle.xsi_calls.specs.Counting.{is_to_search, last_of}
 use Rattle.xsi_calls.specs.Machine.{is_searching}
 use Rattle.interleaving_core.specs.Active.{ActiveView}
-use Rattle.interleaving_core.specs.Counting.{CountsState, Notes}
+use Rattle.search_counts.specs.Counting.{CountsState, Notes}
 use Rattle.step_rules.specs.declared.kind.Kind.{Kind}
 use Rattle.step_rules.specs.declared.kind.Kind.TheVariants as kinds
 use Rattle.interleaving_core.specs.Words.{Lock, Table, row_of}

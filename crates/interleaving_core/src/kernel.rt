@@ -19,7 +19,6 @@ mod renewing;
 
 use crate::active::{decided_by, note_entry};
 use crate::closing::{Closed, NotClosed};
-use crate::counts::SearchCounts;
 use crate::fault::{BeginFault, CloseFault, Failure, OpenFault};
 use crate::opening::{copied, idle_seats, least_frames};
 use crate::places::{due, failure_of, has_call, told_of_failure};
@@ -33,6 +32,7 @@ use file_pages::FileFault;
 use page_device::PageDevice;
 use page_locks::{LockTable, MAX_SEATS};
 use queue_model::{Call, Caller, Entry};
+use search_counts::SearchCounts;
 use std::alloc::Global;
 use std::marker::Model;
 use step_rules::Progress;

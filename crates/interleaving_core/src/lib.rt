@@ -5,8 +5,6 @@
 
 mod active;
 mod closing;
-mod count;
-mod counts;
 mod fault;
 mod kernel;
 mod opening;
@@ -14,16 +12,13 @@ mod places;
 mod searches;
 mod seat;
 mod step;
-mod under_way;
 mod waiting;
 
 pub use closing::{Closed, NotClosed};
-pub use count::SearchCount;
-pub use counts::SearchCounts;
 pub use fault::{BeginFault, CloseFault, Failure, OpenFault, StepFault};
 pub use file_check;
 pub use kernel::{Kernel, MAX_DECIDED, MOST_STEPS};
 pub use opening::FRAMES_BESIDE;
+pub use search_counts::{SearchCount, SearchCounts, UnderWay};
 pub use step::Step;
-pub use under_way::UnderWay;
 pub use xsi_calls;

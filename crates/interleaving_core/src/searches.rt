@@ -1,16 +1,16 @@
 //! What a step of a seat is to the searches that are counted.
 
 ghost use Rattle.std.specs.Prelude.{◌≡◌};
-ghost use Rattle.interleaving_core.specs.Counting.{IsCountedSeat};
-ghost use Rattle.interleaving_core.specs.Counting.{Notes};
+ghost use Rattle.search_counts.specs.Counting.{IsCountedSeat};
+ghost use Rattle.search_counts.specs.Counting.{Notes};
 ghost use Rattle.interleaving_core.specs.Searches.{CountsFrom, begins_search, ends_by, ends_on, goes_on_from};
 ghost use Rattle.xsi_calls.specs.Machine.{is_searching};
 ghost use Rattle.interleaving_core.specs.Words.{IsSeat, row_of};
 
-use crate::counts::SearchCounts;
 use crate::seat::Seat;
 use crate::step::Step;
 use page_locks::{Lock, LockKind, LockName, LockTable};
+use search_counts::SearchCounts;
 use step_rules::Kind;
 use xsi_calls::CallMachine;
 

@@ -21,8 +21,8 @@ use Rattle.step_rules.specs.World.{World}
 use Rattle.step_rules.proofs.TurnLemmas.{is_of_its_kind}
 use Rattle.interleaving_core.specs.Searches.{begins_search, ends_on, goes_on, is_unheld}
 use Rattle.interleaving_core.specs.Counting.{CountsState, MOST_COUNTED, Notes, begun_count, change_after, count_at, count_behind, gone_count, is_nothing, own_count}
-use Rattle.interleaving_core.specs.declared.count.SearchCount.{SearchCount}
-use Rattle.interleaving_core.specs.declared.under_way.UnderWay.{UnderWay}
+use Rattle.interleaving_core.specs.search_counts.declared.count.SearchCount.{SearchCount}
+use Rattle.interleaving_core.specs.search_counts.declared.under_way.UnderWay.{UnderWay}
 use Rattle.interleavings.specs.Counting.{CountsWalk, HopsFew, IsCounted, under_way_in}
 use Rattle.interleavings.proofs.EnterLemmas.{had_before, on_any_way, others_hold}
 use Rattle.interleavings.proofs.PhaseLemmas.{phase_after, quiet_is}

@@ -8,7 +8,7 @@ use Rattle.step_rules.specs.Walking.{first_walk}
 use Rattle.step_rules.specs.Words.{Change, Quiet}
 use Rattle.step_rules.specs.World.{World}
 use Rattle.interleaving_core.specs.Counting.{count_at, no_count, opened_counts, unbegun_count}
-use Rattle.interleaving_core.specs.declared.count.SearchCount.{SearchCount}
+use Rattle.interleaving_core.specs.search_counts.declared.count.SearchCount.{SearchCount}
 use Rattle.interleaving_core.specs.xsi_calls.Machine.{IsNew, call_facts, facts_at}
 use Rattle.interleaving_core.specs.xsi_calls.Below.{facts_in}
 use Rattle.interleaving_core.specs.xsi_calls.declared.question.Question.{Question}

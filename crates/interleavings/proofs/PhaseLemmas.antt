@@ -7,7 +7,7 @@ use Rattle.step_rules.specs.Walks.{is_quiet}
 use Rattle.step_rules.specs.Words.{Change, Quiet}
 use Rattle.step_rules.specs.World.{World}
 use Rattle.interleaving_core.specs.Counting.{change_after, is_nothing}
-use Rattle.interleaving_core.specs.declared.under_way.UnderWay.{UnderWay}
+use Rattle.interleaving_core.specs.search_counts.declared.under_way.UnderWay.{UnderWay}
 use Rattle.interleavings.specs.Counting.{under_way_in}
 use Rattle.interleavings.specs.Words.{RecordKey}
 

@@ -12,9 +12,9 @@ use Rattle.interleavings.specs.Together.{AreTogether}
 use Rattle.interleaving_core.specs.xsi_calls.Machine.{call_facts}
 use Rattle.interleaving_core.specs.xsi_calls.Words.{world}
 use Rattle.interleaving_core.specs.Counting.{MOST_COUNTED, count_at}
-use Rattle.interleaving_core.specs.declared.count.SearchCount.{SearchCount}
-use Rattle.interleaving_core.specs.declared.under_way.UnderWay.{UnderWay}
-use Rattle.interleaving_core.specs.declared.under_way.UnderWay.TheVariants.{Nothing, Split, Merge}
+use Rattle.interleaving_core.specs.search_counts.declared.count.SearchCount.{SearchCount}
+use Rattle.interleaving_core.specs.search_counts.declared.under_way.UnderWay.{UnderWay}
+use Rattle.interleaving_core.specs.search_counts.declared.under_way.UnderWay.TheVariants.{Nothing, Split, Merge}
 use Rattle.interleavings.specs.Words.{ActiveView, CallView, KernelState, RecordKey, State, call_at}
 
 -- the call of each seat that has one under way

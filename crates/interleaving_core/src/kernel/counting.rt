@@ -1,13 +1,13 @@
 //! What is counted of the searches of seats.
 
 ghost use Rattle.std.specs.Prelude.{◌≡◌};
-ghost use Rattle.interleaving_core.specs.Counting.{count_at};
+ghost use Rattle.search_counts.specs.Counting.{count_at};
 ghost use Rattle.interleaving_core.specs.Words.{IsSeat};
 
-use crate::count::SearchCount;
 use crate::kernel::Kernel;
 use bucket_page::PseudoKey;
 use page_device::PageDevice;
+use search_counts::SearchCount;
 
 impl<D: PageDevice + Drop, K: PseudoKey + Drop> Kernel<D, K> {
     /// How often the last search of a seat went on from one page to another, since it was granted the

@@ -3,7 +3,7 @@ use Rattle.std.proofs.Common.{rules, ℕ, ◌≡◌, ◌∙◌, ◌-◌, ◌≤�
 use Rattle.std.specs.Option.{is_some}
 use Rattle.std.specs.Vec.{vec_len}
 use Rattle.interleaving_core.specs.Active.{ActiveView}
-use Rattle.interleaving_core.specs.Counting.{CountsState, Notes}
+use Rattle.search_counts.specs.Counting.{CountsState, Notes}
 use Rattle.interleaving_core.specs.Owing.{failure_by}
 use Rattle.interleaving_core.specs.Searches.{CountsFrom, begins_search, ends_by, goes_on_from}
 use Rattle.interleaving_core.specs.Turn.{Settles, Turns, told_on}

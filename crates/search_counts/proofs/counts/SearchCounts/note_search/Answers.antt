@@ -1,8 +1,8 @@
 -- The seat's own count is all that differs.
 use Rattle.std.proofs.Common.{sym, subst, slice_set, ◌-◌}
-use Rattle.interleaving_core.specs.Counting.{CountsState, IsCountedSeat, NotesSearch}
-use Rattle.interleaving_core.proofs.SearchLemmas.{search_noted, search_sound}
-use Rattle.interleaving_core.proofs.counts.SearchCounts.note_search.Goals as goal
+use Rattle.search_counts.specs.Counting.{CountsState, IsCountedSeat, NotesSearch}
+use Rattle.search_counts.proofs.SearchLemmas.{search_noted, search_sound}
+use Rattle.search_counts.proofs.counts.SearchCounts.note_search.Goals as goal
 
 pub invariant_of-self : goal.invariant_of-self
 invariant_of-self c =

@@ -1,7 +1,7 @@
 //! The structure change that is under way.
 
 ghost use Rattle.std.specs.Prelude.{◌≡◌};
-ghost use Rattle.interleaving_core.specs.Counting.{change_after, is_nothing};
+ghost use Rattle.search_counts.specs.Counting.{change_after, is_nothing};
 
 use step_rules::Kind;
 

@@ -1,7 +1,7 @@
 //! What is counted of one seat.
 
 ghost use Rattle.std.specs.Prelude.{◌≡◌};
-ghost use Rattle.interleaving_core.specs.Counting.{answered_count, begun_count, count_behind, own_count, unbegun_count};
+ghost use Rattle.search_counts.specs.Counting.{answered_count, begun_count, count_behind, own_count, unbegun_count};
 
 use crate::under_way::UnderWay;
 use step_rules::Kind;

@@ -1,9 +1,9 @@
 -- The loop writes over each count what it becomes.
 use Rattle.std.proofs.Common.{rules, false, slice_index_or}
 use Rattle.std.proofs.lemmas.List.Edits.{map_over_more}
-use Rattle.interleaving_core.specs.Counting.{count_behind}
-use Rattle.interleaving_core.specs.declared.count.SearchCount.{SearchCount}
-use Rattle.interleaving_core.proofs.counts.count_all.Goals as goal
+use Rattle.search_counts.specs.Counting.{count_behind}
+use Rattle.search_counts.specs.declared.count.SearchCount.{SearchCount}
+use Rattle.search_counts.proofs.counts.count_all.Goals as goal
 
 pub loop-count-preserved : goal.loop-count-preserved
 loop-count-preserved c =

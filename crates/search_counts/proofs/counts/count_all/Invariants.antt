@@ -1,7 +1,7 @@
 -- What the loop has passed is counted, and what is left is as it was.
 use Rattle.std.proofs.Common.{◌≡◌, ◌++◌, drop, take, map}
-use Rattle.interleaving_core.specs.Counting.{count_behind}
-use Rattle.interleaving_core.proofs.counts.count_all.Given as goal
+use Rattle.search_counts.specs.Counting.{count_behind}
+use Rattle.search_counts.proofs.counts.count_all.Given as goal
 
 abbrev pub invariant-loop-count : goal.invariant-loop-count
 invariant-loop-count l =

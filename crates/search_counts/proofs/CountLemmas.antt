@@ -11,10 +11,10 @@ use Rattle.step_rules.specs.Kinds.{may_lengthen}
 use Rattle.step_rules.specs.Ways.{hops_added}
 use Rattle.step_rules.specs.declared.kind.Kind.{Kind}
 use Rattle.step_rules.specs.declared.kind.Kind.TheVariants as kinds
-use Rattle.interleaving_core.specs.Counting.{AreSoundCounts, CountsState, IsCountedSeat, MOST_COUNTED, Notes, begins_change, change_after, changes_counts, count_at, count_behind, counts_for_all, ends_change, gone_count, is_nothing, no_count, own_count, touches_all}
-use Rattle.interleaving_core.specs.declared.count.SearchCount.{SearchCount}
-use Rattle.interleaving_core.specs.declared.under_way.UnderWay.{UnderWay}
-use Rattle.interleaving_core.specs.declared.under_way.UnderWay.TheVariants.{Nothing, Split, Merge}
+use Rattle.search_counts.specs.Counting.{AreSoundCounts, CountsState, IsCountedSeat, MOST_COUNTED, Notes, begins_change, change_after, changes_counts, count_at, count_behind, counts_for_all, ends_change, gone_count, is_nothing, no_count, own_count, touches_all}
+use Rattle.search_counts.specs.declared.count.SearchCount.{SearchCount}
+use Rattle.search_counts.specs.declared.under_way.UnderWay.{UnderWay}
+use Rattle.search_counts.specs.declared.under_way.UnderWay.TheVariants.{Nothing, Split, Merge}
 
 -- ---- tests
 

@@ -1,9 +1,9 @@
 -- The seat's own count is all that differs.
 use Rattle.std.proofs.Common.{refl, sym, subst, slice_set, ◌-◌}
 use Rattle.step_rules.specs.declared.kind.Kind.TheVariants as kinds
-use Rattle.interleaving_core.specs.Counting.{CountsState, IsCountedSeat, Notes}
-use Rattle.interleaving_core.proofs.CountLemmas.{own_notes, own_sound}
-use Rattle.interleaving_core.proofs.counts.SearchCounts.count_own.Goals as goal
+use Rattle.search_counts.specs.Counting.{CountsState, IsCountedSeat, Notes}
+use Rattle.search_counts.proofs.CountLemmas.{own_notes, own_sound}
+use Rattle.search_counts.proofs.counts.SearchCounts.count_own.Goals as goal
 
 pub invariant_of-self : goal.invariant_of-self
 invariant_of-self c =

@@ -1,9 +1,9 @@
 -- All are counted first, and the seat's own count is put back.
 use Rattle.std.proofs.Common.{ap, ◌∙◌, sym, subst, slice_set, ◌-◌}
 use Rattle.std.specs.Vec.{with_items}
-use Rattle.interleaving_core.specs.Counting.{CountsState, IsCountedSeat, Notes, own_count}
-use Rattle.interleaving_core.proofs.CountLemmas.{counts_notes, counts_sound, none_touched, written_over}
-use Rattle.interleaving_core.proofs.counts.SearchCounts.count.Goals as goal
+use Rattle.search_counts.specs.Counting.{CountsState, IsCountedSeat, Notes, own_count}
+use Rattle.search_counts.proofs.CountLemmas.{counts_notes, counts_sound, none_touched, written_over}
+use Rattle.search_counts.proofs.counts.SearchCounts.count.Goals as goal
 
 pub count_all-requires : goal.count_all-requires
 count_all-requires c quiet =

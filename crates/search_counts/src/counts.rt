@@ -1,8 +1,8 @@
 //! What is counted of all seats.
 
 ghost use Rattle.std.specs.Prelude.{◌≡◌, false, map, IfOk};
-ghost use Rattle.interleaving_core.specs.Counting.{changes_counts, count_at, count_behind, counts_for_all, opened_counts, touches_all};
-ghost use Rattle.interleaving_core.specs.Counting.{AreSoundCounts, IsCountedSeat, Notes, NotesSearch};
+ghost use Rattle.search_counts.specs.Counting.{changes_counts, count_at, count_behind, counts_for_all, opened_counts, touches_all};
+ghost use Rattle.search_counts.specs.Counting.{AreSoundCounts, IsCountedSeat, Notes, NotesSearch};
 ghost use Rattle.step_rules.specs.declared.kind.Kind.{Kind};
 
 use crate::count::SearchCount;
@@ -20,7 +20,7 @@ pub struct SearchCounts {
 }
 
 impl Model for SearchCounts {
-    ghost use Rattle.interleaving_core.specs.Counting.{CountsState, AreSoundCounts};
+    ghost use Rattle.search_counts.specs.Counting.{CountsState, AreSoundCounts};
 
     ghost Value = { CountsState };
 

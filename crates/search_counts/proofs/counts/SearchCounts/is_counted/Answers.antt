@@ -1,8 +1,8 @@
 -- A step that changes no count need not be counted.
 use Rattle.std.proofs.Common.{◌∙◌, sym, subst}
-use Rattle.interleaving_core.specs.Counting.{CountsState, IsCountedSeat, Notes}
-use Rattle.interleaving_core.proofs.CountLemmas.{none_noted}
-use Rattle.interleaving_core.proofs.counts.SearchCounts.is_counted.Goals as goal
+use Rattle.search_counts.specs.Counting.{CountsState, IsCountedSeat, Notes}
+use Rattle.search_counts.proofs.CountLemmas.{none_noted}
+use Rattle.search_counts.proofs.counts.SearchCounts.is_counted.Goals as goal
 
 pub returns : goal.returns
 returns c none =

@@ -5,9 +5,9 @@ use Rattle.step_rules.specs.Kinds.{may_lengthen}
 use Rattle.step_rules.specs.Ways.{hops_added}
 use Rattle.step_rules.specs.declared.kind.Kind.{Kind}
 use Rattle.step_rules.specs.declared.kind.Kind.TheVariants as kinds
-use Rattle.interleaving_core.specs.declared.count.SearchCount.{SearchCount}
-use Rattle.interleaving_core.specs.declared.under_way.UnderWay.{UnderWay}
-use Rattle.interleaving_core.specs.declared.under_way.UnderWay.TheVariants.{Nothing, Split, Merge}
+use Rattle.search_counts.specs.declared.count.SearchCount.{SearchCount}
+use Rattle.search_counts.specs.declared.under_way.UnderWay.{UnderWay}
+use Rattle.search_counts.specs.declared.under_way.UnderWay.TheVariants.{Nothing, Split, Merge}
 
 -- ---- the structure change under way
 
