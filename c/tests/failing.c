@@ -295,7 +295,7 @@ static void notes_fail(struct both start) {
     put(start);
     msgq *queues = opened();
     change(queues);
-    arm(MALLOC, 1, ENOMEM);
+    arm(CALLOC, 1, ENOMEM);
     is(msgq_note(queues), 0, "a note without memory");
     is(disarm(), true, "it is asked for");
     is(has_bytes(path, start.file), false, "it is a save");
