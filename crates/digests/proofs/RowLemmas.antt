@@ -1,52 +1,20 @@
 -- Operators on vectors, at one lane.
-use Rattle.std.proofs.Common.{◌≡◌, ◌∙◌, sym, subst, ℕ, ◌-◌, ◌*◌, ◌/◌, ◌%◌, ◌^◌, ◌<◌, List, length, map}
-use Rattle.std.proofs.Common.{slice_index, bit_and, bit_or, bit_xor, arith}
-use Rattle.std.proofs.lemmas.List.{get_or-map, length-map}
+use Rattle.std.proofs.Common.{◌≡◌, ◌∙◌, sym, subst, ℕ, ◌-◌, ◌*◌, ◌/◌, ◌%◌, ◌^◌, ◌<◌, List, length}
+use Rattle.std.proofs.Common.{slice_index, bit_or, arith}
 use Rattle.std.proofs.lemmas.Simd.{length-zip2, get_or-zip2}
-use Rattle.std.specs.Int.{w32, bit_not, rotate_right}
+use Rattle.std.specs.Int.{w32, rotate_right}
 use Rattle.std.specs.Simd.Lanes.{zip2}
-use Rattle.sha2.specs.Sha256.{ch, maj}
 
 module _ (f : ℕ → ℕ → ℕ) (x y : List ℕ) (wide_x : length x ≡ 4) (wide_y : length y ≡ 4) where
   zip2-wide : length (zip2 f x y) ≡ 4
   zip2-wide = length-zip2 f x y (wide_x ∙ sym wide_y) ∙ wide_x
 
-  zip2-lane : (lane : ℕ) → lane < 4 → slice_index (zip2 f x y) lane ≡ f (slice_index x lane) (slice_index y lane)
+  pub zip2-lane : (lane : ℕ) → lane < 4 → slice_index (zip2 f x y) lane ≡ f (slice_index x lane) (slice_index y lane)
   zip2-lane lane within =
       get_or-zip2 f x y lane 0 0 0 (subst (λ m. lane < m) (sym wide_x) within)
       (subst (λ m. lane < m) (sym wide_y) within)
 
 module _ (lane : ℕ) (within : lane < 4) where
-  pub ch-lane : (x y z : List ℕ) → length x ≡ 4 → length y ≡ 4 → length z ≡ 4
-      → slice_index (zip2 bit_xor (zip2 bit_and x y) (zip2 bit_and (map (bit_not w32) x) z)) lane
-      ≡ ch (slice_index x lane) (slice_index y lane) (slice_index z lane)
-  ch-lane x y z wide_x wide_y wide_z =
-      let flip : List ℕ = map (bit_not w32) x in
-      let wide : length flip ≡ 4 = length-map x (bit_not w32) ∙ wide_x in
-      let flipped : slice_index flip lane ≡ bit_not w32 (slice_index x lane) =
-      get_or-map (bit_not w32) x lane 0 0 (subst (λ m. lane < m) (sym wide_x) within) in
-      zip2-lane bit_xor (zip2 bit_and x y) (zip2 bit_and flip z) (zip2-wide bit_and x y wide_x wide_y)
-      (zip2-wide bit_and flip z wide wide_z) lane within
-      ∙ (λ i. bit_xor (zip2-lane bit_and x y wide_x wide_y lane within i)
-      (zip2-lane bit_and flip z wide wide_z lane within i))
-      ∙ (λ i. bit_xor (bit_and (slice_index x lane) (slice_index y lane)) (bit_and (flipped i) (slice_index z lane)))
-
-  pub xor3-lane : (x y z : List ℕ) → length x ≡ 4 → length y ≡ 4 → length z ≡ 4
-      → slice_index (zip2 bit_xor (zip2 bit_xor x y) z) lane
-      ≡ bit_xor (bit_xor (slice_index x lane) (slice_index y lane)) (slice_index z lane)
-  xor3-lane x y z wide_x wide_y wide_z =
-      zip2-lane bit_xor (zip2 bit_xor x y) z (zip2-wide bit_xor x y wide_x wide_y) wide_z lane within
-      ∙ (λ i. bit_xor (zip2-lane bit_xor x y wide_x wide_y lane within i) (slice_index z lane))
-
-  pub maj-lane : (x y z : List ℕ) → length x ≡ 4 → length y ≡ 4 → length z ≡ 4
-      → slice_index (zip2 bit_xor (zip2 bit_xor (zip2 bit_and x y) (zip2 bit_and x z)) (zip2 bit_and y z)) lane
-      ≡ maj (slice_index x lane) (slice_index y lane) (slice_index z lane)
-  maj-lane x y z wide_x wide_y wide_z =
-      xor3-lane (zip2 bit_and x y) (zip2 bit_and x z) (zip2 bit_and y z) (zip2-wide bit_and x y wide_x wide_y)
-      (zip2-wide bit_and x z wide_x wide_z) (zip2-wide bit_and y z wide_y wide_z)
-      ∙ (λ i. bit_xor (bit_xor (zip2-lane bit_and x y wide_x wide_y lane within i)
-      (zip2-lane bit_and x z wide_x wide_z lane within i)) (zip2-lane bit_and y z wide_y wide_z lane within i))
-
   pub shifted-lane : (x down : List ℕ) (by : ℕ) → length x ≡ 4 → length down ≡ 4 → slice_index down lane ≡ by
       → slice_index (zip2 (λ (a b : ℕ). a / 2 ^ b) x down) lane ≡ slice_index x lane / 2 ^ by
   shifted-lane x down by wide_x wide_down is_down =

@@ -1,4 +1,5 @@
-//! Digests of pages, computed side by side: whether sixteen pages are sealed.
+//! Digests that are computed side by side: whether sixteen pages are sealed, and those of four short
+//! messages.
 
 #![tactic(auto)]
 
@@ -6,7 +7,9 @@ mod compression;
 mod constants;
 mod row;
 mod run;
+mod short;
 mod words;
 
 pub use page_device;
 pub use run::{LANES, are_sealed};
+pub use short::{SHORT_BYTES, four_digests};

@@ -76,7 +76,7 @@ fn has_end(page: &Page, end: &[u8; DIGEST_BYTES]) -> bool
 }
 
 /// The bytes of the hash value at a lane.
-fn digest(state: &[Row; 8], lane: usize) -> [u8; DIGEST_BYTES]
+pub(crate) fn digest(state: &[Row; 8], lane: usize) -> [u8; DIGEST_BYTES]
     requires { lane < WIDTH }
     ensures { result ≡ digest_bytes (column lane state.now) 8 }
 {

@@ -6,7 +6,7 @@ ghost use Rattle.sha2.specs.Sha256.{word_at};
 ghost use Rattle.digests.specs.Lanes.{SpellsBlock, block_of, column, padded_page};
 
 use crate::row::{Row, WIDTH, splat};
-use page_device::{PAGE_BYTES, PAYLOAD_BYTES, Page};
+use page_device::{PAYLOAD_BYTES, Page};
 
 /// Blocks of a padded message.
 pub(crate) const BLOCKS: usize = 64;
@@ -65,10 +65,11 @@ fn word(n: u32, page: &Page, at: usize) -> u32
     }
 }
 
+/// The word that stands at byte `i`.
 #[inline(always)]
-fn load(page: &Page, i: usize) -> u32
-    requires { i + 4 ≤ PAGE_BYTES }
-    ensures { result ≡ word_at page.now i }
+pub(crate) fn load(bytes: &[u8], i: usize) -> u32
+    requires { i + 4 ≤ length bytes.now }
+    ensures { result ≡ word_at bytes.now i }
 {
-    u32::from_be_bytes([page[i], page[i + 1], page[i + 2], page[i + 3]])
+    u32::from_be_bytes([bytes[i], bytes[i + 1], bytes[i + 2], bytes[i + 3]])
 }

@@ -1,11 +1,9 @@
 -- Pages that are read and written one by one, and why a transfer fails.
-use Rattle.std.proofs.Common.{◌≡◌, ◌⊎◌, ◌↔◌, ◌∙◌, sym, ap, ℕ, ◌+◌, ◌<◌, ◌≤◌, inl, inr, List, [], ◌∷◌, ◌++◌, length, take, get_or, Some, slice_get, slice_set, length-set, arith}
+use Rattle.std.proofs.Common.{◌≡◌, ◌⊎◌, ◌∙◌, sym, ap, ℕ, ◌+◌, ◌<◌, ◌≤◌, inl, inr, List, [], ◌∷◌, ◌++◌, length, take, get_or, Some, slice_get, slice_set, length-set, arith}
 use Rattle.std.proofs.lemmas.Bool.{cases_eq}
 use Rattle.std.proofs.lemmas.List.{get_or-set_other, get_or-set_same, same_lists, take_more}
 use Rattle.std.proofs.lemmas.Option.{slice_get-get_or}
 use Rattle.page_device.specs.Device.{HasRisen}
-use Rattle.page_device.specs.declared.fault.DeviceFault.{DeviceFault}
-use Rattle.page_device.specs.declared.fault.DeviceFault.TheVariants.{Device}
 
 abbrev pub Pages : Type 0
 Pages = List (List ℕ)

@@ -46,6 +46,7 @@ pub fn write_back<D: PageDevice>(file: &mut MemDevice, device: &mut D) -> Result
         OnOk result (D.content device.new ≡ file.old) }
     ensures synced { IsTrue (D.is_honest device.old) →
         OnOk result (IsTrue (D.is_synced device.new)) }
+    ensures honest { D.is_honest device.new ≡ D.is_honest device.old }
     ensures err { OnErr result
         (HasRisen (D.fault_count device.old) (D.fault_count device.new)) }
 {

@@ -24,6 +24,19 @@ fn keys_that_share_slots_have_their_own_pseudokeys(rt: HostRuntime) -> Result<()
     Ok(())
 }
 
+#[test]
+fn keys_in_order_have_their_own_pseudokeys(rt: HostRuntime) -> Result<(), Fail> {
+    let kept = KeptKeys::new(rt.alloc(), ShaKey)?;
+    for number in 0..100 {
+        assert!(rt; kept.of(&message(number)) == ShaKey.of(&message(number)));
+    }
+    for behind in 0..10 {
+        let number = u64::MAX - 9 + behind;
+        assert!(rt; kept.of(&message(number)) == ShaKey.of(&message(number)));
+    }
+    Ok(())
+}
+
 /// Counts how often it is asked.
 #[derive(Drop)]
 struct Counted<'a> {
@@ -54,7 +67,17 @@ impl Alike for Counted<'_> {
 fn a_pseudokey_that_is_kept_is_not_computed_again(rt: HostRuntime) -> Result<(), Fail> {
     let asked = Cell::new(0);
     let kept = KeptKeys::new(rt.alloc(), Counted { asked: &asked })?;
-    for (number, count) in [(1, 1), (1, 1), (2, 2), (1, 2), (8_193, 3), (2, 3), (1, 4)] {
+    // The numbers from 2 to 5 are computed together, since 1 is kept.
+    for (number, count) in [
+        (1, 1),
+        (1, 1),
+        (2, 5),
+        (1, 5),
+        (5, 5),
+        (8_193, 6),
+        (2, 6),
+        (1, 7),
+    ] {
         assert!(rt; u64::from(kept.of(&message(number))) == number);
         assert!(rt; asked.get() == count);
     }

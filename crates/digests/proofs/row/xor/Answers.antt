@@ -1,0 +1,6 @@
+use Rattle.std.proofs.Common.{arith, bit_xor}
+use Rattle.digests.proofs.RowLemmas.{zip2-lane}
+use Rattle.digests.proofs.row.xor.Goals as goal
+
+pub returns : goal.returns
+returns c = λ lane within. zip2-lane bit_xor c.args.x c.args.y (omega arith) (omega arith) lane within
