@@ -145,15 +145,15 @@ module _ (bytes : List ℕ) (s t : State) where
 -- ---- plans
 
 -- it inserts nothing
-abbrev IsBarren : Plan → Type 0
+abbrev pub IsBarren : Plan → Type 0
 IsBarren p = p.trials ≡ []
 
-barren_of : {I : Type 0} (plan : I → Plan) → ((i : I) → IsBarren (plan i)) → (o : Option I) →
+pub barren_of : {I : Type 0} (plan : I → Plan) → ((i : I) → IsBarren (plan i)) → (o : Option I) →
     IsBarren (if_of plan nothing o)
 barren_of plan each None = refl
 barren_of plan each (Some i) = each i
 
-receives_none : (id : ℕ) (stage : receive_stage.Stage) → IsBarren (receives.plan_at id stage)
+pub receives_none : (id : ℕ) (stage : receive_stage.Stage) → IsBarren (receives.plan_at id stage)
 receives_none id (receive_stages.Seeking sought) = refl
 receives_none id (receive_stages.Refused errno) = refl
 receives_none id receive_stages.PutOff = refl
@@ -162,14 +162,14 @@ receives_none id (receive_stages.AtMessage e t serial) = refl
 receives_none id (receive_stages.AtTypeOf e m) = refl
 receives_none id (receive_stages.Taken r) = refl
 
-removes_none : (id : ℕ) (stage : remove_stage.Stage) → IsBarren (removes.plan_at id stage)
+pub removes_none : (id : ℕ) (stage : remove_stage.Stage) → IsBarren (removes.plan_at id stage)
 removes_none id (remove_stages.Seeking sought) = refl
 removes_none id (remove_stages.Refused errno) = refl
 removes_none id (remove_stages.Keyed key) = refl
 removes_none id (remove_stages.Counting key queue) = refl
 removes_none id (remove_stages.Removing r) = refl
 
-sets_none : (c : Caller) (a : SetArguments) (sought : Sought) → IsBarren (sets.set_plan c a sought)
+pub sets_none : (c : Caller) (a : SetArguments) (sought : Sought) → IsBarren (sets.set_plan c a sought)
 sets_none c a sought = by (nat_lt MAX_QBYTES a.qbytes)
   where
     written : (r : Result QueueEntry Errno) → IsBarren (sets.plan_by r)

@@ -9,7 +9,7 @@ use Rattle.interleaving_core.specs.Active.{is_waiting}
 use Rattle.interleaving_core.specs.Owing.{is_failure}
 use Rattle.interleaving_core.specs.Turn.{IsLeft, IsLeftWhenOver, MakesTurn, StaysWaiting, told_of, told_when_over}
 use Rattle.interleaving_core.specs.xsi_calls.CallSteps.{StepsCall}
-use Rattle.interleaving_core.specs.xsi_calls.Words.{Change, NearsOrSpares, World, world}
+use Rattle.interleaving_core.specs.xsi_calls.Words.{Change, NearsOrSpares, World, its_plan, trials_of, world}
 use Rattle.interleaving_core.specs.xsi_calls.declared.conclusion.Conclusion.TheVariants as conclusions
 use Rattle.queue_model.proofs.JournalLemmas.{after-LeadsAlong}
 use Rattle.step_rules.specs.Turns.{TurnsAt}
@@ -18,6 +18,7 @@ use Rattle.interleavings.specs.Words.{ActiveView, Answer, Call, Caller, FileFaul
 use Rattle.interleavings.specs.Doing.{ComesToLack, DoesBy, LacksRightly, LeavesAll, turn_of}
 use Rattle.interleavings.specs.Refining.{Refines, RefinesIn, calls_of}
 use Rattle.interleavings.proofs.LackingLemmas.{fresh_room, turns_full}
+use Rattle.interleavings.proofs.TurnedLemmas.{inserts_as_long, is_of_plan}
 use Rattle.interleavings.proofs.LeadLemmas.{machine}
 
 -- a kernel is led on by a step of this call
@@ -127,7 +128,16 @@ module _ {K : Type 0} (hash : RecordKey → ℕ) (base : State) (seat : ℕ) (a 
       come_lacks room lacks =
           let full = turns_full hash seat led.now turn.did a.machine come.machine together.records old.pool new.pool
           old.locks new.locks together.change turn.makes.aim step room lacks in
-          record { finds = step.full full.room_before full.none_then; undecided = full.undecided }
+          let finds = step.full full.room_before full.none_then in
+          record {
+            finds = finds;
+            undecided = full.undecided;
+            its = inserts_as_long hash seat led.now together.filed a.machine come.machine together.records step.after
+                old.pool new.pool old.locks new.locks together.change step.step.after turn.makes.aim.call full.before
+                full.undecided full.none_then at.calls step.behind finds.entry
+                (is_of_plan (its_plan a.machine.call a.machine.undecided.questions)
+                (trials_of a.machine.undecided).due finds.entry finds.is);
+          }
 
       -- one that begins anew lacks none
       over_lacks : (waits : Bool) → IsLeftWhenOver waits come (call_at new.seats seat) → (x : ActiveView) →

@@ -1,6 +1,6 @@
--- A call lacks room only where it has something to insert, whatever events its kernel has had.
-use Rattle.std.proofs.Common.{ℕ, zero, suc, ◌≡◌, ◌≤◌, inl, inr, refl, sym, ap, ◌∙◌, subst, Bool, true, false, true≢false, IsSome, List, [], ◌∷◌, ◌++◌, Option, Some, None, length, length-append, arith}
-use Rattle.std.specs.Prelude.{⊤, slice_get}
+-- A call lacks room only where it has something to insert, whatever steps its kernel has made.
+use Rattle.std.proofs.Common.{ℕ, ◌≡◌, ◌≤◌, inl, inr, refl, sym, ap, ◌∙◌, subst, Bool, true, false, true≢false, IsSome, List, [], ◌∷◌, ◌++◌, Option, Some, None, length, length-append, arith}
+use Rattle.std.specs.Prelude.{slice_get}
 use Rattle.std.proofs.lemmas.Bool.{cases_eq}
 use Rattle.std.proofs.lemmas.List.{take-append-le, take_all}
 use Rattle.std.proofs.lemmas.Option.{same_Some}
@@ -11,7 +11,8 @@ use Rattle.queue_model.specs.declared.answer.Answer.{Answer}
 use Rattle.queue_model.specs.declared.entry.Entry.TheVariants.{Stopped}
 use Rattle.xsi_inquiry.proofs.AgreeLemmas.{agrees_itself}
 use Rattle.xsi_inquiry.specs.Deciding.{Decides, IsAnswered, answer_of}
-use Rattle.xsi_inquiry.specs.Writing.{Plan}
+use Rattle.xsi_inquiry.specs.Writing.{Leads, Plan}
+use Rattle.type_chains.specs.RecordOf.{record_of}
 use Rattle.xsi_inquiry.specs.declared.decision.Decision.{Decision}
 use Rattle.xsi_inquiry.specs.declared.decision.Decision.TheVariants as decisions
 use Rattle.xsi_inquiry.specs.declared.verdict.Verdict.{Verdict}
@@ -20,42 +21,35 @@ use Rattle.xsi_calls.specs.Knowing.{IsTrying, IsUndecidedIn}
 use Rattle.xsi_calls.specs.Questions.{QuestionsView}
 use Rattle.interleaving_core.proofs.PlaceLemmas.{Seats, at_other, at_same}
 use Rattle.interleaving_core.specs.Owing.{is_failure}
-use Rattle.interleaving_core.specs.declared.step.Step.TheVariants as told
 use Rattle.interleaving_core.specs.xsi_calls.Calling.{IsCallingAt}
 use Rattle.interleaving_core.specs.xsi_calls.Machine.{conclusion_at}
 use Rattle.interleaving_core.specs.xsi_calls.Stages.{Paying, Releasing, Stage, Undecided}
 use Rattle.interleaving_core.specs.xsi_calls.Undecided.{Trials}
 use Rattle.interleaving_core.specs.xsi_calls.Words.{Change, Records, has_no_room, its_plan}
-use Rattle.interleavings.specs.Words.{ActiveView, Call, Caller, Entry, HasCall, IsDriven, IsSeat, IsStep, IsStopped, KernelState, Moves, PoolState, RecordKey, State, Step, Table, after, call_at, call_of, conclusion_of, lacks_room, outcome, with_call}
-use Rattle.interleavings.specs.Laws.{EventsRefine, RefinesOn, StepsRefine, StepsRefineAndDo}
+use Rattle.interleavings.specs.Words.{ActiveView, Call, Caller, Entry, HasCall, IsStep, IsStopped, KernelState, PoolState, RecordKey, State, Step, Table, after, call_at, call_of, conclusion_of, lacks_room, outcome, with_call}
+use Rattle.interleavings.specs.Laws.{RefinesOn, StepsRefineAndDo}
 use Rattle.interleavings.specs.Inserting.{AreInserting, IsInsertingAt}
 use Rattle.interleavings.specs.Moments.{HasToInsert}
 use Rattle.interleavings.specs.Refining.{Refines, calls_of}
-use Rattle.interleavings.specs.Runs.{AreOfSeats, Happens, IsOfSeat, Runs}
 use Rattle.interleavings.specs.Serving.{lacks_by}
 use Rattle.interleavings.specs.Together.{AreTogether, IsUnderWay}
-use Rattle.interleavings.specs.declared.event.Event.{Event}
-use Rattle.interleavings.specs.declared.event.Event.TheVariants as events
-use Rattle.interleavings.specs.declared.event.Outcome.{Outcome}
-use Rattle.interleavings.specs.declared.event.Outcome.TheVariants as outcomes
 use Rattle.interleavings.proofs.AddsLemmas.{adds_or_spares}
-use Rattle.interleavings.proofs.EventLemmas.{along}
 use Rattle.interleavings.proofs.LackingLemmas.{fresh_room}
 use Rattle.interleavings.proofs.LeadLemmas.{machine}
 use Rattle.interleavings.proofs.OnWayLemmas.{or_first, or_second}
-use Rattle.interleavings.proofs.ScheduleLemmas.{moves_led, one_leads}
 use Rattle.interleavings.proofs.SeatLemmas.{well}
 use Rattle.interleavings.proofs.SeatNameLemmas.{none_is}
 
 -- ---- a trial that has no room
 
--- what its call is answered there
-record Adds (call : Call) (s : State) : Type 0 where
+-- what its call is answered there, to which this plan leads
+pub record Adds (call : Call) (s : State) (p : Plan) : Type 0 where
   pub caller : Caller
   pub answer : Answer
   pub then : State
   pub comes : outcome caller call s ≡ Some (answer, then)
   pub adds : AddsTo s answer
+  pub leads : Leads p (record_of s) (record_of then)
 
 module _ (hash : RecordKey → ℕ) (seat : ℕ) (call : Call) (s : State) (q : QuestionsView) (t : Trials)
     (records : Records) (pool : PoolState) (locks : Table) (change : Change)
@@ -68,7 +62,7 @@ module _ (hash : RecordKey → ℕ) (seat : ℕ) (call : Call) (s : State) (q : 
   fertile none = none_is (slice_get plan.trials 0) (ap (λ rs. slice_get rs 0) none) tries.inserts
 
   by_verdict : (v : Verdict) → IsAnswered (caller_of q.inquiry) call (locked_of call q.inquiry) q.room.bytes s v plan →
-      Adds call s
+      Adds call s plan
   by_verdict v answered = elim (adds_or_spares call q.inquiry (caller_of q.inquiry) q.room.bytes s answered.after v
       answered.outcome) [
         | inl none ↦ absurd (fertile none)
@@ -79,25 +73,26 @@ module _ (hash : RecordKey → ℕ) (seat : ℕ) (call : Call) (s : State) (q : 
           then = answered.after;
           comes = answered.outcome;
           adds = adds;
+          leads = answered.leads;
         }
       ]
 
   by_decision : (d : Decision) →
-      Decides (caller_of q.inquiry) call (locked_of call q.inquiry) q.room.bytes s d plan → Adds call s
+      Decides (caller_of q.inquiry) call (locked_of call q.inquiry) q.room.bytes s d plan → Adds call s plan
   by_decision decisions.PutOff put = absurd (tries.changes put.idle)
   by_decision (decisions.Answers v) answered = by_verdict v answered
   by_decision (decisions.Sweeps sweep) swept = absurd (fertile swept.no_trials)
 
-  trial_adds : Adds call s
+  pub trial_adds : Adds call s plan
   trial_adds = by_decision t.decision
       (tries.decision s tries.filed (tries.knows s tries.filed (agrees_itself call _ s))).decides
 
 -- ---- a call of a kernel
 
 -- among all entries
-all_of : (callers : List Caller) (base s : State) (call : Call) (journal : List Entry) →
-    after callers journal base ≡ s → Adds call s → HasToInsert callers base call journal
-all_of callers base s call journal is adds =
+all_of : (callers : List Caller) (base s : State) (call : Call) (journal : List Entry) (p : Plan) →
+    after callers journal base ≡ s → Adds call s p → HasToInsert callers base call journal
+all_of callers base s call journal p is adds =
     let whole = ap (λ (es : List Entry). after callers es base) (take_all (length journal) journal (omega arith))
     ∙ is in
     record {
@@ -123,22 +118,26 @@ module _ {K : Type 0} (hash : RecordKey → ℕ) (base : State) (k : KernelState
   full : has_no_room a.machine.undecided ≡ true
   full = sym (ap (λ o. lacks_by o (has_no_room a.machine.undecided)) undecided) ∙ lacks
 
+  abbrev Here : Type 0
+  Here = Adds a.machine.call led.now (its_plan a.machine.call a.machine.undecided.questions)
+
   by_trials : (o : Option Trials) → a.machine.undecided.trials ≡ o →
       IsUndecidedIn hash seat a.machine.call led.now a.machine.undecided.questions o together.records k.pool k.locks
-      together.change → Adds a.machine.call led.now
+      together.change → Here
   by_trials None none asks = absurd (true≢false (sym full ∙ ap (λ (o : Option Trials). is_full (trials_in o)) none))
   by_trials (Some t) some tries = trial_adds hash seat a.machine.call led.now a.machine.undecided.questions t
       together.records k.pool k.locks together.change tries
 
   by_stage : (stage : Stage) → conclusion_at stage ≡ None →
       IsCallingAt hash seat a.machine.call led.now a.machine.undecided stage together.records k.pool k.locks
-      together.change → Adds a.machine.call led.now
+      together.change → Here
   by_stage Undecided none calls = by_trials a.machine.undecided.trials refl calls
   by_stage (Paying payment conclusion) none calls = absurd cc
   by_stage (Releasing conclusion) none calls = absurd cc
 
   adds_there : HasToInsert k.callers base a.machine.call k.journal
   adds_there = all_of k.callers base led.now a.machine.call k.journal
+      (its_plan a.machine.call a.machine.undecided.questions)
       (after-LeadsAlong k.callers k.journal base led.now led.leads)
       (by_stage a.machine.stage undecided at.calls)
 
@@ -238,25 +237,6 @@ module _ {K : Type 0} (does : StepsRefineAndDo K) (hash : RecordKey → ℕ) (ba
       AreInserting base old → AreInserting base new
   step_inserting did old new led step had = at_each did old new led step had
 
-  module _ (steps : StepsRefine K) (old : KernelState K) (is : IsSeat old.locks seat) (led : Refines hash base old)
-      (had : AreInserting base old) where
-    pub moves_inserting : (n : ℕ) (now : KernelState K) → Moves hash seat n old now → AreInserting base now
-    moves_inserting zero now same = subst (AreInserting base) (sym same) had
-    moves_inserting (suc n) now moved =
-        let so_far = moves_led steps hash base seat old is led n moved.before moved.stands in
-        step_inserting (told.Moved moved.kind) moved.before now so_far.0 moved.step
-        (moves_inserting n moved.before moved.stands)
-
-    drive_inserting : (did : Step) (new : KernelState K) → IsDriven hash seat did old new → AreInserting base new
-    drive_inserting did new driven = elim driven.ends [
-      | inl rests ↦
-          let so_far = moves_led steps hash base seat old is led driven.moves driven.before driven.moved in
-          step_inserting did driven.before new so_far.0 rests.step
-          (moves_inserting driven.moves driven.before driven.moved)
-      | inr spent ↦ λ sound.
-          absurd (true≢false (sym (ap (λ (k : KernelState K). k.failed) spent.marked) ∙ sound))
-    ]
-
 -- ---- an event
 
 module _ {K : Type 0} (hash : RecordKey → ℕ) (base : State) where
@@ -278,28 +258,3 @@ module _ {K : Type 0} (hash : RecordKey → ℕ) (base : State) where
   stop_inserting old new stops had true is = subst (AreInserting base) (sym (stops.again is)) had
   stop_inserting old new stops had false is = subst (AreInserting base) (sym (stops.first is)) (λ sound seat.
       still_inserting base old.callers old.journal (Stopped ∷ []) (call_at old.seats seat) (had sound seat))
-
-module _ {K : Type 0} (does : StepsRefineAndDo K) (steps : StepsRefine K) (lead : EventsRefine K) (hash : RecordKey → ℕ)
-    (base : State) where
-  event_inserting : (e : Event) (o : Outcome) (old new : KernelState K) → IsOfSeat (length old.locks) e →
-      Refines hash base old → Happens hash e o old new → AreInserting base old → AreInserting base new
-  event_inserting (events.Begin seat call) outcomes.Begun old new is led has had =
-      begin_inserting hash base seat call old new (is.0, subst (λ (n : ℕ). seat ≤ n) led.rows is.1) has had
-  event_inserting (events.Begin seat call) (outcomes.Refused back fault) old new is led refused had =
-      subst (AreInserting base) (sym refused.same) had
-  event_inserting (events.Step seat) (outcomes.Stepped did) old new is led step had =
-      step_inserting does hash base seat did old new led step had
-  event_inserting (events.Drive seat) (outcomes.Driven did) old new is led drives had =
-      drive_inserting does hash base seat steps old is led had did new drives.driven
-  event_inserting events.Stop outcomes.Stopped old new is led stops had =
-      stop_inserting hash base old new stops had old.stopped refl
-  event_inserting _ _ old new is led never had = absurd never
-
-  pub inserting_along : (es : List Event) (os : List Outcome) (old new : KernelState K) →
-      AreOfSeats (length old.locks) es → Refines hash base old → Runs hash es os old new → AreInserting base old →
-      AreInserting base new
-  inserting_along es os old new are led runs had = (along hash (λ k. Refines hash base k × AreInserting base k)
-      (λ e o was now is happens so. (
-        one_leads lead hash base e o was now is happens so.0,
-        event_inserting e o was now is so.0 happens so.1,
-      )) es os old new are runs (led, had)).1

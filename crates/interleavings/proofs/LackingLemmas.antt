@@ -43,6 +43,7 @@ was_full caller call s bytes names full other before o records conclusions.HasNo
 
 -- a trial had room, and has none, before its call's Decide
 pub record TurnsFull (old new : CallView) : Type 0 where
+  pub before : conclusion_of old ≡ None
   pub room_before : has_no_room old.undecided ≡ false
   pub none_then : has_no_room new.undecided ≡ true
   pub undecided : conclusion_of new ≡ None
@@ -59,7 +60,8 @@ module _ (hash : RecordKey → ℕ) (seat : ℕ) (s : State) (did : Progress Fil
     turns : (b : Bool) → has_no_room old.undecided ≡ b → conclusion_of old ≡ None → conclusion_of new ≡ None →
         has_no_room new.undecided ≡ true → TurnsFull old new
     turns true full is still lacks = not_short None is full
-    turns false had is still lacks = record { room_before = had; none_then = lacks; undecided = still }
+    turns false had is still lacks =
+        record { before = is; room_before = had; none_then = lacks; undecided = still }
 
     undecided : conclusion_of old ≡ None → (o : Option Conclusion) → conclusion_of new ≡ o →
         lacks_by o (has_no_room new.undecided) ≡ true → TurnsFull old new

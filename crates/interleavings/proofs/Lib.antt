@@ -47,6 +47,11 @@ pub mod OpenLemmas
 pub mod TurnLemmas
 pub mod ScheduleLemmas
 pub mod LackingLemmas
+pub mod PlanLemmas
+pub mod SizeLemmas
+pub mod TrialLemmas
+pub mod FullLemmas
+pub mod TurnedLemmas
 pub mod DoingLemmas
 pub mod ToldLemmas
 pub mod OwedLemmas
@@ -71,6 +76,8 @@ pub mod FoundedLemmas
 pub mod TellingLemmas
 pub mod RoomLemmas
 pub mod NoRoomLemmas
+pub mod FindingLemmas
+pub mod LackedLemmas
 pub mod ToldByLemmas
 pub mod LoneRoomLemmas
 pub mod LoneKernelDriveLemmas

@@ -133,7 +133,7 @@ lapse_is _ is = absurd cc
 
 module _ {K : Type 0} (does : StepsRefineAndDo K) (steps_on : StepsRefine K) (hash : RecordKey → ℕ) (base : State)
     (seat : ℕ) (old new : KernelState K) (led : Refines hash base old) where
-  abbrev Told : Event → Outcome → Type 0
+  abbrev pub Told : Event → Outcome → Type 0
   Told e o = LacksSoundly seat old ⊎ FindsBy hash base seat e o old new
 
   drive_told : (did : Step) → IsSeat old.locks seat → did ≡ no_room → IsDriven hash seat did old new →
@@ -156,7 +156,7 @@ module _ {K : Type 0} (does : StepsRefineAndDo K) (steps_on : StepsRefine K) (ha
       apart : no_room ≡ failed → ⊥
       apart clash = cc
 
-  event_told : (e : Event) (o : Outcome) → IsOfSeat (length old.locks) e → Happens hash e o old new →
+  pub event_told : (e : Event) (o : Outcome) → IsOfSeat (length old.locks) e → Happens hash e o old new →
       is_at seat e ≡ true → lapsed_by o ≡ 1 → Told e o
   event_told (events.Step other) (outcomes.Stepped did) is step here lapses =
       let same = eqb-true other seat here in

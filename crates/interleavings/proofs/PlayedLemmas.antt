@@ -15,7 +15,7 @@ use Rattle.interleavings.specs.Words.{ActiveView, Answer, Call, Caller, Entry, I
 use Rattle.interleavings.specs.Ending.{HasEnded}
 use Rattle.interleavings.specs.Laws.{AnswersAsPlainLists, ClosesRefine, DrivesEnd, EventsRefine, RefinesFile, StepsRefineAndDo, StepsRefine}
 use Rattle.interleavings.specs.Refining.{Refines}
-use Rattle.interleavings.specs.Moments.{HasItsPart, HasStood, IsToldBy, TellsRightly, calls_so_far, is_stop, marked_by, once_if}
+use Rattle.interleavings.specs.Moments.{HasItsPart, HasStood, HaveStood, IsToldBy, TellsRightly, is_stop, marked_by, once_if}
 use Rattle.interleavings.specs.Outcomes.{call_along, call_under_way, nothing_yet, tells_failure}
 use Rattle.interleavings.specs.Playing.{HasPlayed, HasReason, PlaysAsPlainLists}
 use Rattle.interleavings.specs.Runs.{AreOfSeats, IsLinearized, IsOfSeat, IsToldItsPart, Runs, told_along}
@@ -26,8 +26,7 @@ use Rattle.interleavings.specs.declared.playing.Played.{Played}
 use Rattle.interleavings.proofs.EventLemmas.{places_along}
 use Rattle.interleavings.proofs.RisenLemmas.{risen_along, risen_within}
 use Rattle.interleavings.proofs.FoundedLemmas.{founded_along}
-use Rattle.interleavings.proofs.InsertLemmas.{inserting_along}
-use Rattle.interleavings.specs.Inserting.{IsInsertingAt}
+use Rattle.interleavings.proofs.LackedLemmas.{lacked_told}
 use Rattle.interleavings.proofs.OnWayLemmas.{still_from_none}
 use Rattle.interleavings.proofs.OutcomeLemmas.{come_along, fails_along}
 use Rattle.interleavings.proofs.RunLemmas.{tells_its_part}
@@ -138,6 +137,20 @@ module _ {K : Type 0} (of : K → RecordKey → ℕ) (keys : K) (content : List 
         ∙ ap (part_of seat) (sym (told.journal ∙ ap (λ (entries : List Entry). entries ++ told.added) opened.journal));
   }
 
+  -- what had joined the journal after so many of some events
+  have_stood : (many : ℕ) (some : List Event) (out : List Outcome) (k : KernelState K) →
+      AreOfSeats (length old.seats) some → Runs hash (take many some) (take many out) old k →
+      HaveStood many some out k.journal
+  have_stood many some out k those first =
+      let marked = marked_along hash (take many some) (take many out) old k first in
+      record {
+        parts = λ seat. its_part seat (take many some) (take many out) k
+            (All-take (IsOfSeat (length old.seats)) many some those) first
+            (tells_its_part hash (take many some) (take many out) old k first seat);
+        mark = marked.marked (ap (sum_by marked_by) opened.journal ∙ sym (ap once_if opened.stopped))
+            ∙ ap once_if (marked.stopped ∙ ap (λ (b : Bool). b || list_any is_stop (take many some)) opened.stopped);
+      }
+
   module _ (tells : (seat : ℕ) → IsToldItsPart seat es os old new)
       (line : IsLinearized (of old.keys) es os old new) where
     linear : IsLinearized hash es os old new
@@ -146,20 +159,12 @@ module _ {K : Type 0} (of : K → RecordKey → ℕ) (keys : K) (content : List 
     stood_at : (many : ℕ) (k : KernelState K) → Runs hash (take many es) (take many os) old k →
         Runs hash (drop many es) (drop many os) k new → HasStood many es os new.journal
     stood_at many k first rest =
-        let marked = marked_along hash (take many es) (take many os) old k first in
         let later = tells_its_part hash (drop many es) (drop many os) k new rest 0 in
         record {
           stood = k.journal;
           later = later.added;
           journal_is = later.journal;
-          was = record {
-            parts = λ seat. its_part seat (take many es) (take many os) k
-                (All-take (IsOfSeat (length old.seats)) many es are_seats) first
-                (tells_its_part hash (take many es) (take many os) old k first seat);
-            mark = marked.marked (ap (sum_by marked_by) opened.journal ∙ sym (ap once_if opened.stopped))
-                ∙ ap once_if (marked.stopped
-                ∙ ap (λ (b : Bool). b || list_any is_stop (take many es)) opened.stopped);
-          };
+          was = have_stood many es os k are_seats first;
         }
 
     stood : (many : ℕ) → HasStood many es os new.journal
@@ -258,17 +263,17 @@ module _ {K : Type 0} (of : K → RecordKey → ℕ) (keys : K) (content : List 
             those : AreOfSeats (length old.seats) (take many es)
             those = All-take (IsOfSeat (length old.seats)) many es are_seats
 
-            told : IsToldBy callers led.base (calls_so_far (take many es) (take many os)) e o at.behind.journal
-            told = told_by_event does steps hash led.base callers (calls_so_far (take many es) (take many os))
+            told : IsToldBy callers led.base (take many es) (take many os) e o at.behind.journal
+            told = told_by_event does steps hash led.base callers (take many es) (take many os)
                 at.before at.behind led_before led_then founded
                 ((places_along hash (take (suc many) es) (take (suc many) os) old at.behind at.through).callers
                 ∙ opened.callers)
                 (λ seat. under_way seat (take many es) (take many os) at.before those at.first)
-                (still_from_none hash (take many es) (take many os) old at.before those at.first none_before)
-                (inserting_along does steps lead hash led.base (take many es) (take many os) old at.before
-                (All-take (IsOfSeat (length old.locks)) many es are_rows) led.led at.first
-                (λ sound seat. subst (IsInsertingAt led.base old.callers old.journal) (sym (none_before seat)) tt)) e o
+                (still_from_none hash (take many es) (take many os) old at.before those at.first none_before) e o
                 its_seat at.happens
+                (lacked_told does steps lead hash led.base callers es os many old at.before at.behind led.led
+                none_before opened.callers are_rows are_seats
+                (λ n k. have_stood n (take many es) (take many os) k those) at.first e o led_before its_seat at.happens)
 
             here : Rightly
             unfolding stood_at at
@@ -277,9 +282,9 @@ module _ {K : Type 0} (of : K → RecordKey → ℕ) (keys : K) (content : List 
               told = λ f p is_f is_p.
                   let same_e : e ≡ f = same_Some e f (sym is_e ∙ is_f) in
                   let same_o : o ≡ p = same_Some o p (sym is_o ∙ is_p) in
-                  subst (λ (x : Event). IsToldBy callers led.base (calls_so_far (take many es) (take many os)) x p
+                  subst (λ (x : Event). IsToldBy callers led.base (take many es) (take many os) x p
                   at.behind.journal) same_e (subst (λ (y : Outcome). IsToldBy callers led.base
-                  (calls_so_far (take many es) (take many os)) e y at.behind.journal) same_o told);
+                  (take many es) (take many os) e y at.behind.journal) same_o told);
             }
 
         pub rightly : Rightly

@@ -11,9 +11,9 @@ use Rattle.interleaving_core.specs.Owing.{is_failure}
 use Rattle.interleaving_core.specs.declared.step.Step.TheVariants as told
 use Rattle.interleavings.specs.Words.{ActiveView, Call, HasCall, IsDriven, IsSeat, IsStep, KernelState, Moves, RecordKey, State, Step, call_at, lacks_room, with_call}
 use Rattle.interleavings.specs.Laws.{EventsRefine, RefinesOn, StepsRefine, StepsRefineAndDo}
-use Rattle.interleavings.specs.Outcomes.{tells_failure}
+use Rattle.interleavings.specs.Outcomes.{begins_along, is_begun, tells_failure}
 use Rattle.interleavings.specs.Refining.{Refines}
-use Rattle.interleavings.specs.Rooms.{FindsAlong, FindsBy, FindsByDrive, FindsByMove, FindsByStep, begins_along, is_begun}
+use Rattle.interleavings.specs.Rooms.{FindsAlong, FindsBy, FindsByDrive, FindsByMove, FindsByStep}
 use Rattle.interleavings.specs.Runs.{AreOfSeats, Happens, IsOfSeat, Runs, is_at}
 use Rattle.interleavings.specs.declared.event.Event.{Event}
 use Rattle.interleavings.specs.declared.event.Event.TheVariants as events
@@ -78,7 +78,11 @@ module _ {K : Type 0} (does : StepsRefineAndDo K) (hash : RecordKey → ℕ) (ba
         active = a;
         there = there;
         on = on;
-        lacks = (on.does.lacks lacks.active lacks.there fine room lacks.lacked).finds;
+        fine = fine;
+        come = lacks.active;
+        left = lacks.there;
+        lacking = lacks.lacked;
+        lacks = on.does.lacks lacks.active lacks.there fine room lacks.lacked;
       })
 
       of_call : (b : Bool) → lacks_room a.machine ≡ b → Found
@@ -270,6 +274,7 @@ module _ {K : Type 0} (does : StepsRefineAndDo K) (steps : StepsRefine K) (lead 
                 before = old;
                 first = refl;
                 behind = runs.between;
+                happens = runs.first;
                 finds = finds;
                 rest = runs.rest;
                 same = earlier.same;
@@ -284,6 +289,7 @@ module _ {K : Type 0} (does : StepsRefineAndDo K) (steps : StepsRefine K) (lead 
           before = later.before;
           first = record { between = runs.between; first = runs.first; rest = later.first };
           behind = later.behind;
+          happens = later.happens;
           finds = later.finds;
           rest = later.rest;
           same = later.same;

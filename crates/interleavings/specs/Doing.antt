@@ -1,7 +1,10 @@
 -- What a step of a seat does to the file and the locks of a kernel that refines a system, by what the seat is told.
 -- docs/STEPS.md, "The kinds of step", "Calls".
-use Rattle.std.specs.Prelude.{ℕ, ◌≡◌, ◌⊎◌, true, false, List, None, Some}
+use Rattle.std.specs.Prelude.{ℕ, ◌≡◌, ◌⊎◌, true, false, List, None, Some, length}
+use Rattle.std.specs.List.{Contains}
 use Rattle.file_pages.specs.Fault.{IsDevicesFault}
+use Rattle.queue_records.specs.Spelling.{key_of, value_of}
+use Rattle.queue_records.specs.declared.record.Record.{Record}
 use Rattle.step_rules.specs.Turns.{DoesTied, StandsInWay}
 use Rattle.step_rules.specs.declared.kind.Kind.{Kind}
 use Rattle.interleaving_core.specs.Active.{BeginsAgain, is_waiting}
@@ -81,11 +84,20 @@ FindsNoRoom hash by before new =
     TrialLacksRoom hash (its_plan by.machine.call by.machine.undecided.questions) (trials_of by.machine.undecided).due
     (world new.pool.images new.locks before)
 
+-- one of these records has the key of that one, and a value as long
+pub record HasAsLong (rs : List Record) (r : Record) : Type 0 where
+  pub entry : Record
+  pub its : Contains rs entry
+  pub keyed : key_of entry ≡ key_of r
+  pub long : length (value_of entry) ≡ length (value_of r)
+
 -- a call comes to lacking room by a trial that finds none, before its Decide
 pub record ComesToLack {K : Type 0} (hash : RecordKey → ℕ) (by come : ActiveView) (before : Change)
     (new : KernelState K) : Type 0 where
   pub finds : FindsNoRoom hash by before new
   pub undecided : conclusion_of come.machine ≡ None
+  -- by what it then knows it inserts a record as long
+  pub its : HasAsLong (its_plan come.machine.call come.machine.undecided.questions).trials finds.entry
 
 -- unless the step failed, a call that had room comes to lacking it only so
 abbrev pub LacksRightly : {K : Type 0} → (RecordKey → ℕ) → ℕ → ActiveView → Step → Change → KernelState K → Type 0

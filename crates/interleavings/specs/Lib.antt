@@ -27,6 +27,7 @@ pub mod Headline
 pub mod Doing
 pub mod Ending
 pub mod Outcomes
+pub mod Sizes
 pub mod Moments
 pub mod Inserting
 pub mod Playing

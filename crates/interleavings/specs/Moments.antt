@@ -1,15 +1,17 @@
 -- The journal as it stands after so many events, and why a seat is then told that it waits, that it is blocked, or
 -- that a record has no room.
 -- docs/QUEUES.md, "Journals"; docs/STEPS.md, "Calls".
-use Rattle.std.specs.Prelude.{ℕ, suc, ◌≡◌, ◌≢◌, ◌≤◌, Bool, true, false, IsSome, List, ◌++◌, Option, Some, None, length, slice_get, sum_by, take, ⊤}
+use Rattle.std.specs.Prelude.{ℕ, suc, ◌≡◌, ◌≢◌, ◌≤◌, ◌<◌, Bool, true, false, IsSome, List, ◌++◌, Option, Some, None, drop, length, slice_get, sum_by, take, ⊤}
 use Rattle.std.specs.List.{list_any}
+use Rattle.bucket_page.specs.declared.layout.TheConstants.{ROOM_BYTES}
 use Rattle.interleaving_core.specs.declared.fault.StepFault.TheVariants as faults
 use Rattle.interleaving_core.specs.declared.step.Step.TheVariants as steps
 use Rattle.queue_model.specs.Rules.{AddsTo}
 use Rattle.queue_model.specs.declared.entry.Entry.TheVariants.{Decided, Stopped}
 use Rattle.interleavings.specs.Words.{Answer, Call, Caller, Entry, State, Step, after, caller_at, entry_of, outcome, outcome_for, part_of}
-use Rattle.interleavings.specs.Outcomes.{call_under_way, may_hold_locks}
+use Rattle.interleavings.specs.Outcomes.{begins_along, call_under_way, may_hold_locks}
 use Rattle.interleavings.specs.Runs.{told_along}
+use Rattle.interleavings.specs.Sizes.{bytes_of_system}
 use Rattle.interleavings.specs.declared.event.Event.{Event}
 use Rattle.interleavings.specs.declared.event.Event.TheVariants as events
 use Rattle.interleavings.specs.declared.event.Outcome.{Outcome}
@@ -84,25 +86,6 @@ pub record HasToInsert (callers : List Caller) (base : State) (call : Call) (sto
   pub comes : outcome caller call (after callers (take since stood) base) ≡ Some (answer, then)
   pub adds : AddsTo (after callers (take since stood) base) answer
 
-abbrev pub IsToInsert : List Caller → State → Option Call → List Entry → Type 0
-IsToInsert callers base None stood = ⊥
-IsToInsert callers base (Some call) stood = HasToInsert callers base call stood
-
--- a seat, beside such calls, and behind which these entries stand: it waits only where the rules have no answer, and a
--- record has no room only where its call has one to insert
-abbrev pub IsToldFor : List Caller → State → ℕ → CallsSoFar → Step → List Entry → Type 0
-IsToldFor callers base seat s steps.Waiting stood =
-    outcome_at (caller_at callers seat) (s.under_way seat) (after callers stood base) ≡ None
-IsToldFor callers base seat s (steps.Blocked other) stood = IsInTheWayOf seat other s
-IsToldFor callers base seat s (steps.Fault faults.NoRoom) stood = IsToInsert callers base (s.under_way seat) stood
-IsToldFor callers base seat s _ stood = ⊤
-
--- by an event with this outcome
-abbrev pub IsToldBy : List Caller → State → CallsSoFar → Event → Outcome → List Entry → Type 0
-IsToldBy callers base s (events.Step seat) (outcomes.Stepped did) stood = IsToldFor callers base seat s did stood
-IsToldBy callers base s (events.Drive seat) (outcomes.Driven did) stood = IsToldFor callers base seat s did stood
-IsToldBy callers base s _ _ stood = ⊤
-
 -- after events with these outcomes
 abbrev pub calls_so_far : List Event → List Outcome → CallsSoFar
 calls_so_far es os = record {
@@ -110,9 +93,44 @@ calls_so_far es os = record {
   moved = λ seat. may_hold_locks seat es os;
 }
 
+-- the call of a seat had something to insert at a moment since it began, after so many of these events: in the system
+-- after what stood then it is answered something new, the next id or a message, if its caller may make it
+pub record LackedRoom (callers : List Caller) (base : State) (seat : ℕ) (es : List Event) (os : List Outcome)
+    (journal : List Entry) : Type 0 where
+  pub many : ℕ
+  pub same : begins_along seat (drop many es) (drop many os) ≡ false
+  pub call : Call
+  pub under_way : call_under_way seat (take many es) (take many os) ≡ Some call
+  pub moment : HasStood many es os journal
+  pub caller : Caller
+  pub answer : Answer
+  pub then : State
+  pub comes : outcome caller call (after callers moment.stood base) ≡ Some (answer, then)
+  pub adds : AddsTo (after callers moment.stood base) answer
+  -- where no call was in its way then, the records that the system has with it are more than a bucket holds
+  pub full : ((other : ℕ) → IsInTheWayOf seat other (calls_so_far (take many es) (take many os)) → ⊥) →
+      ROOM_BYTES < bytes_of_system then
+
+-- a seat, after these events, and behind which these entries stand: it waits only where the rules have no answer, and a
+-- record has no room only where its call lacked it
+abbrev pub IsToldFor : List Caller → State → ℕ → List Event → List Outcome → Step → List Entry → Type 0
+IsToldFor callers base seat es os steps.Waiting stood =
+    outcome_at (caller_at callers seat) (call_under_way seat es os) (after callers stood base) ≡ None
+IsToldFor callers base seat es os (steps.Blocked other) stood = IsInTheWayOf seat other (calls_so_far es os)
+IsToldFor callers base seat es os (steps.Fault faults.NoRoom) stood = LackedRoom callers base seat es os stood
+IsToldFor callers base seat es os _ stood = ⊤
+
+-- by an event with this outcome
+abbrev pub IsToldBy : List Caller → State → List Event → List Outcome → Event → Outcome → List Entry → Type 0
+IsToldBy callers base es os (events.Step seat) (outcomes.Stepped did) stood =
+    IsToldFor callers base seat es os did stood
+IsToldBy callers base es os (events.Drive seat) (outcomes.Driven did) stood =
+    IsToldFor callers base seat es os did stood
+IsToldBy callers base es os _ _ stood = ⊤
+
 -- the event behind so many others tells its seat no other reason, beside the journal as it stands behind it
 pub record TellsRightly (callers : List Caller) (base : State) (many : ℕ) (es : List Event) (os : List Outcome)
     (journal : List Entry) : Type 0 where
   pub moment : HasStood (suc many) es os journal
   pub told : (e : Event) (o : Outcome) → slice_get es many ≡ Some e → slice_get os many ≡ Some o →
-      IsToldBy callers base (calls_so_far (take many es) (take many os)) e o moment.stood
+      IsToldBy callers base (take many es) (take many os) e o moment.stood

@@ -1,6 +1,6 @@
 -- What comes of events: which calls seats have under way, why a call does not begin, and what a seat is told of a step,
 -- told by what came of the events before. docs/STEPS.md, "Calls"; docs/FAULTS.md.
-use Rattle.std.specs.Prelude.{ℕ, ◌≡◌, ◌≢◌, ◌↔◌, ◌+◌, ◌≤◌, Bool, true, false, ◌||◌, if◌then◌else◌, List, [], ◌∷◌, Option, Some, None, ⊤}
+use Rattle.std.specs.Prelude.{ℕ, ◌≡◌, ◌≢◌, ◌↔◌, ◌+◌, ◌≤◌, Bool, true, false, ◌&&◌, ◌||◌, if◌then◌else◌, List, [], ◌∷◌, Option, Some, None, ⊤}
 use Rattle.file_pages.specs.Fault.{IsOfPage}
 use Rattle.file_pages.specs.declared.fault.FileFault.{FileFault}
 use Rattle.file_pages.specs.declared.fault.FileFault.TheVariants.{Failed}
@@ -42,6 +42,16 @@ call_along seat under_way _ _ = under_way
 -- where it had none before
 abbrev pub call_under_way : ℕ → List Event → List Outcome → Option Call
 call_under_way seat es os = call_along seat None es os
+
+-- one begins by it
+abbrev pub is_begun : Outcome → Bool
+is_begun outcomes.Begun = true
+is_begun _ = false
+
+-- at this seat, by one of these events
+abbrev pub begins_along : ℕ → List Event → List Outcome → Bool
+begins_along seat (e ∷ es) (o ∷ os) = (is_at seat e && is_begun o) || begins_along seat es os
+begins_along seat _ _ = false
 
 -- ---- the calls that may hold locks
 

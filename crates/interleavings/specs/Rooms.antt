@@ -1,12 +1,13 @@
 -- Why a seat is told that a record has no room: at a step of the run its call found none in the file as that then was.
 -- docs/STEPS.md, "Insert, Replace, Delete"; docs/FAULTS.md.
-use Rattle.std.specs.Prelude.{ℕ, suc, ◌≡◌, ◌+◌, ◌⊎◌, Bool, true, false, ◌&&◌, ◌||◌, List, ◌∷◌, Some, drop, slice_get, take}
+use Rattle.std.specs.Prelude.{ℕ, suc, ◌≡◌, ◌+◌, ◌⊎◌, true, false, List, Some, drop, slice_get, take}
 use Rattle.step_rules.specs.declared.kind.Kind.{Kind}
+use Rattle.interleaving_core.specs.Owing.{is_failure}
 use Rattle.interleaving_core.specs.declared.step.Step.TheVariants as steps
 use Rattle.interleavings.specs.Words.{ActiveView, IsDriven, IsStep, KernelState, Moves, RecordKey, State, Step, call_at, lacks_room}
-use Rattle.interleavings.specs.Doing.{FindsNoRoom}
+use Rattle.interleavings.specs.Doing.{ComesToLack}
 use Rattle.interleavings.specs.Laws.{RefinesOn}
-use Rattle.interleavings.specs.Outcomes.{lapsed_by}
+use Rattle.interleavings.specs.Outcomes.{begins_along, lapsed_by}
 use Rattle.interleavings.specs.Refining.{Refines}
 use Rattle.interleavings.specs.Runs.{Happens, Runs, is_at}
 use Rattle.interleavings.specs.declared.event.Event.{Event}
@@ -27,7 +28,12 @@ pub record FindsByStep {K : Type 0} (hash : RecordKey → ℕ) (base : State) (s
   pub active : ActiveView
   pub there : call_at old.seats seat ≡ Some active
   pub on : RefinesOn hash base seat active did (refines.together sound).calls.change old new
-  pub lacks : FindsNoRoom hash on.does.by (refines.together sound).calls.change new
+  -- it goes on, and lacks room
+  pub fine : is_failure did ≡ false
+  pub come : ActiveView
+  pub left : call_at new.seats seat ≡ Some come
+  pub lacking : lacks_room come.machine ≡ true
+  pub lacks : ComesToLack hash on.does.by come (refines.together sound).calls.change new
 
 -- by one of so many steps of a seat, each of which moves
 pub record FindsByMove {K : Type 0} (hash : RecordKey → ℕ) (base : State) (seat moves : ℕ) (old new : KernelState K)
@@ -61,15 +67,6 @@ FindsBy hash base seat _ _ old new = ⊥
 
 -- ---- and is so of the same call
 
--- a call begins at this seat
-abbrev pub is_begun : Outcome → Bool
-is_begun outcomes.Begun = true
-is_begun _ = false
-
-abbrev pub begins_along : ℕ → List Event → List Outcome → Bool
-begins_along seat (e ∷ es) (o ∷ os) = (is_at seat e && is_begun o) || begins_along seat es os
-begins_along seat _ _ = false
-
 -- an event among these finds it for the call that its seat has under way after them
 pub record FindsAlong {K : Type 0} (hash : RecordKey → ℕ) (base : State) (seat : ℕ) (es : List Event)
     (os : List Outcome) (old new : KernelState K) : Type 0 where
@@ -82,6 +79,7 @@ pub record FindsAlong {K : Type 0} (hash : RecordKey → ℕ) (base : State) (se
   pub before : KernelState K
   pub first : Runs hash (take many es) (take many os) old before
   pub behind : KernelState K
+  pub happens : Happens hash event outcome before behind
   pub finds : FindsBy hash base seat event outcome before behind
   pub rest : Runs hash (drop (suc many) es) (drop (suc many) os) behind new
   -- no other call has begun there since
