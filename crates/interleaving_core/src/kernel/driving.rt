@@ -26,17 +26,17 @@ const WRITE_STEPS: u32 = 8;
 enum Ahead {
     /// Nothing.
     Nothing,
-    /// A question, or a write behind the last one.
+    /// A question, or the write after the last one.
     Question,
     /// A write.
     Write,
 }
 
 impl Ahead {
-    /// What may be due behind a step of this kind, where this was thought due before it. Names come
-    /// by Grants, and what a call pays begins behind its Decide. A question and a write end by a
-    /// Release, but one behind a vain try is that of a name, and nothing is due behind it.
-    fn behind(self, kind: Kind) -> Ahead {
+    /// What may be due after a step of this kind, where this was thought due before it. Names come by
+    /// Grants, and what a call pays begins after its Decide. A question and a write end by a Release;
+    /// but one that follows a vain try gives a name back, and nothing is due after it.
+    fn after_step(self, kind: Kind) -> Ahead {
         match (kind, self) {
             (Kind::Grant, _) | (Kind::Release, Ahead::Nothing) => Ahead::Question,
             (Kind::Decide, _) => Ahead::Write,
@@ -44,8 +44,8 @@ impl Ahead {
         }
     }
 
-    /// What may be due behind one that was made by so many steps. No question comes behind a write.
-    fn behind_deed(self, made: u32) -> Ahead {
+    /// What may be due after what was made in one go, by so many steps. No question follows a write.
+    fn after_deed(self, made: u32) -> Ahead {
         if made == WRITE_STEPS {
             return Ahead::Write;
         }
@@ -75,13 +75,13 @@ impl<D: PageDevice + Drop, K: PseudoKey + Drop> Kernel<D, K> {
             };
             if made > 0 {
                 moves += made;
-                ahead = ahead.behind_deed(made);
+                ahead = ahead.after_deed(made);
                 continue;
             }
             match self.step(seat) {
                 Step::Moved(kind) => {
                     moves += 1;
-                    ahead = ahead.behind(kind);
+                    ahead = ahead.after_step(kind);
                 }
                 other => return other,
             }
