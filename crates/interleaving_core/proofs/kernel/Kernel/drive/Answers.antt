@@ -1,8 +1,9 @@
 -- Each step goes on from those before it, each of which moved; so do those of a question, and of a write.
-use Rattle.std.proofs.Common.{◌≡◌, ◌<◌, ◌∙◌, ap, sym, subst, true, None, arith, zero, ℕ}
+use Rattle.std.proofs.Common.{◌≡◌, ◌<◌, ap, sym, subst, true, None, arith, zero, ℕ}
 use Rattle.interleaving_core.specs.Driving.{Moves}
 use Rattle.interleaving_core.specs.Kernel.{KernelState}
 use Rattle.interleaving_core.specs.Owing.{failed, failure_by, fault_told}
+use Rattle.interleaving_core.specs.Words.{IsSeat, RecordKey}
 use Rattle.interleaving_core.specs.declared.kernel.TheConstants.{MOST_STEPS}
 use Rattle.interleaving_core.proofs.DriveLemmas.{HasMoved, is_spent, moves_after, moves_on, none_made, rests_at}
 use Rattle.interleaving_core.proofs.RunLemmas.{no_move, runs_on}
@@ -10,18 +11,20 @@ use Rattle.interleaving_core.proofs.kernel.Kernel.drive.Given as given
 use Rattle.interleaving_core.proofs.kernel.Kernel.drive.Goals.{After-step}
 use Rattle.interleaving_core.proofs.kernel.Kernel.drive.Goals as goal
 
--- what was tried in vain before a step has changed nothing
+-- what was tried in vain has changed nothing
+in_vain : {K : Type 0} (hash : RecordKey → ℕ) (seat made : ℕ) (old new : KernelState K) → made ≡ zero →
+    Moves hash seat made old new → new ≡ old
+in_vain hash seat made old new none moves = subst (λ (n : ℕ). Moves hash seat n old new) none moves
+
+-- so before a step all is as it was before the try
 has_moved : (g : given.Over) (c : After-step g) →
-    HasMoved g.K.PseudoKey.of_key c.args.seat c.loop-moves.moves c.args.self.now
-    c.go_ahead.new.self
+    HasMoved g.K.PseudoKey.of_key c.args.seat c.loop-moves.moves c.args.self.now c.go_ahead.new.self
 has_moved g c =
-    let hash = g.K.PseudoKey.of_key c.loop-moves.self.keys in
     let vain = c.if-made-gt0.false in
     let none : c.in-Ok.made ≡ zero = omega (arith, vain) in
-    let same : c.go_ahead.new.self ≡ c.loop-moves.self = subst (λ (n : ℕ). Moves hash c.args.seat n c.loop-moves.self
-    c.go_ahead.new.self) none c.in-Ok.ensures.made in
-    subst (HasMoved g.K.PseudoKey.of_key c.args.seat c.loop-moves.moves c.args.self.now) (sym same)
-    c.loop-moves.invariant.moved
+    subst (HasMoved g.K.PseudoKey.of_key c.args.seat c.loop-moves.moves c.args.self.now)
+    (sym (in_vain (g.K.PseudoKey.of_key c.loop-moves.self.keys) c.args.seat c.in-Ok.made c.loop-moves.self
+    c.go_ahead.new.self none c.in-Ok.ensures.made)) c.loop-moves.invariant.moved
 
 pub loop-moves-init : goal.loop-moves-init
 loop-moves-init g c = record {
@@ -64,7 +67,12 @@ loop-moves-preserved-then-made-gt0 g c =
     }
 
 pub step-requires : goal.step-requires
-step-requires g c = (has_moved g (goal.at.step-requires g c).After-step).seated
+step-requires g c =
+    let vain = c.if-made-gt0.false in
+    let none : c.in-Ok.made ≡ zero = omega (arith, vain) in
+    subst (λ (k : KernelState g.row.K.Denot). IsSeat k.locks c.args.seat)
+    (sym (in_vain (g.K.PseudoKey.of_key c.loop-moves.self.keys) c.args.seat c.in-Ok.made c.loop-moves.self
+    c.go_ahead.new.self none c.in-Ok.ensures.made)) c.loop-moves.invariant.moved.seated
 
 pub loop-moves-preserved : goal.loop-moves-preserved
 loop-moves-preserved g c =
