@@ -1,6 +1,7 @@
 //! JSON objects of queues and messages, whose members have POSIX's names.
 
-ghost use Rattle.std.specs.Prelude.{◌≡◌, IfOk, OnOk, map, string_bytes};
+ghost use Rattle.std.specs.Prelude.{◌≡◌, ◌++◌, ◌%◌, IfOk, OnOk, map, string_bytes};
+ghost use Rattle.std.specs.Fmt.{decimal};
 ghost use Rattle.queue_commands.specs.Cells.{mode_text};
 ghost use Rattle.queue_commands.specs.Json.{IsPlain, PutsJson, count, info_data, key_data, message_data, messages_data, messages_of, permissions_data, queue_data, queues_data, queues_of};
 ghost use Rattle.serde_json.specs.Data.{Data, put as with_member};
@@ -143,10 +144,19 @@ fn octal(alloc: Global, mode: u16) -> Result<String, NoMemory>
     ensures { IfOk result (λ digits. string_bytes digits ≡ mode_text mode) }
 {
     let mut digits = String::new(alloc);
-    digits.push_str(Buffer::new().format(mode / 64 % 8))?;
-    digits.push_str(Buffer::new().format(mode / 8 % 8))?;
-    digits.push_str(Buffer::new().format(mode % 8))?;
+    push_digit(&mut digits, mode / 64)?;
+    push_digit(&mut digits, mode / 8)?;
+    push_digit(&mut digits, mode)?;
     Ok(digits)
+}
+
+/// Puts the last octal digit of a number last.
+fn push_digit(digits: &mut String, number: u16) -> Result<(), NoMemory>
+    ensures { OnOk result (string_bytes digits.new
+        ≡ string_bytes digits.old ++ decimal (number % 8)) }
+{
+    digits.push_str(Buffer::new().format(number % 8))?;
+    Ok(())
 }
 
 /// A message: its bytes as a text, in which what is no UTF-8 is replaced, and in hexadecimal

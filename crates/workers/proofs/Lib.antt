@@ -5,6 +5,7 @@ pub mod TieLemmas
 pub mod EntryLemmas
 pub mod DeviceLemmas
 pub mod HeldLemmas
+pub mod BeginLemmas
 pub mod RoomLemmas
 pub mod StopLemmas
 pub mod SeatLemmas

@@ -21,6 +21,7 @@ pub enum Deed<'a> {
 
 impl Deed<'_> {
     /// Whether what it writes keeps the limits of one record.
+    #[inline(always)]
     pub(crate) fn is_in_range(&self) -> bool
         ensures { IsTrue result ↔ IsDeedInRange self.now }
     {
@@ -31,6 +32,7 @@ impl Deed<'_> {
     }
 
     /// The access becomes its own, in place.
+    #[inline(always)]
     pub(crate) fn begin<K: PseudoKey>(&self, access: &mut Access, keys: &K)
         requires { IsDeedInRange self.now }
         ensures value { access.new ≡ begun (purpose_of self.now)

@@ -60,7 +60,9 @@ impl HeldNames {
         let _ = &self.locks;
     }
 
-    /// What the call does with names before it asks, inserts or writes where its inquiry has come.
+    /// What the call does with names before it asks, inserts or writes where its inquiry has come. It
+    /// stands in whoever asks, since most calls are ready by one comparison.
+    #[inline(always)]
     pub fn turn(&self, call: &Call, inquiry: &AnyInquiry) -> NameTurn
         ensures { result ≡ name_turn self.now (names_for call.now inquiry.now) }
     {
@@ -132,6 +134,7 @@ impl HeldNames {
 }
 
 /// Whether the lock that was found is this one.
+#[inline(always)]
 fn is_there(found: Option<Lock>, lock: Lock) -> bool
     ensures { result ≡ is_there found lock }
 {
@@ -139,6 +142,7 @@ fn is_there(found: Option<Lock>, lock: Lock) -> bool
 }
 
 /// The lock of a call that needs no other, wherever its inquiry has come: on its queue.
+#[inline(always)]
 fn only_name(call: &Call, inquiry: &AnyInquiry) -> Option<Lock>
     ensures { IfSome result (λ lock. names_for call.now inquiry.now ≡ lock ∷ []) }
 {

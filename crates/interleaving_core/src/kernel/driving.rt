@@ -20,6 +20,39 @@ const QUESTION_STEPS: u32 = 7;
 /// The steps of a write that is made in one go.
 const WRITE_STEPS: u32 = 8;
 
+/// What may be due of a call that can be made in one go. Only time hangs on it: `step` makes whatever
+/// is not made so.
+#[derive(Clone, Copy)]
+enum Ahead {
+    /// Nothing.
+    Nothing,
+    /// A question, or the write after the last one.
+    Question,
+    /// A write.
+    Write,
+}
+
+impl Ahead {
+    /// What may be due after a step of this kind, where this was thought due before it. Names come by
+    /// Grants, and what a call pays begins after its Decide. A question and a write end by a Release;
+    /// but one that follows a vain try gives a name back, and nothing is due after it.
+    fn after_step(self, kind: Kind) -> Ahead {
+        match (kind, self) {
+            (Kind::Grant, _) | (Kind::Release, Ahead::Nothing) => Ahead::Question,
+            (Kind::Decide, _) => Ahead::Write,
+            (_, _) => Ahead::Nothing,
+        }
+    }
+
+    /// What may be due after what was made in one go, by so many steps. No question follows a write.
+    fn after_deed(self, made: u32) -> Ahead {
+        if made == WRITE_STEPS {
+            return Ahead::Write;
+        }
+        self
+    }
+}
+
 impl<D: PageDevice + Drop, K: PseudoKey + Drop> Kernel<D, K> {
     /// Steps a seat until its call does not move: it is answered, waits, is blocked, meets a fault,
     /// or there is none. A call that still moves after `MOST_STEPS` fails the kernel. The steps of a
@@ -33,26 +66,22 @@ impl<D: PageDevice + Drop, K: PseudoKey + Drop> Kernel<D, K> {
     {
         self.is_whole();
         let mut moves = 0;
-        let mut may_go_ahead = true;
+        // A call that begins has to take a name first.
+        let mut ahead = Ahead::Nothing;
         while moves < MOST_STEPS {
-            if may_go_ahead {
-                if self.skip(seat, MOST_STEPS - moves) {
-                    moves += QUESTION_STEPS;
-                    continue;
-                }
-                match self.write_through(seat, MOST_STEPS - moves) {
-                    Ok(true) => {
-                        moves += WRITE_STEPS;
-                        continue;
-                    }
-                    Ok(false) => {}
-                    Err(fault) => return Step::Fault(StepFault::File(fault)),
-                }
+            let made = match self.go_ahead(seat, ahead, MOST_STEPS - moves) {
+                Ok(made) => made,
+                Err(fault) => return Step::Fault(StepFault::File(fault)),
+            };
+            if made > 0 {
+                moves += made;
+                ahead = ahead.after_deed(made);
+                continue;
             }
             match self.step(seat) {
                 Step::Moved(kind) => {
                     moves += 1;
-                    may_go_ahead = may_begin_access(kind);
+                    ahead = ahead.after_step(kind);
                 }
                 other => return other,
             }
@@ -62,6 +91,28 @@ impl<D: PageDevice + Drop, K: PseudoKey + Drop> Kernel<D, K> {
             fault: FileFault::Failed,
         });
         Step::Fault(StepFault::File(FileFault::Failed))
+    }
+
+    /// All steps of the next question or write of the seat's call, in one go, where such a one may be
+    /// due and can be made so; tells how many they are. Else nothing is done, and it tells 0.
+    fn go_ahead(&mut self, seat: u8, ahead: Ahead, most: u32) -> Result<u32, FileFault>
+        requires { IsSeat self.old.locks seat }
+        ensures made { IfOk result (λ made.
+            Moves (K.of_key self.old.keys) seat made self.old self.new) }
+        ensures few { IfOk result (λ made. made ≤ most) }
+        ensures failed { IfErr result (λ fault.
+            IsStep (K.of_key self.old.keys) seat (fault_told fault) self.old self.new) }
+    {
+        match ahead {
+            Ahead::Nothing => Ok(0),
+            Ahead::Question => {
+                if self.skip(seat, most) {
+                    return Ok(QUESTION_STEPS);
+                }
+                self.write_through(seat, most)
+            }
+            Ahead::Write => self.write_through(seat, most),
+        }
     }
 
     /// All steps of the next question of the seat's call, in one go, where so many steps may be made,
@@ -101,30 +152,30 @@ impl<D: PageDevice + Drop, K: PseudoKey + Drop> Kernel<D, K> {
     }
 
     /// All steps of the next write of the seat's call, in one go, where so many steps may be made,
-    /// the seat was not told that it waits, and it can be made so (`CallMachine::write_through`).
-    /// Else nothing is done, it tells false, and it is left to `step`. They are counted as those of
-    /// `skip`. A fault is that of a step of the seat, by which the kernel has failed.
-    fn write_through(&mut self, seat: u8, most: u32) -> Result<bool, FileFault>
+    /// the seat was not told that it waits, and it can be made so (`CallMachine::write_through`);
+    /// tells how many they are. Else nothing is done, it tells 0, and it is left to `step`. They are
+    /// counted as those of `skip`. A fault is that of a step of the seat, by which the kernel has
+    /// failed.
+    fn write_through(&mut self, seat: u8, most: u32) -> Result<u32, FileFault>
         requires { IsSeat self.old.locks seat }
-        ensures made { IfOk result (λ made. made ≡ true →
-            Moves (K.of_key self.old.keys) seat WRITE_STEPS self.old self.new) }
-        ensures few { IfOk result (λ made. made ≡ true → WRITE_STEPS ≤ most) }
-        ensures spares { IfOk result (λ made. made ≡ false → self.new ≡ self.old) }
+        ensures made { IfOk result (λ made.
+            Moves (K.of_key self.old.keys) seat made self.old self.new) }
+        ensures few { IfOk result (λ made. made ≤ most) }
         ensures failed { IfErr result (λ fault.
             IsStep (K.of_key self.old.keys) seat (fault_told fault) self.old self.new) }
     {
         if most < WRITE_STEPS {
-            return Ok(false);
+            return Ok(0);
         }
         if self.failure.is_some() {
-            return Ok(false);
+            return Ok(0);
         }
         let place = seat as usize - 1;
         let Some(active) = self.seats[place].under_way() else {
-            return Ok(false);
+            return Ok(0);
         };
         if active.wait.is_some() {
-            return Ok(false);
+            return Ok(0);
         }
         let decided = decided_by(&active.machine, self.journal.len(), active.decided);
         match active
@@ -135,41 +186,14 @@ impl<D: PageDevice + Drop, K: PseudoKey + Drop> Kernel<D, K> {
                 active.decided = decided;
                 self.searches.note_search(seat);
                 self.searches.are_sound();
-                Ok(true)
+                Ok(WRITE_STEPS)
             }
-            Ok(false) => Ok(false),
+            Ok(false) => Ok(0),
             Err(fault) => {
                 active.decided = decided;
                 self.failure = Some(Failure { seat, fault });
                 Err(fault)
             }
         }
-    }
-}
-
-/// Whether a question or a write may begin behind a step of this kind. The one before it ends by a
-/// Release, the names that it needs come by Grants, and what a call pays begins behind its Decide.
-/// Only time hangs on it: where nothing can be made in one go, `step` makes it.
-fn may_begin_access(kind: Kind) -> bool {
-    match kind {
-        Kind::Grant | Kind::Release | Kind::Decide => true,
-        Kind::ReadDepth
-        | Kind::ReadEntry
-        | Kind::Look
-        | Kind::Hop
-        | Kind::WriteRecord
-        | Kind::TakePage
-        | Kind::CopyDirectory
-        | Kind::RaiseDepth
-        | Kind::WriteNew
-        | Kind::WriteOld
-        | Kind::Retarget
-        | Kind::SetCounts
-        | Kind::WriteLeft
-        | Kind::Tombstone
-        | Kind::Convert
-        | Kind::WriteFree
-        | Kind::LinkFree
-        | Kind::LowerDepth => false,
     }
 }

@@ -41,14 +41,11 @@ impl CallWrites {
         if self.access.is_under_way() || plan.is_done(self.due) {
             return Ok(false);
         }
-        let Some((deed, behind)) = plan.next(self.due) else {
+        let access = self.access.open();
+        let Some(behind) = plan.begin_next(self.due, access, keys) else {
+            self.access.close();
             return Ok(false);
         };
-        if !deed.is_in_range() {
-            return Ok(false);
-        }
-        let access = self.access.open();
-        deed.begin(access, keys);
         if access.write_through(pool, locks, seat)? {
             self.access.close();
             self.due = behind;

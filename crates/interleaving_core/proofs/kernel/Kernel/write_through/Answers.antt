@@ -35,7 +35,7 @@ invariant_of-self-in-Ok-true g c =
     (c.in-Ok-true.ensures.made c.in-Ok-true.field-0-test)).whole
 
 pub returns-in-Ok-true-clause-made : goal.returns-in-Ok-true-clause-made
-returns-in-Ok-true-clause-made g c = λ made.
+returns-in-Ok-true-clause-made g c =
     let many : vec_len c.self.inside.journal ≡ length c.self.inside.journal.items = search rules in
     (written_at_once g.K.PseudoKey.of_key c.args.seat c.index_mut.result.now _ c.args.self.now c.self.view_is
     c.self.invariant c.requires c.index_mut.ensures.value (sym c.is_some.ensures ∙ c.if-is_some.false) _

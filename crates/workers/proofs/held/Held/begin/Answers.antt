@@ -1,6 +1,6 @@
 use Rattle.std.proofs.Common.{◌≤◌, sym, subst}
 use Rattle.interleaving_core.specs.Beginning.{Refuses}
-use Rattle.workers.proofs.HeldLemmas.{begun_at_desk, counted_at_begin, counted_at_refusal, full_by, has_begun, is_turned_away, kept_at_begin, kept_at_refusal, never_busy, refused_at_desk}
+use Rattle.workers.proofs.BeginLemmas.{begun_at_desk, counted_at_begin, counted_at_refusal, full_by, has_begun, is_turned_away, kept_at_begin, kept_at_refusal, never_busy, refused_at_desk}
 use Rattle.workers.proofs.held.Held.begin.Goals as goal
 
 -- the seat has its call, and nothing joins the journal
