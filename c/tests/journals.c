@@ -7,6 +7,7 @@
 #include <stdio.h>
 #include <stdlib.h>
 #include <string.h>
+#include <sys/stat.h>
 #include <unistd.h>
 
 enum { PAGE = 4096, PAYLOAD = 4064, SUM = 32, HEAD = 80, IMAGE = 4 + PAGE + SUM, PAGES = 300, ROOT = 257, MOST = 4 };
@@ -38,14 +39,16 @@ static void write_all(const char *name, const uint8_t *from, size_t count) {
         exit(2);
 }
 
-static int holds(const char *name, const uint8_t *wanted, size_t count) {
-    static uint8_t found[PAGES * PAGE + 1];
+static int begins(const char *name, const void *wanted, size_t count) {
+    static uint8_t found[PAGES * PAGE];
     FILE *file = fopen(name, "r");
-    if (file == NULL)
-        return 0;
-    size_t had = fread(found, 1, sizeof found, file);
-    fclose(file);
-    return had == count && (count == 0 || memcmp(found, wanted, count) == 0);
+    size_t had = file == NULL ? 0 : fread(found, 1, count, file);
+    return file != NULL && fclose(file) == 0 && had == count && memcmp(found, wanted, count) == 0;
+}
+
+static int holds(const char *name, const void *wanted, size_t count) {
+    struct stat it;
+    return stat(name, &it) == 0 && (size_t)it.st_size == count && begins(name, wanted, count);
 }
 
 /* Seals a page of the bytes. */
@@ -80,17 +83,13 @@ static void begin(struct left *it, uint32_t version, uint32_t save, uint32_t pag
 
 /* Whether the journal says that the save of this number was ended, and has no other number of bytes than before. */
 static int is_ended(uint32_t save, size_t count) {
-    uint8_t head[HEAD] = {0}, found[HEAD];
-    FILE *file = fopen(journal, "r");
+    uint8_t head[HEAD] = {0};
+    struct stat it;
     memcpy(head, "msgqdone", 8);
     number(head + 8, 2);
     number(head + 20, save);
     digest(head, 48, head + 48);
-    if (file == NULL || fread(found, 1, HEAD, file) != HEAD || fseek(file, 0, SEEK_END) != 0)
-        exit(2);
-    int is = memcmp(found, head, HEAD) == 0 && ftell(file) == (long)count;
-    fclose(file);
-    return is;
+    return stat(journal, &it) == 0 && (size_t)it.st_size == count && begins(journal, head, HEAD);
 }
 
 static void add(struct left *it, uint32_t page, const uint8_t *was) {
@@ -158,6 +157,19 @@ static void is_refused(const struct left *it, int wrong, const char *words) {
     is(holds(journal, it->bytes, it->count), 1, "the journal is as it was");
 }
 
+/* The same of calls behind which a page stands: that is put back, and let go, so that it is not put back again. */
+static void is_let_go(const struct left *it, const struct left *then, int wrong, const char *words) {
+    msgq *queues;
+    write_all(path, bytes, sizeof bytes);
+    write_all(journal, it->bytes, it->count);
+    is(msgq_open(path, &queues), wrong, words);
+    says(words);
+    is(holds(path, good, sizeof good), 1, "the page is put back");
+    is(begins(journal, then->bytes, then->count), 1, "it is let go");
+    write_all(path, bytes, sizeof bytes);
+    is(msgq_open(path, &queues) == EBADMSG && holds(path, bytes, sizeof bytes), 1, "and is not put back again");
+}
+
 /* Opens the bytes with a journal, which leads to the good file and has no head of that save then. */
 static void is_put_back(const struct left *it, size_t count, uint32_t save, const char *what) {
     msgq *queues;
@@ -197,10 +209,7 @@ static void are_made(const struct left *it, const char *what) {
     is(msgq_open(path, &queues), 0, what);
     is(msgq_abandon(queues), 0, "abandon");
     is(holds(path, bytes, sizeof bytes), 0, "they are in the file");
-    FILE *file = fopen(journal, "r");
-    if (file == NULL || fread(body, 1, sizeof body, file) != sizeof body || fclose(file) != 0)
-        exit(2);
-    is(memcmp(body, "msgqdone", sizeof body), 0, "the journal is ended");
+    is(begins(journal, "msgqdone", 8), 1, "the journal is ended");
     is(msgq_open(path, &queues), 0, "open");
     is(msgq_stat(queues, 1, &info), 0, "stat");
     is((long long)info.qnum, 3, what);
@@ -251,6 +260,12 @@ static void calls(void) {
     begin(&it, 3, 7, PAGES, good);
     add_calls(&it, "calls", 5);
     is_refused(&it, EBADMSG, NOT_ITS);
+    struct left image = it, then = it;
+    add(&image, ROOT, good + ROOT * PAGE);
+    add_put_back(&then);
+    memset(bytes + ROOT * PAGE, 'x', PAGE);
+    is_let_go(&image, &then, EBADMSG, NOT_ITS);
+    memcpy(bytes, good, sizeof bytes);
     /* Where none is whole there is no journal. */
     is_none(&it, it.count - 1, 8, "calls that are cut");
     it.bytes[it.count - 1]++;

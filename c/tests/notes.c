@@ -41,6 +41,15 @@ static int is_as_saved(void) {
     return read_all(path, now, sizeof now) == sizeof now && memcmp(now, file, sizeof now) == 0;
 }
 
+static long length_of(const char *name) {
+    FILE *from = fopen(name, "r");
+    if (from == NULL || fseek(from, 0, SEEK_END) != 0)
+        exit(2);
+    long length = ftell(from);
+    fclose(from);
+    return length;
+}
+
 static int journal_is(const char *magic) {
     uint8_t head[8];
     return read_all(journal, head, sizeof head) == sizeof head && memcmp(head, magic, sizeof head) == 0;
@@ -184,9 +193,11 @@ static void saves_what_is_long(void) {
     /* 1,124 bytes for each two: more than a mebibyte, and more than eight in the journal, which is cut then */
     send_and_receive(940);
     is_a_save("many calls", 1);
+    long before = length_of(journal);
     for (int n = 0; n < 9; n++) {
         send_and_receive(930);
         is_a_note("many calls, in parts");
+        is((length_of(journal) - before) % (256 << 10), 0, "the journal gets zeros first, in steps");
     }
     send_and_receive(1);
     is_a_save("a long journal", 0);

@@ -29,6 +29,3 @@ pub use recovery_over::recover_over;
 pub use save::{Act, Place, Save, SaveFault};
 pub use transfers::{Standing, Step, Transfer, Transfers};
 pub use unsaved::Unsaved;
-
-#[cfg(test)]
-mod tests;
