@@ -1,10 +1,12 @@
-/* A file that is being made. */
+/* A file that is being made: it has another name, beside its own, until it is whole and on the disk. The program `msgq` makes files in the same
+ * way, so neither takes what the other is making for what a process that was killed has left. */
 #include "making.h"
 #include "reason.h"
+#include "transfers.h"
 
 #include <errno.h>
 #include <fcntl.h>
-#include <stdbool.h>
+#include <limits.h>
 #include <stdio.h>
 #include <string.h>
 #include <sys/file.h>
@@ -12,6 +14,12 @@
 #include <unistd.h>
 
 #define SUFFIX ".unmade"
+
+struct unmade {
+    const char *path;
+    char beside[PATH_MAX];
+    struct opened file;
+};
 
 static int is_being_made(void) {
     return why(EBUSY, "another process is making it");
@@ -74,7 +82,8 @@ static int begin_once(struct unmade *it) {
     return wrong;
 }
 
-int unmade_begin(struct unmade *it, const char *path) {
+/* Begins a file without bytes. What a process that was killed has left of such a file is removed. */
+static int begin(struct unmade *it, const char *path) {
     /* More than one that begins it at once has to come between, each time. */
     enum { MOST_TRIES = 16 };
     int wrong = EAGAIN;
@@ -86,6 +95,12 @@ int unmade_begin(struct unmade *it, const char *path) {
     return wrong == EAGAIN ? is_being_made() : wrong;
 }
 
+/* Removes what was made. */
+static void drop(struct unmade *it) {
+    (void)unlink(it->beside);
+    close_it(&it->file);
+}
+
 /* Gives it its name by a rename: not every system of files has links. */
 static int rename_it(const struct unmade *it) {
     int wrong = expect_none(it->path);
@@ -94,17 +109,33 @@ static int rename_it(const struct unmade *it) {
     return wrong;
 }
 
-int unmade_name(struct unmade *it) {
+/* Gives the file its name, once it is whole and synced; EEXIST where something has it by now. Else nothing is left of it. */
+static int name_it(struct unmade *it) {
     int wrong = link(it->beside, it->path) == 0 ? 0 : errno;
     if (wrong != 0 && wrong != EEXIST)
         wrong = rename_it(it);
     if (wrong == 0 && (wrong = sync_folder_of(it->path)) != 0)
         (void)unlink(it->path);
-    unmade_drop(it);
+    drop(it);
     return wrong;
 }
 
-void unmade_drop(struct unmade *it) {
-    (void)unlink(it->beside);
-    close_it(&it->file);
+int make_file(const char *path, struct handle *session) {
+    uint32_t pages;
+    uint8_t bytes[PAGE_BYTES];
+    struct unmade made;
+    if (msgq_session_pages(session, &pages) != DONE)
+        return EIO;
+    int wrong = begin(&made, path);
+    if (wrong != 0)
+        return wrong;
+    for (uint32_t page = 0; wrong == 0 && page < pages; page++)
+        if ((wrong = msgq_session_page(session, page, bytes) == DONE ? 0 : EIO) == 0)
+            wrong = write_at(&made.file, bytes, sizeof bytes, (uint64_t)page * PAGE_BYTES);
+    if (wrong == 0)
+        wrong = sync_it(&made.file);
+    if (wrong == 0)
+        return name_it(&made);
+    drop(&made);
+    return wrong;
 }

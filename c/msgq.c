@@ -1,4 +1,5 @@
 /* The file and the lock: a handle is opened, saved and closed. */
+#include "making.h"
 #include "opened.h"
 
 #include <errno.h>
@@ -45,7 +46,7 @@ int msgq_create(const char *path, uint32_t pages) {
     spell_name(name, path);
     int wrong = error_of(msgq_session_create(&session, &owner, pages));
     if (wrong == 0) {
-        wrong = pair_make(path, &session);
+        wrong = make_file(path, &session);
         (void)msgq_session_close(&session);
     }
     return fails(wrong, name, "it can't be made");

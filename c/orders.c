@@ -63,6 +63,40 @@ static int take_room(struct room *room, size_t count) {
     return 0;
 }
 
+/* The calls that are noted stand in the room of the pair, between what is written before them and behind. Where no head is written less goes
+ * before them. */
+static uint32_t next_of_note(const struct teller *it, struct order *order, uint8_t **bytes) {
+    uint8_t *front = it->pair->room, *end = front + FRONT_BYTES + it->count + DIGEST_BYTES;
+    uint32_t code = msgq_session_note_next(it->session, order, front, end - DIGEST_BYTES);
+    if (code == DONE && order->kind == WRITE_CALLS)
+        *bytes = end - order->length;
+    return code;
+}
+
+/* Asks which one is next. What is to be written stands in `bytes`, which are led elsewhere where it does not. */
+static uint32_t next_of(const struct teller *it, struct order *order, uint8_t **bytes) {
+    switch (it->of) {
+    case SAVE:
+        return msgq_session_save_next(it->session, order, *bytes);
+    case NOTE:
+        return next_of_note(it, order, bytes);
+    default: /* RECOVERY */
+        return msgq_recovery_next(&it->pair->recovery, order, *bytes);
+    }
+}
+
+/* Tells how it went, and what was read. */
+static uint32_t told_to(const struct teller *it, const struct room *room, bool is_done) {
+    switch (it->of) {
+    case SAVE:
+        return msgq_session_save_told(it->session, room->bytes, is_done);
+    case NOTE:
+        return msgq_session_note_told(it->session, room->bytes, is_done);
+    default: /* RECOVERY */
+        return msgq_recovery_told(&it->pair->recovery, room->bytes, room->count, is_done);
+    }
+}
+
 /* Makes one, or has a session make calls again that were read last. */
 static int make_one(const struct teller *teller, const struct order *order, uint8_t *bytes, struct room *room) {
     bool is_read = order->kind == READ_JOURNAL || order->kind == READ_FILE;
@@ -72,19 +106,19 @@ static int make_one(const struct teller *teller, const struct order *order, uint
     return wrong != 0 ? wrong : make(teller->pair, order, is_read ? room->bytes : bytes);
 }
 
-int make_all(const struct teller *teller, const struct machine *machine) {
+int make_all(const struct teller *teller) {
     struct room room = {.count = ORDER_BYTES};
     struct order order;
     int wrong = 0;
     room.bytes = room.first;
-    for (;;) {
+    while (wrong == 0) {
         uint8_t *bytes = room.bytes;
-        if ((wrong = error_of(machine->next(teller, &order, &bytes))) != 0 || order.kind == OVER)
+        if ((wrong = error_of(next_of(teller, &order, &bytes))) != 0 || order.kind == OVER)
             break;
         wrong = make_one(teller, &order, bytes, &room);
-        uint32_t code = machine->told(teller, room.bytes, room.count, wrong == 0);
-        if (wrong != 0 || (wrong = error_of(code)) != 0)
-            break;
+        uint32_t code = told_to(teller, &room, wrong == 0);
+        if (wrong == 0)
+            wrong = error_of(code);
     }
     free(room.more);
     return wrong;

@@ -13,8 +13,11 @@ struct pair {
     uint8_t *room;             /* in which calls are noted, once some were */
 };
 
-/* Opens both, locks the journal and undoes what a save that was cut off has left. EBUSY where another has them. */
+/* Opens both, locks the journal and recovers them. EBUSY where another has them. */
 int pair_open(struct pair *pair, const char *path);
+
+/* Undoes what a save that was cut off has left; where that is nothing, sees to it that this is on the disk. */
+int pair_recover(struct pair *pair);
 
 /* The bytes of the file, which are the caller's to free. */
 int pair_read(const struct pair *pair, uint8_t **bytes, size_t *count);
@@ -36,8 +39,5 @@ void pair_close(struct pair *pair);
 
 /* Closes both for the child of a fork. The lock is its parent's, and stays. */
 void pair_leave(struct pair *pair);
-
-/* Makes a file of the pages of a session. EEXIST where there is one. */
-int pair_make(const char *path, struct handle *session);
 
 #endif

@@ -40,32 +40,26 @@ void close_it(struct opened *it) {
     *it = NOT_OPENED;
 }
 
+/* How a read or a write went, of which so many bytes are done: a signal may have ended it, and then it goes on. */
+static int went(ssize_t more, size_t *done) {
+    if (more < 0)
+        return errno == EINTR ? 0 : errno;
+    *done += (size_t)more;
+    return more == 0 ? EIO : 0;
+}
+
 int read_at(const struct opened *it, void *bytes, size_t count, uint64_t at) {
-    for (size_t done = 0; done < count;) {
-        ssize_t more = pread(it->file, (char *)bytes + done, count - done, (off_t)(at + done));
-        if (more < 0 && errno == EINTR)
-            continue;
-        if (more < 0)
-            return errno;
-        if (more == 0)
-            return EIO;
-        done += (size_t)more;
-    }
-    return 0;
+    int wrong = 0;
+    for (size_t done = 0; wrong == 0 && done < count;)
+        wrong = went(pread(it->file, (char *)bytes + done, count - done, (off_t)(at + done)), &done);
+    return wrong;
 }
 
 int write_at(const struct opened *it, const void *bytes, size_t count, uint64_t at) {
-    for (size_t done = 0; done < count;) {
-        ssize_t more = pwrite(it->file, (const char *)bytes + done, count - done, (off_t)(at + done));
-        if (more < 0 && errno == EINTR)
-            continue;
-        if (more < 0)
-            return errno;
-        if (more == 0)
-            return EIO;
-        done += (size_t)more;
-    }
-    return 0;
+    int wrong = 0;
+    for (size_t done = 0; wrong == 0 && done < count;)
+        wrong = went(pwrite(it->file, (const char *)bytes + done, count - done, (off_t)(at + done)), &done);
+    return wrong;
 }
 
 int cut_at(const struct opened *it, uint64_t size) {

@@ -145,12 +145,14 @@ def hangs_up(client):
 
 
 def in_child(act):
-    """Does something in a child of this process, whose number is told."""
+    """Does something in a child of this process, whose number is told. It ends with status 0 where that went well."""
     child = os.fork()
     if child == 0:
+        status = 1
         try:
             act()
+            status = 0
         except BaseException as wrong:
             print("tests/server: a child:", wrong, file=sys.stderr)
-        os._exit(0)
+        os._exit(status)
     return child
