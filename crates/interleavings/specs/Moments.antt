@@ -98,9 +98,11 @@ calls_so_far es os = record {
 pub record LackedRoom (callers : List Caller) (base : State) (seat : ℕ) (es : List Event) (os : List Outcome)
     (journal : List Entry) : Type 0 where
   pub many : ℕ
+  -- no other has begun there since
   pub same : begins_along seat (drop many es) (drop many os) ≡ false
   pub call : Call
   pub under_way : call_under_way seat (take many es) (take many os) ≡ Some call
+  -- what of the journal stood then
   pub moment : HasStood many es os journal
   pub caller : Caller
   pub answer : Answer

@@ -57,6 +57,10 @@ pub enum EndFault {
 /// failed, the device is left with the file of the system after the journal, of as many pages: it
 /// holds the messages that nobody took, and no others.
 ///
+/// A seat is told that a record has no room only where its call has something to insert; and where no
+/// other seat is in its way then, only where the records of the system, with what it inserts, are more
+/// bytes than a bucket holds.
+///
 /// Once a step has failed no call begins, and each that is under way is told of that, and of nothing
 /// else.
 ///
