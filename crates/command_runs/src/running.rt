@@ -59,7 +59,7 @@ pub fn run_on<D: PageDevice + Drop, W: Write + Drop>(
         (seen output.old.held output.new.held
         (D.fault_count device) (D.fault_count result.device)) result.came }
     ensures unwritten { IfUnwritten (D.content result.device ≡ D.content device) result.came }
-    ensures same { IfUnwritten (D.is_honest result.device ≡ D.is_honest device) result.came }
+    ensures same { D.is_honest result.device ≡ D.is_honest device }
     ensures untold { IfUnprinted (output.new.refused ≡ true) result.came }
     ensures synced { IsTrue (D.is_honest device) →
         OnOk result.came (IsTrue (D.is_synced result.device)) }
@@ -93,7 +93,7 @@ fn refuse<D: PageDevice + Drop>(alloc: Global, device: D) -> Ran<D>
         RunsOn c r (D.content device) (D.content result.device)
         (seen output output (D.fault_count device) (D.fault_count result.device)) result.came }
     ensures unwritten { IfUnwritten (D.content result.device ≡ D.content device) result.came }
-    ensures same { IfUnwritten (D.is_honest result.device ≡ D.is_honest device) result.came }
+    ensures same { D.is_honest result.device ≡ D.is_honest device }
     ensures undone { OnOk result.came ⊥ }
     ensures told { IfUnprinted ⊥ result.came }
 {
@@ -126,7 +126,7 @@ fn end<D: PageDevice, W: Write + Drop>(device: D, asked: Asked, output: &mut Pri
         (seen output.old.held output.new.held
         (D.fault_count device) (D.fault_count result.device)) result.came }
     ensures unwritten { IfUnwritten (D.content result.device ≡ D.content device) result.came }
-    ensures same { IfUnwritten (D.is_honest result.device ≡ D.is_honest device) result.came }
+    ensures same { D.is_honest result.device ≡ D.is_honest device }
     ensures untold { IfUnprinted (output.new.refused ≡ true) result.came }
     ensures synced { IsTrue (D.is_honest device) →
         OnOk result.came (IsTrue (D.is_synced result.device)) }
