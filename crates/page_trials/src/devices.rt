@@ -1,21 +1,7 @@
-//! Devices in memory, of which each transfer fails in turn.
+//! A device in memory, of which each transfer fails in turn.
 
 use page_device::{DeviceFault, FaultyDevice, MemDevice, PAGE_BYTES, PageDevice};
-use std::test::Fail;
-
-#[test]
-fn faults_have_their_numbers(rt: HostRuntime) {
-    let faults = [
-        (DeviceFault::Device, 20),
-        (DeviceFault::BadDigest, 21),
-        (DeviceFault::PastEnd, 22),
-        (DeviceFault::DeviceFull, 23),
-        (DeviceFault::NoMemory, 60),
-    ];
-    for (fault, number) in faults {
-        assert!(rt; fault.number() == number);
-    }
-}
+use std::alloc::Global;
 
 /// Two pages, the first of which is written again.
 fn fill<D: PageDevice>(device: &mut D) -> Result<(), DeviceFault> {
@@ -27,48 +13,39 @@ fn fill<D: PageDevice>(device: &mut D) -> Result<(), DeviceFault> {
 
 /// Whether the device has the pages of `fill`.
 fn is_filled<D: PageDevice>(device: &mut D) -> Result<bool, DeviceFault> {
-    let mut page = [0; PAGE_BYTES];
-    device.read(0, &mut page)?;
-    let first = page == [3; PAGE_BYTES];
-    device.read(1, &mut page)?;
-    Ok(first && page == [2; PAGE_BYTES] && device.pages() == 2)
+    let mut first = [0; PAGE_BYTES];
+    let mut second = [0; PAGE_BYTES];
+    device.read(0, &mut first)?;
+    device.read(1, &mut second)?;
+    Ok(first == [3; PAGE_BYTES] && second == [2; PAGE_BYTES] && device.pages() == 2)
 }
 
-#[test]
-fn a_page_reads_as_it_was_written(rt: HostRuntime) -> Result<(), Fail> {
-    let mut device = MemDevice::new(rt.alloc());
-    fill(&mut device)?;
-    assert!(rt; is_filled(&mut device)?);
-    assert!(rt; ends_at_2(&mut device));
-    assert!(rt; device.faults() == 0);
-    Ok(())
-}
-
-/// Page 2 is past the end.
-fn ends_at_2<D: PageDevice>(device: &mut D) -> bool {
-    let mut page = [0; PAGE_BYTES];
-    device.read(2, &mut page) == Err(DeviceFault::PastEnd)
-        && device.write(2, &page) == Err(DeviceFault::PastEnd)
+/// What comes of both on a device whose nth transfer is to fail, and how many pages the device below
+/// has then; none where another number of transfers has failed than should.
+fn filled(alloc: Global, nth: u64) -> Option<(Result<bool, DeviceFault>, u32)> {
+    let mut device = FaultyDevice::new(MemDevice::new(alloc), nth);
+    let run = fill(&mut device).and_then(|()| is_filled(&mut device));
+    let failed = device.faults();
+    let inner = device.into_inner();
+    let is_right = failed == u64::from(run.is_err()) && inner.faults() == 0;
+    is_right.then_some((run, inner.pages()))
 }
 
 #[test]
 fn each_transfer_fails_in_turn(rt: HostRuntime) {
-    for nth in 1..=6 {
-        let mut device = FaultyDevice::new(MemDevice::new(rt.alloc()), nth);
-        let run = fill(&mut device).and_then(|()| is_filled(&mut device));
-        assert!(rt; run == Err(DeviceFault::Device), "transfer {nth}");
-        assert!(rt; device.faults() == 1, "transfer {nth}");
-        let inner = device.into_inner();
-        assert!(rt; inner.faults() == 0, "transfer {nth}");
-        assert!(rt; inner.pages() == (nth as u32 - 1).min(2), "transfer {nth}");
+    let failed = Err(DeviceFault::Device);
+    for (nth, run, pages) in [
+        (1, failed, 0),
+        (2, failed, 1),
+        (3, failed, 2),
+        (4, failed, 2),
+        (5, failed, 2),
+        (6, failed, 2),
+        (7, Ok(true), 2),
+    ] {
+        assert!(rt;
+            filled(rt.alloc(), nth) == Some((run, pages)),
+            "transfer {nth}"
+        );
     }
-}
-
-#[test]
-fn no_transfer_fails_where_none_is_named(rt: HostRuntime) -> Result<(), Fail> {
-    let mut device = FaultyDevice::new(MemDevice::new(rt.alloc()), 0);
-    fill(&mut device)?;
-    assert!(rt; is_filled(&mut device)?);
-    assert!(rt; device.faults() == 0);
-    Ok(())
 }

@@ -1,6 +1,6 @@
 //! Keys that are asked for again, and keys that take one another's slots.
 
-use bucket_page::{Alike, KeptKeys, NumberKey, PseudoKey, RecordKey, ShaKey};
+use bucket_page::{Alike, KeptKeys, NumberKey, PseudoKey, RecordKey};
 use std::cell::Cell;
 use std::test::Fail;
 
@@ -11,30 +11,6 @@ fn message(number: u64) -> RecordKey {
         queue: 1,
         number,
     }
-}
-
-#[test]
-fn keys_that_share_slots_have_their_own_pseudokeys(rt: HostRuntime) -> Result<(), Fail> {
-    let kept = KeptKeys::new(rt.alloc(), ShaKey)?;
-    for number in 0..100 {
-        for asked in [number, number, number + 8_192, number + 1, number] {
-            assert!(rt; kept.of(&message(asked)) == ShaKey.of(&message(asked)));
-        }
-    }
-    Ok(())
-}
-
-#[test]
-fn keys_in_order_have_their_own_pseudokeys(rt: HostRuntime) -> Result<(), Fail> {
-    let kept = KeptKeys::new(rt.alloc(), ShaKey)?;
-    for number in 0..100 {
-        assert!(rt; kept.of(&message(number)) == ShaKey.of(&message(number)));
-    }
-    for behind in 0..10 {
-        let number = u64::MAX - 9 + behind;
-        assert!(rt; kept.of(&message(number)) == ShaKey.of(&message(number)));
-    }
-    Ok(())
 }
 
 /// Counts how often it is asked.

@@ -5,7 +5,7 @@ ghost use Rattle.buffer_pool.specs.Pool.{IsAtRest};
 
 use buffer_pool::{FilePage, Pool, PoolFault};
 use page_device::{
-    DeviceFault, FaultyDevice, MemDevice, PAGE_BYTES, PAYLOAD_BYTES, PageDevice, seal,
+    DeviceFault, FaultyDevice, MemDevice, PAGE_BYTES, PAYLOAD_BYTES, Page, PageDevice, seal,
 };
 use std::alloc::Global;
 use std::process::Abort;
@@ -80,6 +80,16 @@ fn run<D: PageDevice>(pool: &mut Pool<D>) -> Result<[u32; 3], PoolFault>
     Ok(read)
 }
 
+/// A pool of so many frames over a device.
+fn open<D: PageDevice + Drop>(alloc: Global, device: D, frames: usize) -> Result<Pool<D>, Fail>
+    ensures { IfOk result IsAtRest }
+{
+    match Pool::open(alloc, device, frames) {
+        Ok(pool) => Ok(pool),
+        Err((_, fault)) => Err(fault.into()),
+    }
+}
+
 /// A pool of so many frames over the three pages, whose nth transfer fails.
 fn faulty_pool(
     alloc: Global,
@@ -88,37 +98,35 @@ fn faulty_pool(
 ) -> Result<Pool<FaultyDevice<MemDevice>>, Fail>
     ensures { IfOk result IsAtRest }
 {
-    match Pool::open(alloc, FaultyDevice::new(three_pages(alloc)?, nth), frames) {
-        Ok(pool) => Ok(pool),
-        Err((_, fault)) => Err(fault.into()),
-    }
+    open(alloc, FaultyDevice::new(three_pages(alloc)?, nth), frames)
 }
 
-/// The nth transfer of a run fails, and nothing is lost by that.
-fn fails_once(rt: &(impl Abort + AllocGlobal), frames: usize, nth: u64) -> Result<(), Fail> {
-    let mut pool = faulty_pool(rt.alloc(), frames, nth)?;
+/// What a transfer that fails is told.
+const FAILED: PoolFault = PoolFault::Device(DeviceFault::Device);
+
+/// What a run reads.
+const READ: [u32; 3] = [2, 10, 11];
+
+/// Whether the nth transfer of a run fails, and nothing is lost by that.
+fn fails_once(alloc: Global, frames: usize, nth: u64) -> Result<bool, Fail> {
+    let mut pool = faulty_pool(alloc, frames, nth)?;
     let failed = run(&mut pool);
-    assert!(rt;
-        failed == Err(PoolFault::Device(DeviceFault::Device)),
-        "{frames}, {nth}"
-    );
-    assert_eq!(rt; pool.faults(), 1, "{frames}, {nth}");
-    assert!(rt; run(&mut pool)? == [2, 10, 11], "{frames}, {nth}");
-    Ok(())
+    let faults = pool.faults();
+    Ok(failed == Err(FAILED) && faults == 1 && run(&mut pool) == Ok(READ))
 }
 
-/// Where the transfer behind those of a run is to fail, it is the first of another pool.
-fn makes(rt: &(impl Abort + AllocGlobal), frames: usize, transfers: u64) -> Result<(), Fail> {
-    let mut pool = faulty_pool(rt.alloc(), frames, transfers.saturating_add(1))?;
-    assert!(rt; run(&mut pool)? == [2, 10, 11], "{frames} frames");
-    let mut again = match Pool::open(rt.alloc(), pool.into_device(), 2) {
-        Ok(pool) => pool,
-        Err((_, fault)) => return Err(fault.into()),
-    };
-    assert!(rt; get_all(&mut again).is_err(), "{frames} frames");
-    assert!(rt; get_all(&mut again)? == [2, 10, 11], "{frames} frames");
-    assert!(rt; get(&mut again, 3) == Err(PoolFault::Device(DeviceFault::PastEnd)));
-    Ok(())
+/// Whether a run makes so many transfers: the one behind them is to fail, and is the first of another
+/// pool.
+fn makes(alloc: Global, frames: usize, transfers: u64) -> Result<bool, Fail> {
+    let mut pool = faulty_pool(alloc, frames, transfers.saturating_add(1))?;
+    let is_read = run(&mut pool) == Ok(READ);
+    let mut again = open(alloc, pool.into_device(), 2)?;
+    Ok(
+        is_read
+            && get_all(&mut again).is_err()
+            && get_all(&mut again) == Ok(READ)
+            && get(&mut again, 3) == Err(PoolFault::Device(DeviceFault::PastEnd)),
+    )
 }
 
 /// With three frames: three reads, two writes and a sync. With fewer, two pages are read again.
@@ -128,7 +136,7 @@ const TRANSFERS: [(usize, u64); 3] = [(1, 8), (2, 8), (3, 6)];
 fn each_transfer_fails_in_turn(rt: HostRuntime) -> Result<(), Fail> {
     for (frames, transfers) in TRANSFERS {
         for nth in 1..=transfers {
-            fails_once(&rt, frames, nth)?;
+            assert!(rt; fails_once(rt.alloc(), frames, nth)?, "{frames}, {nth}");
         }
     }
     Ok(())
@@ -137,29 +145,30 @@ fn each_transfer_fails_in_turn(rt: HostRuntime) -> Result<(), Fail> {
 #[test]
 fn a_run_makes_so_many_transfers(rt: HostRuntime) -> Result<(), Fail> {
     for (frames, transfers) in TRANSFERS {
-        makes(&rt, frames, transfers)?;
+        assert!(rt; makes(rt.alloc(), frames, transfers)?, "{frames} frames");
     }
     Ok(())
+}
+
+/// Whether page 1 with these bytes is refused by this fault, and another one is read and changed.
+fn refuses(alloc: Global, bytes: &Page, fault: PoolFault) -> Result<bool, Fail> {
+    let mut device = three_pages(alloc)?;
+    device.write(1, bytes)?;
+    let mut pool = open(alloc, device, 1)?;
+    Ok(
+        get(&mut pool, 1) == Err(fault)
+            && get(&mut pool, 2) == Ok(2)
+            && change(&mut pool, 2, 7) == Ok(Some(7)),
+    )
 }
 
 #[test]
 fn a_page_that_no_pool_wrote_is_refused(rt: HostRuntime) -> Result<(), Fail> {
     let digest = PoolFault::Device(DeviceFault::BadDigest);
-    let rows = [
-        (seal(1, &[7; PAYLOAD_BYTES]), PoolFault::Malformed, 40),
-        ([1; PAGE_BYTES], digest, 21),
-    ];
-    for (bytes, fault, number) in rows {
-        let mut device = three_pages(rt.alloc())?;
-        device.write(1, &bytes)?;
-        let Ok(mut pool) = Pool::open(rt.alloc(), device, 1) else {
-            return Err(PoolFault::NoMemory.into());
-        };
-        assert!(rt; get(&mut pool, 1) == Err(fault), "{number}");
-        assert_eq!(rt; fault.number(), number);
-        assert_eq!(rt; get(&mut pool, 2)?, 2, "{number}");
-        assert_eq!(rt; change(&mut pool, 2, 7)?, Some(7), "{number}");
-    }
+    let spells_none = seal(1, &[7; PAYLOAD_BYTES]);
+    assert!(rt; refuses(rt.alloc(), &spells_none, PoolFault::Malformed)?);
+    assert!(rt; refuses(rt.alloc(), &[1; PAGE_BYTES], digest)?);
+    assert!(rt; (PoolFault::Malformed.number(), digest.number()) == (40, 21));
     Ok(())
 }
 
@@ -179,15 +188,18 @@ fn has_two_frames<D: PageDevice>(pool: &mut Pool<D>) -> Result<bool, PoolFault>
     Ok(has_two)
 }
 
+/// How many pages a device has that comes back where a pool is to have no frame, and the fault.
+fn without_frames(alloc: Global) -> Result<Option<(u32, u8)>, Fail> {
+    let Err((device, fault)) = Pool::open(alloc, three_pages(alloc)?, 0) else {
+        return Ok(None);
+    };
+    Ok(Some((device.pages(), fault.number())))
+}
+
 #[test]
 fn too_few_frames_are_refused(rt: HostRuntime) -> Result<(), Fail> {
-    let Err((device, fault)) = Pool::open(rt.alloc(), three_pages(rt.alloc())?, 0) else {
-        panic!(rt; "a pool without a frame");
-    };
-    assert_eq!(rt; (device.pages(), fault.number()), (3, 30));
-    let Ok(mut pool) = Pool::open(rt.alloc(), device, 1) else {
-        return Err(PoolFault::NoMemory.into());
-    };
-    assert!(rt; !has_two_frames(&mut pool)?);
+    assert!(rt; without_frames(rt.alloc())? == Some((3, 30)));
+    let mut pool = open(rt.alloc(), three_pages(rt.alloc())?, 1)?;
+    assert!(rt; has_two_frames(&mut pool) == Ok(false));
     Ok(())
 }

@@ -1,25 +1,11 @@
 //! Numbers worked by hand: positions, a chain of three ranges, and what splits and
 //! merges make of ranges.
 
-ghost use Rattle.std.specs.Prelude.{◌≡◌};
-
-use directory::{
-    Range, a_pseudokey_lies_in_exactly_one_range_of_a_tiling,
-    ascending_and_covering_once_is_tiling, buddies_of_a_tiling_are_neighbours, index,
-    joining_two_buddies_keeps_the_tiling, position, splitting_one_tile_keeps_the_tiling,
-    the_whole_range_is_a_tiling, walking_finds_the_tile, walking_meets_all_tiles,
-};
+use directory::{Range, index, position};
 use std::process::Abort;
 
 /// A quarter of all positions.
 const QUARTER: u64 = 1_073_741_824;
-
-fn range(depth: u8, pattern: u32) -> Range
-    ensures depth { result.depth ≡ depth }
-    ensures pattern { result.pattern ≡ pattern }
-{
-    Range { depth, pattern }
-}
 
 #[test]
 fn the_lowest_bit_counts_most(rt: HostRuntime) {
@@ -52,76 +38,54 @@ fn a_directory_reads_low_bits(rt: HostRuntime) {
     }
 }
 
-/// Patterns 0, 2, 1 at depths 2, 2, 1: their bits, from the lowest on, are 00, 01 and 1.
-#[test]
-fn three_ranges_stand_side_by_side(rt: HostRuntime) {
-    let chain = [range(2, 0), range(2, 2), range(1, 1)];
-    let bounds = [0, QUARTER, 2 * QUARTER, 4 * QUARTER];
-    for place in 0..3 {
-        assert_eq!(rt;
-            u64::from(chain[place].start()),
-            bounds[place],
-            "place {place}"
-        );
-        assert_eq!(rt; chain[place].stop(), bounds[place + 1], "place {place}");
-        assert!(rt; chain[place].is_tile_at(bounds[place]), "place {place}");
-        assert!(rt;
-            !chain[place].is_tile_at(bounds[place + 1]),
-            "place {place}"
-        );
+/// Where a range begins and stops, and the patterns of its buddy and its parent; none of what is no
+/// range, and of the whole.
+fn told(range: Range) -> Option<(u64, u64, u32, u32)> {
+    if !range.is_valid() || range.depth == 0 {
+        return None;
     }
+    let (start, stop) = (u64::from(range.start()), range.stop());
+    Some((start, stop, range.buddy().pattern, range.parent().pattern))
 }
 
+/// Patterns 0, 2, 1 at depths 2, 2, 1 stand side by side: their bits, from the lowest on, are 00, 01 and
+/// 1. Those of 1 and 5 at depth 3, 100 and 101, are the halves of the last one's first half.
 #[test]
-fn each_pseudokey_lies_in_one_of_three_ranges(rt: HostRuntime) {
-    for (pseudokey, want) in [
-        (0, 0),
-        (1, 2),
-        (2, 1),
-        (3, 2),
-        (4, 0),
-        (6, 1),
-        (0xffff_fffe, 1),
-        (0xffff_ffff, 2),
+fn ranges_are_those_of_their_bits(rt: HostRuntime) {
+    for (depth, pattern, wanted) in [
+        (2, 0, Some((0, QUARTER, 2, 0))),
+        (2, 2, Some((QUARTER, 2 * QUARTER, 0, 0))),
+        (1, 1, Some((2 * QUARTER, 4 * QUARTER, 0, 0))),
+        (3, 1, Some((2 * QUARTER, 5 * QUARTER / 2, 5, 1))),
+        (3, 5, Some((5 * QUARTER / 2, 3 * QUARTER, 1, 1))),
+        (3, 8, None),
+        (33, 0, None),
     ] {
-        for (place, depth, pattern) in [(0, 2, 0), (1, 2, 2), (2, 1, 1)] {
-            let covers = range(depth, pattern).covers(pseudokey);
-            assert_eq!(rt; covers, place == want, "pseudokey {pseudokey} at {place}");
-        }
+        assert!(rt;
+            told(Range { depth, pattern }) == wanted,
+            "{pattern} at depth {depth}"
+        );
     }
 }
 
-#[test]
-fn buddies_are_halves(rt: HostRuntime) {
-    let low = range(3, 1);
-    let high = range(3, 5);
-    assert_eq!(rt; range(2, 1).lower_half(), low);
-    assert_eq!(rt; range(2, 1).upper_half(), high);
-    assert_eq!(rt; low.buddy(), high);
-    assert_eq!(rt; high.buddy(), low);
-    assert_eq!(rt; low.parent(), range(2, 1));
-    assert_eq!(rt; high.parent(), range(2, 1));
-    assert!(rt; low.is_lower_half());
-    assert!(rt; !high.is_lower_half());
+/// The halves of a range; none of what is no range, and of one that is as deep as any.
+fn halves(range: Range) -> Option<(Range, Range)> {
+    if !range.is_valid() || range.depth >= 32 {
+        return None;
+    }
+    Some((range.lower_half(), range.upper_half()))
 }
 
 #[test]
-fn patterns_end_at_the_depth(rt: HostRuntime) {
-    assert_eq!(rt; Range::whole(), range(0, 0));
-    assert!(rt; range(3, 7).is_valid());
-    assert!(rt; !range(3, 8).is_valid());
-    assert!(rt; range(32, 0xffff_ffff).is_valid());
-    assert!(rt; !range(33, 0).is_valid());
-}
-
-#[test]
-fn laws_hold_of_ranges_and_of_page_numbers(_rt: HostRuntime) {
-    the_whole_range_is_a_tiling::<Range>();
-    a_pseudokey_lies_in_exactly_one_range_of_a_tiling::<Range>();
-    splitting_one_tile_keeps_the_tiling::<Range>();
-    joining_two_buddies_keeps_the_tiling::<Range>();
-    buddies_of_a_tiling_are_neighbours::<Range>();
-    walking_finds_the_tile::<u32>();
-    walking_meets_all_tiles::<u32>();
-    ascending_and_covering_once_is_tiling::<Range>();
+fn halves_have_a_bit_more(rt: HostRuntime) {
+    let (depth, pattern) = (2, 1);
+    let low = Range {
+        depth: 3,
+        pattern: 1,
+    };
+    let high = Range {
+        depth: 3,
+        pattern: 5,
+    };
+    assert!(rt; halves(Range { depth, pattern }) == Some((low, high)));
 }
