@@ -5,13 +5,13 @@ use crate::playing::{Player, Shared};
 use bucket_page::NumberKey;
 use page_device::PageDevice;
 use queue_model::{Call, Entry};
-use std::alloc::Global;
+use std::alloc::{AllocError, Global};
 use std::test::Fail;
 use workers::interleavings::interleaving_core::CloseFault;
 use workers::{Base, Ended, Ending, Fault, Gate, GaugePass, Room, Seat, Stopper};
 
 /// How a service ends.
-#[derive(Clone, Copy, Debug, PartialEq, Eq)]
+#[derive(Clone, Copy)]
 pub enum End {
     /// It is closed, and its file is written.
     Closed,
@@ -27,8 +27,10 @@ pub struct Left<D> {
     pub device: D,
     /// What was decided.
     pub journal: Vec<Entry>,
-    /// What each seat was told beside answers, from seat 1 on.
-    pub faults: Vec<Option<Fault>>,
+    /// What seat 1 was told beside answers.
+    pub first: Option<Fault>,
+    /// What the last seat was told beside answers.
+    pub last: Option<Fault>,
     /// How many calls were taken back.
     pub taken_back: u32,
     /// How many calls a pass of no seat was shown once all threads had ended.
@@ -49,41 +51,21 @@ pub fn shown<D: PageDevice + Drop, G: Gate, N: Room + Base>(
     }
 }
 
-/// Ends a service whose threads have ended; where none was told a fault it is first closed with a seat
-/// missing.
+/// Ends a service whose threads have ended.
 pub fn close<D: PageDevice + Drop, G: Gate + Drop, N: Room + Base>(
-    alloc: Global,
     service: Shared<D, G, N>,
+    stopper: Stopper<N>,
     players: Vec<Player<N>>,
     shown: u64,
     end: End,
 ) -> Result<Left<D>, Fail> {
-    let mut faults = Vec::new(alloc);
-    let mut seats = Vec::new(alloc);
-    let mut stopper = None;
-    let mut taken_back: u32 = 0;
-    for player in players {
-        faults.push(player.fault)?;
-        seats.push(player.seat)?;
-        stopper = stopper.or(player.stopper);
-        taken_back = taken_back.saturating_add(player.taken_back);
-    }
-    let Some(stopper) = stopper else {
-        return Err(Fail::from("one seat may stop the system"));
-    };
-    let (service, seats, stopper) = if faults.iter().all(Option::is_none) {
-        come_back(service, seats, stopper)?
-    } else {
-        (service, seats, stopper)
-    };
-    let (ended, fault) = match end {
-        End::LetGo => (service.abandon(seats, stopper), None),
-        End::Closed => match service.close(seats, stopper) {
-            Ending::Closed(ended) => (ended, None),
-            Ending::Fault(ended, fault) => (ended, Some(fault)),
-            Ending::Missing(_, _, _) => return Err(Fail::from("no seat is missing")),
-        },
-    };
+    let alloc: Global = *players.allocator();
+    let is_well = are_well(players.as_slice());
+    let first = fault_of(players.first());
+    let last = fault_of(players.last());
+    let taken_back = taken_back(players.as_slice());
+    let seats = seats_of(alloc, players)?;
+    let (ended, fault) = ended(service, seats, stopper, is_well, end)?;
     compare(alloc, &ended, fault, shown)?;
     let Ended {
         device,
@@ -94,19 +76,62 @@ pub fn close<D: PageDevice + Drop, G: Gate + Drop, N: Room + Base>(
     Ok(Left {
         device,
         journal,
-        faults,
+        first,
+        last,
         taken_back,
         shown,
         fault,
     })
 }
 
-/// Where a seat is missing, service and seats come back.
-fn come_back<D: PageDevice + Drop, G: Gate + Drop, N: Room + Base>(
+/// What a player was told beside answers, if there is one.
+fn fault_of<N: Room + Base>(player: Option<&Player<N>>) -> Option<Fault> {
+    player?.fault
+}
+
+/// Whether no player was told a fault.
+fn are_well<N: Room + Base>(players: &[Player<N>]) -> bool {
+    for player in players {
+        if player.fault.is_some() {
+            return false;
+        }
+    }
+    true
+}
+
+/// How many calls of players were taken back.
+fn taken_back<N: Room + Base>(players: &[Player<N>]) -> u32 {
+    let mut calls: u32 = 0;
+    for player in players {
+        calls = calls.saturating_add(player.taken_back);
+    }
+    calls
+}
+
+/// The seats of players.
+fn seats_of<N: Room + Base>(
+    alloc: Global,
+    players: Vec<Player<N>>,
+) -> Result<Vec<Seat<N>>, AllocError> {
+    let mut seats = Vec::new(alloc);
+    for player in players {
+        seats.push(player.seat)?;
+    }
+    Ok(seats)
+}
+
+/// Ends a service. Where no seat was told a fault it is first closed with one missing: then service and
+/// seats come back.
+fn ended<D: PageDevice + Drop, G: Gate + Drop, N: Room + Base>(
     service: Shared<D, G, N>,
     seats: Vec<Seat<N>>,
     stopper: Stopper<N>,
-) -> Result<(Shared<D, G, N>, Vec<Seat<N>>, Stopper<N>), Fail> {
+    is_well: bool,
+    end: End,
+) -> Result<(Ended<D, N>, Option<CloseFault>), Fail> {
+    if !is_well {
+        return finish(service, seats, stopper, end);
+    }
     let mut seats = seats;
     let Some(last) = seats.pop() else {
         return Err(Fail::from("a service has seats"));
@@ -115,9 +140,26 @@ fn come_back<D: PageDevice + Drop, G: Gate + Drop, N: Room + Base>(
         Ending::Missing(unclosed, back, stopper) => {
             let mut seats = back;
             seats.push(last)?;
-            Ok((unclosed.reopen(), seats, stopper))
+            finish(unclosed.reopen(), seats, stopper, end)
         }
         _ => Err(Fail::from("it is closed though a seat is missing")),
+    }
+}
+
+/// Ends a service all of whose seats are there, and tells why it was not closed well.
+fn finish<D: PageDevice + Drop, G: Gate + Drop, N: Room + Base>(
+    service: Shared<D, G, N>,
+    seats: Vec<Seat<N>>,
+    stopper: Stopper<N>,
+    end: End,
+) -> Result<(Ended<D, N>, Option<CloseFault>), Fail> {
+    match end {
+        End::LetGo => Ok((service.abandon(seats, stopper), None)),
+        End::Closed => match service.close(seats, stopper) {
+            Ending::Closed(ended) => Ok((ended, None)),
+            Ending::Fault(ended, fault) => Ok((ended, Some(fault))),
+            Ending::Missing(_, _, _) => Err(Fail::from("no seat is missing")),
+        },
     }
 }
 

@@ -2,10 +2,10 @@
 
 use crate::asks::{get, receive, send, set};
 use crate::closing::{End, Left};
-use crate::files::{copy_of, is_file_of, new_file, open, prepared};
+use crate::files::{is_file_of, new_file, open, prepared};
 use crate::playing::{Deed, Plan, play};
 use file_check::CheckFault;
-use page_device::{FaultyDevice, MemDevice, PageDevice};
+use page_device::{FaultyDevice, MemDevice, PageDevice, copied};
 use queue_model::Call;
 use std::alloc::Global;
 use std::sync::Wait;
@@ -37,36 +37,17 @@ type Faulty = FaultyDevice<MemDevice>;
 /// the check on.
 #[test]
 fn calls_in_turn_are_answered_or_told_that_a_step_has_failed(rt: HostRuntime) -> Result<(), Fail> {
-    let alloc = rt.alloc();
-    let mut before = queue(alloc)?;
-    let scripts = Vec::from_array(alloc, [Vec::new(alloc), receives(alloc)?])?;
-    for _ in 0..MESSAGES {
-        before.push(message(alloc)?)?;
-    }
-    fail_each(
-        &rt,
-        alloc,
-        &Plan {
-            before,
-            scripts,
-            rounds: 1,
-            end: End::Closed,
-        },
-        1,
-    )
+    let scripts = [Vec::new(rt.alloc()), receives(rt.alloc())?];
+    let plan = plan(rt.alloc(), MESSAGES, scripts)?;
+    fail_each(&rt, rt.alloc(), &plan, 1)
 }
 
 /// 40 messages are received while they are sent; one of five transfers fails in turn.
 #[test]
 fn calls_at_once_are_answered_or_told_that_a_step_has_failed(rt: HostRuntime) -> Result<(), Fail> {
-    let alloc = rt.alloc();
-    let plan = Plan {
-        before: queue(alloc)?,
-        scripts: Vec::from_array(alloc, [sends(alloc)?, receives(alloc)?])?,
-        rounds: 1,
-        end: End::Closed,
-    };
-    fail_each(&rt, alloc, &plan, 5)
+    let scripts = [sends(rt.alloc())?, receives(rt.alloc())?];
+    let plan = plan(rt.alloc(), 0, scripts)?;
+    fail_each(&rt, rt.alloc(), &plan, 5)
 }
 
 /// 64 messages do not fit a file of 258 pages: the first that has no room is told so, and no step has
@@ -74,25 +55,30 @@ fn calls_at_once_are_answered_or_told_that_a_step_has_failed(rt: HostRuntime) ->
 #[test]
 fn a_send_without_room_is_told_so(rt: HostRuntime) -> Result<(), Fail> {
     let alloc = rt.alloc();
-    let mut before = queue(alloc)?;
-    for _ in 0..64 {
-        before.push(message(alloc)?)?;
-    }
-    let plan = Plan {
-        before,
-        scripts: Vec::new(alloc),
-        rounds: 0,
-        end: End::Closed,
-    };
+    let plan = plan(alloc, 64, [Vec::new(alloc), Vec::new(alloc)])?;
     let left = play(&rt, alloc, prepared(alloc, 258, 2)?, Open, &plan)?;
-    assert!(rt; left.faults.first() == Some(&Some(Fault::NoRoom)));
-    assert!(rt; left.fault.is_none());
+    assert!(rt; left.first == Some(Fault::NoRoom) && left.fault.is_none());
     Ok(())
 }
 
-/// A queue that may have as many bytes as any.
-fn queue(alloc: Global) -> Result<Vec<Call>, Fail> {
-    Ok(Vec::from_array(alloc, [get(7), set(1, 65_536)])?)
+/// Seat 1 makes a queue that may have as many bytes as any and sends so many messages as long as any; then
+/// two seats play their scripts.
+fn plan(
+    alloc: Global,
+    messages: u32,
+    scripts: [Vec<Deed<'static>>; 2],
+) -> Result<Plan<'static>, Fail> {
+    let scripts = Vec::from_array(alloc, scripts)?;
+    let mut before = Vec::from_array(alloc, [get(7), set(1, 65_536)])?;
+    for _ in 0..messages {
+        before.push(message(alloc)?)?;
+    }
+    Ok(Plan {
+        before,
+        scripts,
+        rounds: 1,
+        end: End::Closed,
+    })
 }
 
 /// A message as long as any.
@@ -116,15 +102,6 @@ fn receives(alloc: Global) -> Result<Vec<Deed<'static>>, Fail> {
     Ok(script)
 }
 
-/// What comes of a run one of whose transfers is to fail.
-#[derive(Clone, Copy, Debug, PartialEq, Eq)]
-enum Run {
-    /// None failed.
-    Well,
-    /// One failed.
-    Failed,
-}
-
 /// Plays a plan again and again, each time with a transfer failed that is so much later, until none
 /// is.
 fn fail_each<R: Threads + Wait + Clock + Sync>(
@@ -136,8 +113,8 @@ fn fail_each<R: Threads + Wait + Clock + Sync>(
     let mut file = new_file(alloc, 352)?;
     let mut nth: u64 = FIRST;
     for _ in 0..MOST_TRANSFERS {
-        let device = FaultyDevice::new(copy_of(alloc, &mut file)?, nth);
-        if fail(rt, alloc, device, plan)? == Run::Well {
+        let device = FaultyDevice::new(copied(alloc, &mut file)?, nth);
+        if !fails(rt, alloc, device, plan)? {
             return Ok(());
         }
         nth = nth.saturating_add(later);
@@ -145,28 +122,28 @@ fn fail_each<R: Threads + Wait + Clock + Sync>(
     Err(Fail::from("each run has failed"))
 }
 
-/// Plays a plan on a device one of whose transfers is to fail.
-fn fail<R: Threads + Wait + Clock + Sync>(
+/// Plays a plan on a device one of whose transfers is to fail. Whether one has failed.
+fn fails<R: Threads + Wait + Clock + Sync>(
     rt: &R,
     alloc: Global,
     device: Faulty,
     plan: &Plan<'_>,
-) -> Result<Run, Fail> {
+) -> Result<bool, Fail> {
     match open(alloc, device, 2, FRAMES) {
-        Ok(prepared) => run_of(alloc, play(rt, alloc, prepared, Open, plan)?),
-        Err((device, OpenFault::Wrong(_))) if device.faults() == 1 => Ok(Run::Failed),
+        Ok(prepared) => has_failed(alloc, play(rt, alloc, prepared, Open, plan)?),
+        Err((device, OpenFault::Wrong(_))) if device.faults() == 1 => Ok(true),
         Err((_, fault)) => Err(fault.into()),
     }
 }
 
-/// What has come of a run. Where a step has failed, each call from there on was told so, also one that
+/// Whether a transfer of a run has failed. Where a step has failed, each call from there on was told so, also one that
 /// waited; else all are answered. A transfer that failed is told by then, but for one of the check before
 /// the first call, which is made once more.
-fn run_of(alloc: Global, left: Left<Faulty>) -> Result<Run, Fail> {
+fn has_failed(alloc: Global, left: Left<Faulty>) -> Result<bool, Fail> {
     let Left {
         device,
         journal,
-        faults,
+        last,
         fault,
         ..
     } = left;
@@ -175,12 +152,12 @@ fn run_of(alloc: Global, left: Left<Faulty>) -> Result<Run, Fail> {
     let is_right = match fault {
         None => entries == ENTRIES && is_file_of(alloc, device.into_inner(), journal.as_slice()),
         Some(CloseFault::Device) => failed == 1 && entries == ENTRIES,
-        Some(CloseFault::Failed) => failed == 1 && faults.last() == Some(&Some(Fault::Failed)),
+        Some(CloseFault::Failed) => failed == 1 && last == Some(Fault::Failed),
     };
     if !is_right {
         return Err(Fail::new(format_args!(
             "{failed} transfers failed, the end is {fault:?}, {entries} calls are decided",
         )));
     }
-    Ok(if failed == 0 { Run::Well } else { Run::Failed })
+    Ok(failed != 0)
 }

@@ -5,7 +5,7 @@ ghost use Rattle.std.specs.Prelude.{◌≤◌};
 use crate::plain::{have_same_queues, replayed};
 use bucket_page::NumberKey;
 use file_check::{Checked, check};
-use page_device::{MemDevice, PAGE_BYTES, PageDevice};
+use page_device::{MemDevice, PageDevice};
 use queue_model::{Caller, Entry};
 use record_file::format;
 use std::alloc::Global;
@@ -14,7 +14,7 @@ use workers::Prepared;
 use workers::interleavings::interleaving_core::{Kernel, OpenFault};
 
 /// The most seats.
-const SEATS: usize = 64;
+pub const SEATS: usize = 64;
 
 /// Frames enough for all pages of a file here.
 pub const FRAMES: usize = 352;
@@ -39,17 +39,6 @@ pub fn new_file(alloc: Global, pages: u32) -> Result<MemDevice, Fail> {
     let mut device = MemDevice::new(alloc);
     format(&mut device, pages.clamp(258, 352))?;
     Ok(device)
-}
-
-/// A copy of a file.
-pub fn copy_of(alloc: Global, device: &mut MemDevice) -> Result<MemDevice, Fail> {
-    let mut copy = MemDevice::new(alloc);
-    let mut bytes = [0; PAGE_BYTES];
-    for page in 0..device.pages() {
-        device.read(page, &mut bytes)?;
-        copy.extend(&bytes)?;
-    }
-    Ok(copy)
 }
 
 /// Whether a device has a right file, that of the queues that a journal leaves.

@@ -9,31 +9,51 @@ use crate::plain::is_told;
 use crate::playing::{Plan, play};
 use queue_model::{Answer, Call};
 use std::alloc::Global;
+use std::sync::Wait;
 use std::test::Fail;
+use std::thread::Threads;
+use std::time::Clock;
 use workers::Open;
 
 #[test]
 fn the_first_script_is_answered_and_counted(rt: HostRuntime) -> Result<(), Fail> {
-    let alloc = rt.alloc();
     for (end, entries) in [(End::Closed, 4), (End::LetGo, 0)] {
-        let plan = Plan {
-            before: script(alloc)?,
-            scripts: Vec::new(alloc),
-            rounds: 0,
-            end,
-        };
-        let Left {
-            device,
-            journal,
-            shown,
-            ..
-        } = play(&rt, alloc, prepared(alloc, 258, 2)?, Open, &plan)?;
-        assert!(rt; is_told(journal.as_slice(), 1, answers(alloc)?.as_slice()));
-        assert_eq!(rt; shown, 4);
-        let written = journal.get(..entries).unwrap_or(&[]);
-        assert!(rt; is_file_of(alloc, device, written));
+        assert!(rt;
+            is_right(&rt, rt.alloc(), end, entries)?,
+            "{entries} entries"
+        );
     }
     Ok(())
+}
+
+/// Whether its answers come and are counted, and so many of its calls are in the file.
+fn is_right<R: Threads + Wait + Clock + Sync>(
+    rt: &R,
+    alloc: Global,
+    end: End,
+    entries: usize,
+) -> Result<bool, Fail> {
+    let answers = answers(alloc)?;
+    let plan = plan(alloc, end)?;
+    let Left {
+        device,
+        journal,
+        shown,
+        ..
+    } = play(rt, alloc, prepared(alloc, 258, 2)?, Open, &plan)?;
+    let journal = journal.as_slice();
+    let written = journal.get(..entries).unwrap_or(&[]);
+    Ok(shown == 4 && is_told(journal, 1, answers.as_slice()) && is_file_of(alloc, device, written))
+}
+
+/// Seat 1 makes its calls, and nobody another.
+fn plan(alloc: Global, end: End) -> Result<Plan<'static>, Fail> {
+    Ok(Plan {
+        before: script(alloc)?,
+        scripts: Vec::new(alloc),
+        rounds: 0,
+        end,
+    })
 }
 
 /// Its calls.

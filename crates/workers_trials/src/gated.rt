@@ -8,13 +8,13 @@ use crate::files::prepared;
 use crate::flag::{Flag, LOOKS};
 use crate::plain::is_told;
 use crate::playing::{Deed, Plan, play};
-use queue_model::{Answer, Call};
+use queue_model::{Answer, Call, Entry};
 use std::alloc::Global;
 use std::sync::{Mutex, Wait};
 use std::test::Fail;
 use std::time::Clock;
 use step_rules::Kind;
-use workers::Gate;
+use workers::{Gate, Open};
 
 /// How often the flag is looked at that is to stay down.
 const MORE_LOOKS: u32 = 1000;
@@ -46,7 +46,8 @@ impl Shown {
     }
 }
 
-/// It holds seat 1 after a WriteOld, until a Receive was answered, and a while longer.
+/// It asks for as many steps a hold as the gate of the program. It holds seat 1 after a WriteOld, until a
+/// Receive was answered, and a while longer.
 #[derive(Drop)]
 struct Holds<'a, R: Wait + Clock> {
     rt: &'a R,
@@ -70,35 +71,46 @@ impl<R: Wait + Clock> Gate for Holds<'_, R> {
             }
         }
     }
+
+    fn steps_at_once(&self) -> u32 {
+        Open.steps_at_once()
+    }
 }
 
 #[test]
 fn a_receive_is_answered_while_a_send_is_held(rt: HostRuntime) -> Result<(), Fail> {
     let alloc = rt.alloc();
+    let prepared = prepared(alloc, 288, 3)?;
     let shown = Shown::new();
+    let plan = plan(alloc, &shown)?;
     let kinds = Mutex::new(Vec::new(alloc));
     let gate = Holds {
         rt: &rt,
         shown: &shown,
         kinds: &kinds,
     };
-    let plan = plan(alloc, &shown)?;
-    let left = play(&rt, alloc, prepared(alloc, 288, 3)?, gate, &plan)?;
+    let left = play(&rt, alloc, prepared, gate, &plan)?;
     assert!(rt; shown.in_order.is_up());
-    assert!(rt; is_told(left.journal.as_slice(), 1, answers(alloc)?.as_slice()));
-    assert!(rt;
-        is_told(
-            left.journal.as_slice(),
-            2,
-            &[received(alloc, 2, 1, 2, b"b")?]
-        )
-    );
-    assert!(rt; is_told(left.journal.as_slice(), 3, &[info(7, 7168, 0, 0)]));
-    assert!(rt;
-        kinds.into_inner().as_slice()
-            == moved_kinds(alloc, before(alloc)?, long(alloc)?)?.as_slice()
-    );
+    assert!(rt; are_answered(alloc, left.journal.as_slice())?);
+    assert!(rt; are_those_alone(alloc, kinds.into_inner().as_slice())?);
     Ok(())
+}
+
+/// Whether each seat was answered as it should.
+fn are_answered(alloc: Global, journal: &[Entry]) -> Result<bool, Fail> {
+    let taken = received(alloc, 2, 1, 2, b"b")?;
+    let sent = answers(alloc)?;
+    Ok(
+        is_told(journal, 1, sent.as_slice())
+            && is_told(journal, 2, &[taken])
+            && is_told(journal, 3, &[info(7, 7168, 0, 0)]),
+    )
+}
+
+/// Whether the Send moves by these kinds on a kernel by itself.
+fn are_those_alone(alloc: Global, kinds: &[Kind]) -> Result<bool, Fail> {
+    let alone = moved_kinds(alloc, before(alloc)?, long(alloc)?)?;
+    Ok(kinds == alone.as_slice())
 }
 
 /// The calls that come before: two queues, and six messages of 1,024 bytes on the first. The next

@@ -22,8 +22,6 @@ mod flag;
 #[cfg(test)]
 mod gated;
 #[cfg(test)]
-mod interleaved;
-#[cfg(test)]
 mod plain;
 #[cfg(test)]
 mod playing;

@@ -5,18 +5,19 @@ ghost use Rattle.bucket_page.specs.Pseudokeys.{number_key};
 ghost use Rattle.workers.specs.Opening.{origin_of};
 
 use crate::closing::{End, Left, close, shown};
+use crate::files::SEATS;
 use crate::flag::{Flag, LOOKS};
 use bucket_page::NumberKey;
 use page_device::PageDevice;
 use queue_model::Call;
-use std::alloc::Global;
+use std::alloc::{AllocError, Global};
 use std::marker::Brand;
 use std::sync::Wait;
 use std::test::Fail;
 use std::thread;
 use std::thread::Threads;
 use std::time::{Clock, Duration, Instant};
-use workers::{Base, Fault, Gate, Prepared, Room, Seat, Service, Started, Stopper, Unanswered};
+use workers::{Base, Fault, Gate, Prepared, Room, Seat, Service, Started, Unanswered};
 
 /// What a seat does next.
 #[derive(Drop)]
@@ -25,8 +26,6 @@ pub enum Deed<'a> {
     Call(Call),
     /// It makes a call, and waits for its answer so long at most.
     CallWithin(Call, Duration),
-    /// It stops the system, where it is the last seat.
-    Stop,
     /// It waits for a flag to come up, but not for ever.
     Await(&'a Flag),
     /// It raises a flag.
@@ -49,12 +48,10 @@ pub struct Plan<'a> {
 /// A service of trials.
 pub type Shared<D, G, N> = Service<D, NumberKey, G, N>;
 
-/// A seat, and the fault that it was told: then it makes no more calls. The last seat may stop the
-/// system.
+/// A seat, and the fault that it was told: then it makes no more calls.
 #[derive(Drop)]
 pub struct Player<N: Room + Base> {
     pub seat: Seat<N>,
-    pub stopper: Option<Stopper<N>>,
     pub fault: Option<Fault>,
     /// How many of its calls were taken back, each as it was, once its time was over.
     pub taken_back: u32,
@@ -100,94 +97,68 @@ fn play_named<
     else {
         return Err(Fail::from("it starts"));
     };
-    let players = play_rounds(rt, &service, seated(alloc, seats, stopper)?, plan)?;
+    let mut players = seated(alloc, seats)?;
+    play_rounds(rt, &service, players.as_mut_slice(), plan);
     let shown = shown(&service, passes);
-    close(alloc, service, players, shown, plan.end)
+    close(service, stopper, players, shown, plan.end)
 }
 
 /// A player for each seat.
 fn seated<N: Room + Base>(
     alloc: Global,
     seats: Vec<Seat<N>>,
-    stopper: Stopper<N>,
-) -> Result<Vec<Player<N>>, Fail> {
+) -> Result<Vec<Player<N>>, AllocError> {
     let mut players = Vec::new(alloc);
     for seat in seats {
         players.push(Player {
             seat,
-            stopper: None,
             fault: None,
             taken_back: 0,
         })?;
     }
-    if let Some(last) = players.last_mut() {
-        last.stopper = Some(stopper);
-    }
     Ok(players)
 }
 
-/// The first makes the calls that come before, and all play each round.
+/// The first makes the calls that come before, and all play each round: each its script in a thread of
+/// its own.
 fn play_rounds<
     D: PageDevice + Drop + Send,
     G: Gate + Sync,
     N: Room + Base + Send + Sync,
     R: Threads + Wait + Clock + Sync,
->(
-    rt: &R,
-    service: &Shared<D, G, N>,
-    players: Vec<Player<N>>,
-    plan: &Plan<'_>,
-) -> Result<Vec<Player<N>>, Fail> {
-    let mut players = players;
+>(rt: &R, service: &Shared<D, G, N>, players: &mut [Player<N>], plan: &Plan<'_>) {
     if let Some(first) = players.first_mut() {
         for call in &plan.before {
             first.call(rt, service, call);
         }
     }
-    for _ in 0..plan.rounds {
-        players = play_round(rt, service, players, plan)?;
-    }
-    Ok(players)
-}
-
-/// Each plays its script in a thread of its own.
-fn play_round<
-    D: PageDevice + Drop + Send,
-    G: Gate + Sync,
-    N: Room + Base + Send + Sync,
-    R: Threads + Wait + Clock + Sync,
->(
-    rt: &R,
-    service: &Shared<D, G, N>,
-    players: Vec<Player<N>>,
-    plan: &Plan<'_>,
-) -> Result<Vec<Player<N>>, Fail> {
     let scripts = plan.scripts.as_slice();
-    Ok(thread::map_vec(
-        rt,
-        players,
-        &|player| { play_script(rt, service, player, scripts) },
-    )?)
-}
-
-/// A seat plays the script of its number.
-fn play_script<D: PageDevice + Drop, G: Gate, N: Room + Base, R: Wait + Clock>(
-    rt: &R,
-    service: &Shared<D, G, N>,
-    player: Player<N>,
-    scripts: &[Vec<Deed<'_>>],
-) -> Player<N> {
-    let mut player = player;
-    let place = usize::from(player.seat.number()).saturating_sub(1);
-    if let Some(script) = scripts.get(place) {
-        for deed in script {
-            player.act(rt, service, deed);
-        }
+    for _ in 0..plan.rounds {
+        thread::for_each_mut(
+            rt,
+            players,
+            SEATS,
+            &|_, player: &mut Player<N>| { player.play(rt, service, scripts) },
+        );
     }
-    player
 }
 
 impl<N: Room + Base> Player<N> {
+    /// It plays the script of its number.
+    fn play<D: PageDevice + Drop, G: Gate, R: Wait + Clock>(
+        &mut self,
+        rt: &R,
+        service: &Shared<D, G, N>,
+        scripts: &[Vec<Deed<'_>>],
+    ) {
+        let place = usize::from(self.seat.number()).saturating_sub(1);
+        if let Some(script) = scripts.get(place) {
+            for deed in script {
+                self.act(rt, service, deed);
+            }
+        }
+    }
+
     /// It does one thing.
     fn act<D: PageDevice + Drop, G: Gate, R: Wait + Clock>(
         &mut self,
@@ -198,11 +169,6 @@ impl<N: Room + Base> Player<N> {
         match deed {
             Deed::Call(call) => self.call(rt, service, call),
             Deed::CallWithin(call, limit) => self.call_within(rt, service, call, *limit),
-            Deed::Stop => {
-                if let Some(stopper) = &mut self.stopper {
-                    service.stop(rt, stopper);
-                }
-            }
             Deed::Await(flag) => {
                 flag.comes_up(rt, LOOKS);
             }

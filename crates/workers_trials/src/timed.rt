@@ -7,58 +7,57 @@ use crate::files::{is_file_of, prepared};
 use crate::flag::Flag;
 use crate::plain::is_told;
 use crate::playing::{Deed, Plan, play};
-use queue_model::Answer;
+use queue_model::{Answer, Entry};
 use std::alloc::Global;
+use std::sync::Wait;
 use std::test::Fail;
-use std::time::Duration;
+use std::thread::Threads;
+use std::time::{Clock, Duration};
 use workers::Open;
 
 /// How often each of three seats calls.
 const CALLS: u32 = 400;
+
+/// How often a Receive with time enough waits for its message.
+const ROUNDS: u32 = 200;
 
 /// A Receive of an empty queue is taken back when its time is over, and takes no message that is sent
 /// then. Where one stands a Receive is answered though it has no time to wait.
 #[test]
 fn a_receive_that_waits_is_taken_back_when_its_time_is_over(rt: HostRuntime) -> Result<(), Fail> {
     let alloc = rt.alloc();
+    let prepared = prepared(alloc, 258, 2)?;
     let (over, sent) = (Flag::new(), Flag::new());
-    let plan = one_is_taken_back(alloc, &over, &sent)?;
-    let left = play(&rt, alloc, prepared(alloc, 258, 2)?, Open, &plan)?;
-    let journal = left.journal.as_slice();
+    let plan = plan(alloc, one_is_taken_back(alloc, &over, &sent)?, 1)?;
+    let left = play(&rt, alloc, prepared, Open, &plan)?;
     assert_eq!(rt; left.taken_back, 1);
-    assert!(rt;
-        is_told(
-            journal,
-            1,
-            &[Answer::Id(1), received(alloc, 1, 2, 3, b"ab")?]
-        )
-    );
-    assert!(rt; is_told(journal, 2, &[Answer::Sent(1)]));
+    assert!(rt; are_answered(alloc, left.journal.as_slice())?);
     Ok(())
 }
 
-fn one_is_taken_back<'a>(alloc: Global, over: &'a Flag, sent: &'a Flag) -> Result<Plan<'a>, Fail> {
-    let first = Vec::from_array(
-        alloc,
-        [
-            Deed::CallWithin(receive(1, 10), Duration::from_millis(20)),
-            Deed::Raise(over),
-            Deed::Await(sent),
-            Deed::CallWithin(receive(1, 10), Duration::ZERO),
-        ],
-    )?;
+/// Seat 1 receives before anything is sent, and again once seat 2 has sent.
+fn one_is_taken_back<'a>(
+    alloc: Global,
+    over: &'a Flag,
+    sent: &'a Flag,
+) -> Result<Vec<Vec<Deed<'a>>>, Fail> {
+    let first = [
+        Deed::CallWithin(receive(1, 10), Duration::from_millis(20)),
+        Deed::Raise(over),
+        Deed::Await(sent),
+        Deed::CallWithin(receive(1, 10), Duration::ZERO),
+    ];
+    let first = Vec::from_array(alloc, first)?;
     let call = Deed::Call(send(alloc, 1, 3, b"ab")?);
     let second = Vec::from_array(alloc, [Deed::Await(over), call, Deed::Raise(sent)])?;
-    Ok(Plan {
-        before: Vec::from_array(alloc, [get(7)])?,
-        scripts: Vec::from_array(alloc, [first, second])?,
-        rounds: 1,
-        end: End::Closed,
-    })
+    Ok(Vec::from_array(alloc, [first, second])?)
 }
 
-/// How often a Receive with time enough waits for its message.
-const ROUNDS: u32 = 200;
+/// Whether seat 1 has received the message of seat 2.
+fn are_answered(alloc: Global, journal: &[Entry]) -> Result<bool, Fail> {
+    let taken = received(alloc, 1, 2, 3, b"ab")?;
+    Ok(is_told(journal, 1, &[Answer::Id(1), taken]) && is_told(journal, 2, &[Answer::Sent(1)]))
+}
 
 /// A Receive with an hour and a Send in threads of their own, time and again: whichever comes first, the
 /// message is received. Without a limit of time so it is in tests/threads.
@@ -66,20 +65,11 @@ const ROUNDS: u32 = 200;
 fn a_receive_with_time_is_answered_once_its_message_is_sent(rt: HostRuntime) -> Result<(), Fail> {
     let alloc = rt.alloc();
     let receives = Deed::CallWithin(receive(1, 10), Duration::from_secs(3600));
-    let sends = Deed::Call(send(alloc, 1, 3, b"ab")?);
-    let scripts = [
-        Vec::from_array(alloc, [receives])?,
-        Vec::from_array(alloc, [sends])?,
-    ];
-    let plan = Plan {
-        before: Vec::from_array(alloc, [get(7)])?,
-        scripts: Vec::from_array(alloc, scripts)?,
-        rounds: ROUNDS,
-        end: End::Closed,
-    };
-    let left = play(&rt, alloc, prepared(alloc, 258, 2)?, Open, &plan)?;
-    assert!(rt; left.shown == 401 && left.taken_back == 0);
-    assert!(rt; is_file_of(alloc, left.device, left.journal.as_slice()));
+    let scripts = [sends(alloc, 1)?, Vec::from_array(alloc, [receives])?];
+    assert_eq!(rt;
+        played(&rt, alloc, Vec::from_array(alloc, scripts)?, ROUNDS)?,
+        (401, 0)
+    );
     Ok(())
 }
 
@@ -88,23 +78,42 @@ fn a_receive_with_time_is_answered_once_its_message_is_sent(rt: HostRuntime) -> 
 #[test]
 fn calls_are_answered_or_taken_back_beside_sends(rt: HostRuntime) -> Result<(), Fail> {
     let alloc = rt.alloc();
-    let plan = Plan {
-        before: Vec::from_array(alloc, [get(7)])?,
-        scripts: Vec::from_array(alloc, [sends(alloc)?, hasty(alloc)?, hasty(alloc)?])?,
-        rounds: 1,
-        end: End::Closed,
-    };
-    let left = play(&rt, alloc, prepared(alloc, 352, 3)?, Open, &plan)?;
-    let taken_back = u64::from(left.taken_back);
-    assert_eq!(rt; left.shown.saturating_add(taken_back), 1201);
-    assert!(rt; is_file_of(alloc, left.device, left.journal.as_slice()));
+    let scripts = [sends(alloc, CALLS)?, hasty(alloc)?, hasty(alloc)?];
+    let (shown, taken_back) = played(&rt, alloc, Vec::from_array(alloc, scripts)?, 1)?;
+    assert_eq!(rt; shown.saturating_add(u64::from(taken_back)), 1201);
     Ok(())
 }
 
-/// What seat 1 sends.
-fn sends(alloc: Global) -> Result<Vec<Deed<'static>>, Fail> {
+/// How many calls are decided where seats play these scripts, and how many are taken back. The file that
+/// is left is that of the journal.
+fn played<R: Threads + Wait + Clock + Sync>(
+    rt: &R,
+    alloc: Global,
+    scripts: Vec<Vec<Deed<'_>>>,
+    rounds: u32,
+) -> Result<(u64, u32), Fail> {
+    let plan = plan(alloc, scripts, rounds)?;
+    let left = play(rt, alloc, prepared(alloc, 352, 3)?, Open, &plan)?;
+    if !is_file_of(alloc, left.device, left.journal.as_slice()) {
+        return Err(Fail::from("another file is left"));
+    }
+    Ok((left.shown, left.taken_back))
+}
+
+/// Seats play scripts once there is queue 1.
+fn plan<'a>(alloc: Global, scripts: Vec<Vec<Deed<'a>>>, rounds: u32) -> Result<Plan<'a>, Fail> {
+    Ok(Plan {
+        before: Vec::from_array(alloc, [get(7)])?,
+        scripts,
+        rounds,
+        end: End::Closed,
+    })
+}
+
+/// So many Sends.
+fn sends(alloc: Global, calls: u32) -> Result<Vec<Deed<'static>>, Fail> {
     let mut script = Vec::new(alloc);
-    for _ in 0..CALLS {
+    for _ in 0..calls {
         script.push(Deed::Call(send(alloc, 1, 1, b"ab")?))?;
     }
     Ok(script)
