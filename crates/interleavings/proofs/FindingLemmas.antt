@@ -108,7 +108,8 @@ module _ {K : Type 0} (hash : RecordKey → ℕ) (base : State) (k : KernelState
   by_stage (Releasing conclusion) none full calls own = absurd cc
 
   lacks_there : conclusion_of a.machine ≡ None → lacks_room a.machine ≡ true →
-      Lacks ((key : RecordKey) → overlaid (owes_of (calls_of k.seats seat)) together.records key ≡ record_of led.now key)
+      Lacks ((key : RecordKey) →
+      overlaid (owes_of (calls_of k.seats seat)) together.records key ≡ record_of led.now key)
   lacks_there undecided lacks = subst (λ (o : Option CallView). Lacks ((key : RecordKey) →
       overlaid (owes_of o) together.records key ≡ record_of led.now key)) (sym (ap machine there))
       (by_stage a.machine.stage undecided

@@ -157,8 +157,8 @@ pub lacked_told : {K : Type 0} → StepsRefineAndDo K → StepsRefine K → Even
     (e : Event) (o : Outcome) → Refines hash base before → IsOfSeat (length before.locks) e →
     Happens hash e o before behind → (seat : ℕ) → is_at seat e ≡ true → lapsed_by o ≡ 1 →
     LackedRoom callers base seat (take many es) (take many os) behind.journal
-lacked_told {K} does steps lead hash base callers es os many old before behind led none sit are are_seats stood first e o
-    led_before its_seat happens seat here lapses =
+lacked_told {K} does steps lead hash base callers es os many old before behind led none sit are are_seats stood first
+    e o led_before its_seat happens seat here lapses =
     let grown = tells_its_part hash (e ∷ []) (o ∷ []) before behind
     (record { between = behind; first = happens; rest = refl }) 0 in
     let rows = All-take (IsOfSeat (length old.locks)) many es are in

@@ -65,8 +65,8 @@ module _ {K : Type 0} (does : StepsRefineAndDo K) (steps : StepsRefine K) (hash 
       short seat (eq-eqb seat seat refl) refl
   told_drive seat (told.Fault (faults.File fault)) is driven short = tt
 
-  pub told_by_event : (e : Event) (o : Outcome) → IsOfSeat (length old.locks) e → Happens hash e o old new → IsShort e o →
-      IsToldBy callers base es os e o new.journal
+  pub told_by_event : (e : Event) (o : Outcome) → IsOfSeat (length old.locks) e → Happens hash e o old new →
+      IsShort e o → IsToldBy callers base es os e o new.journal
   told_by_event (events.Step seat) (outcomes.Stepped did) is step short = told_step seat did step short
   told_by_event (events.Drive seat) (outcomes.Driven did) is drives short =
       told_drive seat did is drives.driven short

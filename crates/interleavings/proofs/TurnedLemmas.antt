@@ -61,7 +61,8 @@ module _ (hash : RecordKey → ℕ) (seat : ℕ) (s : State) (filed : IsFiled s)
   knows_in q (Some t) tries = tries.knows s filed (agrees_itself call _ s)
 
   knows_at : (u : UndecidedCall) (stage : Stage) → conclusion_at stage ≡ None →
-      IsCallingAt hash seat call s u stage records pool locks change → KnowsOf call u.questions.inquiry u.questions.room s
+      IsCallingAt hash seat call s u stage records pool locks change →
+      KnowsOf call u.questions.inquiry u.questions.room s
   knows_at u Undecided none calls = knows_in u.questions u.trials calls
   knows_at u (Paying payment conclusion) none calls = absurd cc
   knows_at u (Releasing conclusion) none calls = absurd cc
@@ -91,7 +92,8 @@ module _ (hash : RecordKey → ℕ) (seat : ℕ) (s : State) (filed : IsFiled s)
       Contains (its_plan old.call old.undecided.questions).trials r →
       HasAsLong (its_plan new.call new.undecided.questions).trials r
   inserts_as_long same before behind full calls goes r has =
-      let at = tries_at hash seat s filed new.call after pool' locks' change' new.undecided new.stage behind full goes in
+      let at =
+          tries_at hash seat s filed new.call after pool' locks' change' new.undecided new.stage behind full goes in
       let knows = knows_at hash seat s filed old.call records pool locks change old.undecided old.stage before calls in
       by (slice_get (its_plan new.call new.undecided.questions).trials 0) refl at.first
       (subst (λ (c : Call). KnowsOf c old.undecided.questions.inquiry old.undecided.questions.room s) (sym same) knows)

@@ -39,8 +39,8 @@ pub record RunsPages (script : Parts) (c : Effects) (replies : List Reply) (faul
   -- where the file has failed nothing was written
   pub before : after ≡ None → c.left ≡ c.content
 
--- it is not opened: one fault was printed, and the pages stay. What is wrong with those of an honest device `IsUnopened`
--- says
+-- it is not opened: one fault was printed, and the pages stay. What is wrong with those of an honest device
+-- `IsUnopened` says
 pub record IsLeftUnopened (c : Effects) (ending : Ending) : Type 0 where
   pub fault : OpenFault
   pub framed : fault ≢ TooFewFrames

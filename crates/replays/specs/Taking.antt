@@ -1,4 +1,5 @@
--- What a session does for the lines of a script, one after the other, whatever its device gives. docs/SCRIPTS.md, "Runs".
+-- What a session does for the lines of a script, one after the other, whatever its device gives.
+-- docs/SCRIPTS.md, "Runs".
 use Rattle.std.specs.Prelude.{ℕ, ◌≡◌, ◌⊎◌, ◌+◌, nat_le, Bool, true, false, ◌&&◌, not, List, [], ◌∷◌, Result, Ok, Err}
 use Rattle.numbers.specs.declared.faults.TheConstants.{FAILED, NO_MEMORY, NO_ROOM, SESSION_FULL}
 use Rattle.interleavings.specs.LoneKernelWords.{Answer, Call, Caller}
@@ -25,8 +26,8 @@ is_put_off (Err why.NoRoom) = false
 is_put_off (Err why.NoMemory) = false
 is_put_off (Err why.Failed) = false
 
--- what a line is replied whose call came to this: its answer, or the number of a fault. One that is put off in a stopped
--- system is made of a file that holds no system
+-- what a line is replied whose call came to this: its answer, or the number of a fault. One that is put off in a
+-- stopped system is made of a file that holds no system
 abbrev pub reply_to : Result Answer Unanswered → Reply
 reply_to (Ok answer) = Answered answer
 reply_to (Err why.Waits) = Failed FAILED

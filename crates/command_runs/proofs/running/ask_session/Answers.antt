@@ -12,7 +12,8 @@ returns-in-Err c = λ a content opens.
 -- there is one, and a file
 pub returns-in-Ok-close : goal.returns-in-Ok-close
 returns-in-Ok-close c = λ a content opens.
-    comes_to a c.args.request.now content c.args.session opens c.ask-asked.new.answers c.in-Ok.text c.in-Ok-close.file _ _
+    comes_to a c.args.request.now content c.args.session opens c.ask-asked.new.answers c.in-Ok.text
+    c.in-Ok-close.file _ _
     (c.in-Ok.ensures content a opens.system (stands_opened a content c.args.session opens)) c.in-Ok-close.ensures
 
 -- it is always closed

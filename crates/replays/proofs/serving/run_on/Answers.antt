@@ -43,7 +43,8 @@ returns-clause-served g c =
               replied = goes.replied;
               ends = c.end_session-device.ensures.ends _ goes.after goes.stands;
               before = λ none.
-                  c.end_session-device.ensures.unwritten (inr (failed_where _ last goes.after none goes.stands)) ∙ still;
+                  c.end_session-device.ensures.unwritten (inr (failed_where _ last goes.after none goes.stands))
+                  ∙ still;
             };
         synced = λ taken none honest. c.end_session-device.ensures.synced taken none
             (subst (λ (b : Bool). IsTrue b) (sym (kept.honest ∙ on.honest_is)) honest);

@@ -1,5 +1,5 @@
 -- A seat without a call gets another caller.
-use Rattle.std.proofs.Common.{◌≡◌, ◌∙◌, refl, sym, subst, true, false, vec_capacity}
+use Rattle.std.proofs.Common.{◌∙◌, refl, sym, subst, true, false, vec_capacity}
 use Rattle.std.specs.Option.{is_some}
 use Rattle.interleaving_core.specs.Kernel.{KernelState}
 use Rattle.interleaving_core.specs.Renewing.{IsBetweenCalls, Reseats}

@@ -21,7 +21,8 @@ returns-then-branch-clause-made g c = λ made.
     let hash = g.K.PseudoKey.of_key c.args.keys.now in
     let rests : Option AccessView → CallWrites = λ o. record { due = c.in-Some.behind; access = o } in
     subst (λ (w : CallWrites). WritesAtOnce (MakesWrites hash c.args.seat c.args.plan.now) writes_search c.args.seat
-    c.args.self.now w c.args.pool.now c.write_through.new.pool c.args.locks.now) (sym (ap rests c.close-then-branch.ensures))
+    c.args.self.now w c.args.pool.now c.write_through.new.pool c.args.locks.now)
+    (sym (ap rests c.close-then-branch.ensures))
     (deed_from hash c.args.seat c.args.plan.now c.args.pool.now c.write_through.new.pool c.args.locks.now
     c.args.self.now (none_of _ (sym c.is_under_way.ensures ∙ c.if-is_under_way.false)) c.in-Some.ensures.deed
     c.in-Some.behind c.in-Some.ensures.next c.begin_next.new.access c.in-Some.ensures.begun c.in-Some.ensures.serves
