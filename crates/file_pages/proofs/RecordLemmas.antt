@@ -94,7 +94,7 @@ module _ (s : PoolState) (page : ℕ) (old new : List ℕ) (here : slice_get s.i
     stored = spared_is s (record s { images = slice_set s.images page new }) refl refl;
     as_many = length-set s.images page new;
     file = λ honest done f. record {
-          file = file_set s.images page new behind inside _ changes f.file;
-          sealed = λ n within. f.sealed n (subst (λ m. n < m) (length-set s.images page new) within);
-        };
+      file = file_set s.images page new behind inside _ changes f.file;
+      sealed = λ n within. f.sealed n (subst (λ m. n < m) (length-set s.images page new) within);
+    };
   })
