@@ -3,6 +3,7 @@ use Rattle.std.specs.Prelude.{◌≡◌, ℕ, ◌+◌, ◌-◌, true, Some, List
 use Rattle.std.specs.Option.{option_map}
 use Rattle.bucket_page.specs.declared.record_key.RecordKey.{RecordKey}
 use Rattle.bucket_page.specs.declared.page.PageKind.TheVariants as kinds
+use Rattle.bucket_page.specs.declared.place.Place.{Place}
 use Rattle.directory.specs.numbers.Numbers.{zeros}
 use Rattle.bucket_page.specs.Keys.{is_same, is_below}
 use Rattle.bucket_page.specs.Records.{Pair, pair, record_bytes, ascend, lookup}
@@ -37,6 +38,19 @@ removed key (q ∷ qs) = if is_same q.key key then qs else q ∷ removed key qs
 abbrev pub HasValueOf : ℕ → RecordKey → List Pair → Type 0
 HasValueOf n key ps = option_map length (lookup key ps) ≡ Some n
 
+-- the records below a key
+abbrev pub below : RecordKey → List Pair → List Pair
+below key [] = []
+below key (q ∷ qs) = if is_below q.key key then q ∷ below key qs else []
+
+-- the place of a key is behind them
+abbrev pub place_in : RecordKey → List Pair → Place
+place_in key ps = record { key = key; at = length (record_bytes (below key ps)) }
+
+-- the place is that of its key
+abbrev pub IsPlace : Place → List Pair → Type 0
+IsPlace place ps = place ≡ place_in place.key ps
+
 -- ---- payloads
 
 abbrev pub SpellsBucket : Bucket → List ℕ → Type 0
@@ -56,11 +70,6 @@ Changes change old new =
 -- a pair is put behind all others
 abbrev pub Appends : Pair → List ℕ → List ℕ → Type 0
 Appends p old new = Changes (λ ps. ps ++ p ∷ []) old new
-
--- the records below a key
-abbrev pub below : RecordKey → List Pair → List Pair
-below key [] = []
-below key (q ∷ qs) = if is_below q.key key then q ∷ below key qs else []
 
 -- a pair is put behind so many bytes of records, where it keeps the order
 abbrev pub InsertsAt : ℕ → Pair → List ℕ → List ℕ → Type 0

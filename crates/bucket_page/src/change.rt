@@ -3,10 +3,11 @@
 ghost use Rattle.std.specs.Prelude.{[], ◌∷◌, ◌++◌, true, ◌≡◌, ◌↔◌, ◌+◌, ◌<◌, ◌≤◌, IsErr, IsSome, OnErr, OnOk, Some, None, length};
 ghost use Rattle.bucket_page.specs.Records.{ascend, pair, lookup, record_bytes};
 ghost use Rattle.bucket_page.specs.Reading.{records_in, used_at};
-ghost use Rattle.bucket_page.specs.Changes.{Appends, Changes, InsertsAt, IsBucketPage, below, fronted, inserted, removed, value_of_key};
+ghost use Rattle.bucket_page.specs.Changes.{Appends, Changes, InsertsAt, IsBucketPage, IsPlace, fronted, inserted, place_in, removed, value_of_key};
 
 use crate::head::Head;
 use crate::layout::{RECORD_HEAD_BYTES, ROOM_BYTES};
+use crate::place::Place;
 use crate::record_key::RecordKey;
 use crate::records::Records;
 use crate::splice::{insert, take_out};
@@ -48,8 +49,20 @@ pub(crate) fn put_fitting(payload: &mut Payload, key: &RecordKey, value: &[u8])
     requires room { used_at payload.old + (RECORD_HEAD_BYTES + length value.now) ≤ ROOM_BYTES }
     ensures { Changes (inserted (pair key.now value.now)) payload.old payload.new }
 {
-    let at = place(payload, key);
-    insert_record(payload, at, key, value);
+    let place = place(payload, key);
+    put_at(payload, &place, value);
+}
+
+/// Puts a record that fits at the place of its key, which has none.
+pub fn put_at(payload: &mut Payload, place: &Place, value: &[u8])
+    requires bucket { IsBucketPage payload.old }
+    requires place { IsPlace place.now (records_in payload.old) }
+    requires absent { lookup place.now.key (records_in payload.old) ≡ None }
+    requires room { length (record_bytes (records_in payload.old))
+        + (RECORD_HEAD_BYTES + length value.now) ≤ ROOM_BYTES }
+    ensures { Changes (inserted (pair place.now.key value.now)) payload.old payload.new }
+{
+    insert_record(payload, place.at, &place.key, value);
 }
 
 /// Puts a record that fits behind all others, where it keeps the order.
@@ -71,9 +84,21 @@ pub fn replace_front(payload: &mut Payload, key: &RecordKey, front: &[u8])
     requires long { length front.now ≤ length (value_of_key key.now (records_in payload.old)) }
     ensures ok { Changes (fronted key.now front.now) payload.old payload.new }
 {
-    let at = place(payload, key);
+    let place = place(payload, key);
+    replace_front_at(payload, &place, front);
+}
+
+/// Replaces the first bytes of the value that stands at a place. The others stay where they are.
+pub fn replace_front_at(payload: &mut Payload, place: &Place, front: &[u8])
+    requires bucket { IsBucketPage payload.old }
+    requires place { IsPlace place.now (records_in payload.old) }
+    requires there { IsSome (lookup place.now.key (records_in payload.old)) }
+    requires long { length front.now
+        ≤ length (value_of_key place.now.key (records_in payload.old)) }
+    ensures ok { Changes (fronted place.now.key front.now) payload.old payload.new }
+{
     let (_, body) = payload.split_at_mut(HEAD_BYTES);
-    set_bytes(body, at + RECORD_HEAD_BYTES, front);
+    set_bytes(body, place.at + RECORD_HEAD_BYTES, front);
 }
 
 /// Takes the record of a key that the bucket has.
@@ -82,12 +107,22 @@ pub fn remove(payload: &mut Payload, key: &RecordKey)
     requires there { IsSome (lookup key.now (records_in payload.old)) }
     ensures ok { Changes (removed key.now) payload.old payload.new }
 {
-    let at = place(payload, key);
+    let place = place(payload, key);
+    remove_at(payload, &place);
+}
+
+/// Takes the record out that stands at a place.
+pub fn remove_at(payload: &mut Payload, place: &Place)
+    requires bucket { IsBucketPage payload.old }
+    requires place { IsPlace place.now (records_in payload.old) }
+    requires there { IsSome (lookup place.now.key (records_in payload.old)) }
+    ensures ok { Changes (removed place.now.key) payload.old payload.new }
+{
     let head = Head::read(payload);
     let used = head.used as usize;
     let (front, body) = payload.split_at_mut(HEAD_BYTES);
-    let len = RECORD_HEAD_BYTES + two_at(body, at) as usize;
-    take_out(body, used, at, len);
+    let len = RECORD_HEAD_BYTES + two_at(body, place.at) as usize;
+    take_out(body, used, place.at, len);
     let shrunk = Head {
         count: head.count - 1,
         used: (used - len) as u16,
@@ -117,14 +152,14 @@ fn insert_record(payload: &mut Payload, at: usize, key: &RecordKey, value: &[u8]
     grown.write(front);
 }
 
-/// Where a key's record stands or would stand, in bytes behind the head.
+/// The place of a key.
 #[tactic(auto, using(crate::proofs::ChangeLaws::opened))]
-fn place(bytes: &[u8], key: &RecordKey) -> usize
+fn place(bytes: &[u8], key: &RecordKey) -> Place
     requires long { length bytes.now ≡ PAYLOAD_BYTES }
     requires bucket { IsBucketPage bytes.now }
-    ensures { result ≡ length (record_bytes (below key.now (records_in bytes.now))) }
+    ensures { result ≡ place_in key.now (records_in bytes.now) }
 {
-    bytes_below(&records_of(bytes), key)
+    records_of(bytes).seek(key).place
 }
 
 /// The records of a bucket's payload.
@@ -137,19 +172,4 @@ pub(crate) fn records_of(bytes: &[u8]) -> Records
     let (_, body) = bytes.split_at(HEAD_BYTES);
     let (area, _) = body.split_at(two_at(bytes, 12) as usize);
     Records::known(two_at(bytes, 2), area)
-}
-
-/// The bytes of the records below a key.
-fn bytes_below(records: &Records, key: &RecordKey) -> usize
-    requires { length (record_bytes records.now) ≤ ROOM_BYTES }
-    ensures { result ≡ length (record_bytes (below key.now records.now)) }
-{
-    let mut at = 0;
-    for record in records.again() {
-        if !record.key.is_below(key) {
-            return at;
-        }
-        at += RECORD_HEAD_BYTES + record.value.len();
-    }
-    at
 }

@@ -3,9 +3,11 @@
 ghost use Rattle.std.specs.Prelude.{◌≡◌, true, false, length, ◌<◌, ◌+◌, ◌≤◌, IfSome, IfNone, Some, None};
 ghost use Rattle.bucket_page.specs.Keys.{is_below};
 ghost use Rattle.bucket_page.specs.Records.{Pair, pair_at, after_pair, pairs_of, begins, fills, record_bytes, lookup, ascend, is_above};
+ghost use Rattle.bucket_page.specs.Changes.{place_in};
 ghost use Rattle.directory.specs.numbers.Numbers.{two_at};
 
 use crate::layout::RECORD_HEAD_BYTES;
+use crate::place::{Place, Sought};
 use crate::record_key::{RecordKey, key_at};
 use directory::fields::two_at;
 use std::marker::Model;
@@ -96,23 +98,39 @@ impl<'a> Records<'a> {
         self.bytes.len()
     }
 
-    /// The value of a key. Each record below it is compared with it once, and none is read behind the
-    /// first that is not below.
-    pub fn value_of(&self, key: &RecordKey) -> Option<&'a [u8]>
+    /// Where the record of a key stands or would stand, and its value, in one walk. Each record
+    /// below it is compared with it once, and none is read behind the first that is not below.
+    pub fn seek(&self, key: &RecordKey) -> Sought<'a>
         requires { ascend self.now ≡ true }
-        ensures some { IfSome result (λ value. lookup key.now self.now ≡ Some value.now) }
-        ensures none { IfNone result (lookup key.now self.now ≡ None) }
+        ensures place { result.place ≡ place_in key.now self.now }
+        ensures some { IfSome result.value (λ value. lookup key.now self.now ≡ Some value.now) }
+        ensures none { IfNone result.value (lookup key.now self.now ≡ None) }
     {
+        let mut left = self.used();
         for record in self.again() {
             if record.key.is_below(key) {
+                left -= RECORD_HEAD_BYTES + record.value.len();
                 continue;
             }
+            let place = Place {
+                key: *key,
+                at: self.used() - left,
+            };
             if record.key == *key {
-                return Some(record.value);
+                return Sought {
+                    place,
+                    value: Some(record.value),
+                };
             }
-            return None;
+            return Sought { place, value: None };
         }
-        None
+        Sought {
+            place: Place {
+                key: *key,
+                at: self.used(),
+            },
+            value: None,
+        }
     }
 
     /// Whether each key stands above the one before it.

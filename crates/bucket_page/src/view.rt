@@ -2,7 +2,9 @@
 
 ghost use Rattle.std.specs.Prelude.{◌≡◌, length, IfSome, IfNone, Some, None};
 ghost use Rattle.bucket_page.specs.Records.{record_bytes, lookup};
+ghost use Rattle.bucket_page.specs.Changes.{place_in};
 
+use crate::place::Sought;
 use crate::record_key::RecordKey;
 use crate::records::Records;
 use std::marker::Model;
@@ -62,7 +64,17 @@ impl<'a> BucketView<'a> {
         ensures some { IfSome result (λ value. lookup key.now self.now.records ≡ Some value.now) }
         ensures none { IfNone result (lookup key.now self.now.records ≡ None) }
     {
-        self.records.value_of(key)
+        self.records.seek(key).value
+    }
+
+    /// Where the record of a key stands or would stand, and its value, in one walk.
+    pub fn seek(&self, key: &RecordKey) -> Sought<'a>
+        ensures place { result.place ≡ place_in key.now self.now.records }
+        ensures some { IfSome result.value
+            (λ value. lookup key.now self.now.records ≡ Some value.now) }
+        ensures none { IfNone result.value (lookup key.now self.now.records ≡ None) }
+    {
+        self.records.seek(key)
     }
 
     /// The records, from the lowest key on.

@@ -1,6 +1,6 @@
 -- What a pool is once an image that it lent is given back.
-use Rattle.std.specs.Prelude.{ℕ, List, slice_set}
-use Rattle.std.specs.Borrow.{Lends, MutBor, Fml, RattleType}
+use Rattle.std.specs.Prelude.{ℕ, List, Option, slice_set}
+use Rattle.std.specs.Borrow.{Lends, LendsIf, MutBor, Fml, RattleType}
 use Rattle.page_device.specs.declared.device.PageDevice.{Ghosts}
 use Rattle.buffer_pool.specs.Table.{Held, stored_in}
 use Rattle.buffer_pool.specs.Pool.{PoolState}
@@ -17,3 +17,9 @@ abbrev pub LendsImage : (D : RattleType) → Ghosts D.Denot → MutBor PoolState
 LendsImage D device s n r =
     Lends (pool.the_row D device) page.the_row s r
     (λ payload. record s.now { images = slice_set s.now.images n payload })
+
+-- the same where the page is in a frame, and else the pool is as it was
+abbrev pub LendsResident : (D : RattleType) → Ghosts D.Denot → MutBor PoolState → ℕ → Option (MutBor (List ℕ)) → Fml
+LendsResident D device s n r =
+    LendsIf (pool.the_row D device) page.the_row s r
+    (λ payload. record s.now { images = slice_set s.now.images n payload }) s.now

@@ -4,7 +4,7 @@ ghost use Rattle.std.specs.Prelude.{◌≡◌, ◌↔◌, ℕ, ◌+◌, ◌<◌,
 ghost use Rattle.bucket_page.specs.page_device.declared.page.TheConstants.{MAX_PAGES};
 ghost use Rattle.bucket_page.specs.declared.layout.TheConstants.{RECORD_HEAD_BYTES, ROOM_BYTES};
 ghost use Rattle.bucket_page.specs.declared.page.PageKind.TheVariants as kinds;
-ghost use Rattle.bucket_page.specs.Changes.{Changes, IsBucketPage, fronted, inserted, removed, value_of_key};
+ghost use Rattle.bucket_page.specs.Changes.{Changes, IsBucketPage, IsPlace, fronted, inserted, removed, value_of_key};
 ghost use Rattle.bucket_page.specs.Reading.{records_in};
 ghost use Rattle.bucket_page.specs.Records.{lookup, pair, record_bytes};
 ghost use Rattle.bucket_page.specs.Spelling.{Spells};
@@ -15,7 +15,10 @@ ghost use Rattle.bucket_page.specs.directory.Spelling.{SpellsHeader};
 
 use crate::file_page::FilePage;
 use bucket_page::directory::{Header, Range, copy_upper, retarget, write_header};
-use bucket_page::{DoesNotFit, RecordKey, put, remove, replace_front, write_free, write_tombstone};
+use bucket_page::{
+    DoesNotFit, Place, RecordKey, put, put_at, remove, remove_at, replace_front, replace_front_at,
+    write_free, write_tombstone,
+};
 
 impl FilePage {
     /// Puts a record into a bucket that has none of its key. Where it does not fit
@@ -49,6 +52,41 @@ impl FilePage {
         ensures { Changes (removed key.now) self.old self.new }
     {
         remove(&mut self.payload, key);
+    }
+
+    /// Puts a record that fits at the place of its key, which has none.
+    pub fn put_at(&mut self, place: &Place, value: &[u8])
+        requires bucket { IsBucketPage self.old }
+        requires place { IsPlace place.now (records_in self.old) }
+        requires absent { lookup place.now.key (records_in self.old) ≡ None }
+        requires room { length (record_bytes (records_in self.old))
+            + (RECORD_HEAD_BYTES + length value.now) ≤ ROOM_BYTES }
+        ensures { Changes (inserted (pair place.now.key value.now)) self.old self.new }
+    {
+        put_at(&mut self.payload, place, value);
+    }
+
+    /// Replaces the first bytes of the value that stands at a place. The others stay where they
+    /// are.
+    pub fn replace_front_at(&mut self, place: &Place, front: &[u8])
+        requires bucket { IsBucketPage self.old }
+        requires place { IsPlace place.now (records_in self.old) }
+        requires there { IsSome (lookup place.now.key (records_in self.old)) }
+        requires long { length front.now
+            ≤ length (value_of_key place.now.key (records_in self.old)) }
+        ensures { Changes (fronted place.now.key front.now) self.old self.new }
+    {
+        replace_front_at(&mut self.payload, place, front);
+    }
+
+    /// Takes the record out that stands at a place.
+    pub fn remove_at(&mut self, place: &Place)
+        requires bucket { IsBucketPage self.old }
+        requires place { IsPlace place.now (records_in self.old) }
+        requires there { IsSome (lookup place.now.key (records_in self.old)) }
+        ensures { Changes (removed place.now.key) self.old self.new }
+    {
+        remove_at(&mut self.payload, place);
     }
 
     /// The doubling of a directory of a depth, on one of its pages: each entry of the upper

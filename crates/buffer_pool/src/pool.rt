@@ -3,7 +3,7 @@ ghost use Rattle.std.specs.Prelude.{◌≡◌, ◌↔◌, ◌+◌, ◌-◌, ◌^
 ghost use Rattle.page_device.specs.declared.fault.DeviceFault.TheVariants.{PastEnd};
 ghost use Rattle.buffer_pool.specs.Pool.{pins_at, opened, IsAtRest, payloads_of, IsCrowded, IsOnDevice, KeepsImages, KeepsStored, PoolHasCause, MayNotOpen, MayNotPin, MayNotFlush, TellsChanged};
 ghost use Rattle.std.specs.Borrow.{sem};
-ghost use Rattle.buffer_pool.specs.Lending.{LendsImage};
+ghost use Rattle.buffer_pool.specs.Lending.{LendsImage, LendsResident};
 
 use crate::fault::PoolFault;
 use crate::file_page::FilePage;
@@ -131,6 +131,19 @@ impl<D: PageDevice> Pool<D> {
         }
         let frame = self.table.place(page)?;
         Some(self.table.payload(frame))
+    }
+
+    /// Lends the image of a page that is in a frame, pinned or not, to be changed in place; none
+    /// where it is in no frame. It counts as stored, as one that `image_mut` lends.
+    pub fn resident_mut(&mut self, page: u32) -> Option<&mut FilePage>
+        ensures* writes_back { sem 𝓛 (LendsResident D.row D.PageDevice self.entry page result) }
+        ensures value { IfSome result (λ image. slice_get self.old.images page ≡ Some image.now) }
+    {
+        if page >= self.device.pages() {
+            return None;
+        }
+        let frame = self.table.place(page)?;
+        Some(self.table.payload_mut(frame))
     }
 
     /// Notes that a page was used, so that it stays in its frame for longer. One that is in none is

@@ -1,21 +1,17 @@
 -- A write that is made at once: all its steps, or the one that tells a fault.
-use Rattle.std.proofs.Common.{refl, sym, ap, ◌∙◌, ℕ, true, List, [], ◌∷◌, Option}
-use Rattle.page_locks.proofs.ChangeLemmas.{with_row-own}
+use Rattle.std.proofs.Common.{refl, ℕ, true, List, [], ◌∷◌, Option}
 use Rattle.record_file.specs.OperationRuns.{GoesToPage, operation_through, operation_written}
 use Rattle.record_file.specs.stale_search.SearchRuns.{at, standing}
 use Rattle.record_file.specs.stale_search.declared.place.SearchPlace.TheVariants.{Found}
 use Rattle.record_file.specs.step_rules.Runs.{stop}
 use Rattle.record_file.specs.step_rules.declared.kind.Kind.TheVariants as kinds
-use Rattle.record_file.specs.AccessRuns.{AccessStep, FailsAtOnce, MayAccess, TakesAhead, WritesAtOnce, access_at, write_stops}
+use Rattle.record_file.specs.AccessRuns.{AccessStep, TakesAhead, WritesAtOnce, access_at, write_stops}
 use Rattle.record_file.specs.Accesses.{AccessView, access_locks}
-use Rattle.record_file.specs.AccessWords.{EndsRow, HasEnded, HasNoFileLock, IsReady, IsSeat, Moved, PoolState, Table, row_of}
+use Rattle.record_file.specs.AccessWords.{EndsRow, HasNoFileLock, IsReady, IsSeat, Moved, PoolState, Table, row_of}
 use Rattle.record_file.specs.OperationWords.{with_row}
-use Rattle.record_file.specs.WritesAhead.{FailsOn}
 use Rattle.record_file.proofs.AccessAheadLemmas.{goes_straight, may_at, quiet, row_bare, row_room}
-use Rattle.record_file.proofs.AccessNames.{FileFault}
 use Rattle.record_file.proofs.AccessStepLemmas.{makes_written}
 use Rattle.record_file.proofs.OperationWrittenLemmas.{GoesThrough}
-use Rattle.record_file.proofs.of_stale_search.CauseLemmas.{told_cause}
 use Rattle.record_file.proofs.of_step_rules.RunLemmas.{joined}
 
 module _ (seat : ℕ) (pool pool' : PoolState) (ready : IsReady pool) (ready' : IsReady pool') (locks : Table)
@@ -83,33 +79,3 @@ module _ (seat : ℕ) (pool pool' : PoolState) (ready : IsReady pool) (ready' : 
               ),
             );
       }
-
--- where the device has failed it stays, and no page has changed
-pub fails_at_once : (seat : ℕ) (fault : FileFault) (old : AccessView) (pool pool' : PoolState) (locks : Table) →
-    MayAccess seat (at old pool locks) → (HasEnded old.operation → ⊥) → FailsOn fault pool pool' →
-    FailsAtOnce seat fault old old pool pool' locks
-fails_at_once seat fault old pool pool' locks may goes_on failed = record {
-  same = refl;
-  step = λ hash. record {
-    may = may;
-    makes = record {
-      writes = failed.writes;
-      cause = told_cause fault pool pool' failed.cause;
-      aim = record {
-        key = refl;
-        pseudokey = refl;
-        serves = λ p serves. serves;
-        ended = (λ e. absurd cc, λ over. absurd (goes_on over));
-        rests = tt;
-        tells = λ found has. has;
-        written = refl;
-        suits = λ looked none. absurd cc;
-      };
-      row = λ before bare here. sym (with_row-own locks seat) ∙ ap (with_row locks seat) here;
-      progress = λ p found change f.
-          record { devices = failed.devices f.sees.honest f.sees.file; images = failed.spares f.sees.honest };
-      step = λ p found change f fine. absurd cc;
-      answer = λ p found change f fine. absurd cc;
-    };
-  };
-}

@@ -1,19 +1,16 @@
 -- A write that is made at once: what its access within a bucket does at the page is what the operation does.
-use Rattle.std.proofs.Common.{◌≡◌, refl, sym, ap, ◌∙◌, subst, ℕ, false, List, Option, Some, None}
-use Rattle.std.proofs.lemmas.Bool.{true≢false}
+use Rattle.std.proofs.Common.{◌≡◌, refl, sym, ◌∙◌, subst, ℕ, List, Option, Some, None}
 use Rattle.record_file.specs.split_merge.Places.{MergeView}
 use Rattle.record_file.specs.stale_search.SearchRuns.{HasNoLock, search_at}
 use Rattle.record_file.specs.stale_search.declared.place.SearchPlace.TheVariants.{Found}
 use Rattle.record_file.specs.Words.{HasNoFileLock, Release, SearchView}
-use Rattle.record_file.specs.BucketAccesses.{SuitsKind, ended_in, has_ended}
+use Rattle.record_file.specs.BucketAccesses.{SuitsKind, ended_in}
 use Rattle.record_file.specs.BucketRuns.{bucket_found, bucket_written}
 use Rattle.record_file.specs.Deletes.{IsBegun}
-use Rattle.record_file.specs.Inserts.{IsFirstAt, IsOver}
+use Rattle.record_file.specs.Inserts.{IsFirstAt}
 use Rattle.record_file.specs.WritesAhead.{WritesOn}
-use Rattle.record_file.specs.declared.bucket_access.BucketStage.{BucketStage}
 use Rattle.record_file.specs.declared.bucket_access.BucketStage.TheVariants.{Searching}
 use Rattle.record_file.specs.declared.bucket_access.Deed.TheVariants as deeds
-use Rattle.record_file.specs.declared.insert.InsertStage.{InsertStage}
 use Rattle.record_file.specs.declared.insert.InsertStage.TheVariants.{First}
 use Rattle.record_file.specs.declared.tried.Tried.TheVariants.{IsPut}
 use Rattle.record_file.specs.OperationRuns.{IsBeforeMerge, IsBucketOf, deed_of, operation_at, operation_through, operation_written}
@@ -23,7 +20,6 @@ use Rattle.record_file.specs.Operations.{HasEnded, MayBeLent, operation_key, ope
 use Rattle.record_file.proofs.HeadLemmas.{delete_is, insert_is}
 use Rattle.record_file.proofs.InsertLemmas.{has_put, says_on}
 use Rattle.record_file.proofs.KindLemmas.{insert_makes, replace_makes}
-use Rattle.record_file.proofs.PartLemmas.{not_over}
 use Rattle.record_file.proofs.RemovalLemmas.{removal_makes}
 use Rattle.record_file.proofs.StepLemmas.{as_searching, searching}
 use Rattle.record_file.proofs.WrittenLemmas.{gives_written, puts, removes, replaces, with_page}
@@ -171,16 +167,3 @@ module _ (b : BucketView) where
   before_merge (Replace r) of = tt
   before_merge (Delete d) of =
       subst (λ (x : BucketView). ended_in x.stage ≡ None) (sym of.is) of.going
-
-  pub bucket_going : b.stage ≡ Searching → (o : RecordOperation) → IsBucketOf b o → HasEnded o → ⊥
-  bucket_going searches (Find f) of over = absurd of
-  bucket_going searches (Insert i) of over =
-      true≢false (sym (subst (λ (s : InsertStage). IsOver s) of.stage over) ∙ none)
-    where
-      none : has_ended b.stage ≡ false
-      none = ap (λ (stage : BucketStage). has_ended stage) searches
-  bucket_going searches (Replace r) of over =
-      true≢false (sym over ∙ ap (λ (x : BucketView). has_ended x.stage) of
-      ∙ ap (λ (stage : BucketStage). has_ended stage) searches)
-  bucket_going searches (Delete d) of over =
-      not_over d.removal.stage d.merge.place (before_merge (Delete d) of) over

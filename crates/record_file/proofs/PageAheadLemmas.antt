@@ -1,28 +1,28 @@
--- A deed done at once: the bucket that was looked at, why what was written is that of the deed, and why it is not
--- written.
-use Rattle.std.proofs.Common.{◌≡◌, refl, sym, ap, ◌∙◌, subst, ℕ, ◌+◌, ◌≤◌, ◌<◌, true, false, List, [], ◌++◌, length, drop, Option, Some, None, IfSome, IsSome, IsTrue, Ok, is_some, slice_get}
+-- A deed done at once: the bucket that was looked at, and why what was written is that of the deed.
+use Rattle.std.proofs.Common.{◌≡◌, refl, sym, ap, ◌∙◌, subst, ℕ, ◌+◌, ◌≤◌, ◌<◌, true, false, List, [], length, Option, Some, None, IfSome, IsSome, Ok, is_some, slice_get, slice_set}
 use Rattle.std.proofs.lemmas.Option.{get_or_from_slice_get, slice_get_within}
 use Rattle.std.specs.Option.{option_map}
 use Rattle.std.specs.Prelude.{unwrap_or}
 use Rattle.bucket_page.specs.Bucket.{Bucket}
-use Rattle.bucket_page.specs.Changes.{IsBucketPage}
-use Rattle.bucket_page.specs.Reading.{bucket_in, page_in}
+use Rattle.bucket_page.specs.Changes.{Changes, IsBucketPage, IsPlace, fronted, inserted, place_in, removed}
+use Rattle.bucket_page.specs.Reading.{bucket_in, page_in, records_in}
 use Rattle.bucket_page.specs.declared.layout.TheConstants.{RECORD_HEAD_BYTES, ROOM_BYTES}
+use Rattle.bucket_page.specs.declared.place.Place.{Place}
 use Rattle.directory.specs.declared.layout.TheConstants.{ROOT_PAGE}
 use Rattle.file_pages.proofs.PageLemmas.{copied_was}
 use Rattle.file_pages.proofs.ReadLemmas.{seen}
+use Rattle.file_pages.proofs.RecordLemmas.{stored_there, writes_there}
 use Rattle.file_pages.proofs.StoreLemmas.{page_is, pages_are}
 use Rattle.file_pages.specs.Files.{image}
 use Rattle.file_pages.specs.Reads.{sight_of}
-use Rattle.file_pages.specs.Writes.{IsBucketThere, TakesRecord}
-use Rattle.file_pages.specs.declared.fault.FileFault.{FileFault}
-use Rattle.hash_file.specs.Changes.{write_record}
-use Rattle.hash_file.specs.Store.{bucket_at, is_bucket}
-use Rattle.record_file.specs.Words.{RecordKey, pair, lookup, record_bytes, value_of_key, PoolState, FileHasCause, IsDevicesFault, IsFilePool, OnlyWrites, Put, Replace, Remove, store_of, records_at}
+use Rattle.file_pages.specs.Writes.{IsBucketThere}
+use Rattle.hash_file.specs.Changes.{RecordWrite, records_after, write_record}
+use Rattle.hash_file.specs.Store.{is_bucket}
+use Rattle.record_file.specs.Words.{RecordKey, Pair, pair, lookup, record_bytes, value_of_key, PoolState, IsReady, OnlyWrites, Put, Replace, Remove, store_of, records_at}
 use Rattle.record_file.specs.AccessWords.{Links, value_of}
-use Rattle.record_file.specs.BucketAccesses.{has_room, is_due}
+use Rattle.record_file.specs.BucketAccesses.{has_room, is_due, with_front}
 use Rattle.record_file.specs.Readings.{HasFrontOn, HasFrontSet}
-use Rattle.record_file.specs.WritesAhead.{FailsOn, WritesOn}
+use Rattle.record_file.specs.WritesAhead.{IsBucketAhead, WritesOn}
 use Rattle.record_file.specs.declared.bucket_access.Deed.TheVariants as deeds
 use Rattle.record_file.proofs.ReadLemmas.{some_of}
 use Rattle.record_file.proofs.RoomLemmas.{room_is}
@@ -45,85 +45,105 @@ module _ (images : List (List ℕ)) (page : ℕ) (payload : List ℕ) (behind : 
         ∙ (seen (Ok (sight_of (bucket_in payload))) payload bucket refl).bucket;
   }
 
-  pub there_if : (r : Option Bucket) → IfSome r (λ (b : Bucket). IsBucketPage payload × (b ≡ bucket_in payload)) →
-      IfSome r (λ (b : Bucket). IsBucketThere page (store_of images))
-  there_if None told = tt
-  there_if (Some b) told = there told.0
+  pub ahead_if : (r : Option Bucket) → IfSome r (λ (b : Bucket). IsBucketPage payload × (b ≡ bucket_in payload)) →
+      IfSome r (IsBucketAhead page images)
+  ahead_if None told = tt
+  ahead_if (Some b) told = record {
+    there = there told.0;
+    is = told.1 ∙ sym (copied_was images page payload same behind within told.0);
+    image = λ other here'.
+        let one = some_of payload other (sym here ∙ here') in
+        (subst IsBucketPage one told.0, told.1 ∙ ap bucket_in one);
+  }
 
-  pub bucket_if : (r : Option Bucket) → IfSome r (λ (b : Bucket). IsBucketPage payload × (b ≡ bucket_in payload)) →
-      IfSome r (λ (b : Bucket). b ≡ bucket_at (store_of images) page)
-  bucket_if None told = tt
-  bucket_if (Some b) told = told.1 ∙ sym (copied_was images page payload same behind within told.0)
+-- ---- the place of its key in the image that is lent
+
+module _ (images : List (List ℕ)) (page : ℕ) (b : Bucket) (ahead : IsBucketAhead page images b) (key : RecordKey)
+    (place : Place) (placed : place ≡ place_in key b.records) (old : List ℕ) (here : slice_get images page ≡ Some old)
+    where
+  pub bucket_here : IsBucketPage old
+  bucket_here = (ahead.image old here).0
+
+  pub says_here : b ≡ bucket_in old
+  says_here = (ahead.image old here).1
+
+  pub placed_here : IsPlace place (records_in old)
+  placed_here = placed ∙ (λ j. place_in (ap (λ (p : Place). p.key) (sym placed) j) (says_here j).records)
+
+  pub held_here : (value : Option (List ℕ)) → lookup key b.records ≡ value → lookup place.key (records_in old) ≡ value
+  held_here value was = (λ j. lookup (ap (λ (p : Place). p.key) placed j) (sym says_here j).records) ∙ was
+
+  pub long_here : (value front : List ℕ) → lookup key b.records ≡ Some value → length front ≤ length value →
+      length front ≤ length (value_of_key place.key (records_in old))
+  long_here value front was short =
+      subst (λ (x : Option (List ℕ)). length front ≤ length (unwrap_or x [])) (sym (held_here (Some value) was)) short
+
+  pub some_here : (value : List ℕ) → lookup key b.records ≡ Some value → IsSome (lookup place.key (records_in old))
+  some_here value was = ap is_some (held_here (Some value) was)
+
+  pub room_here : (n : ℕ) → has_room (length (record_bytes b.records)) n ≡ true →
+      length (record_bytes (records_in old)) + (RECORD_HEAD_BYTES + n) ≤ ROOM_BYTES
+  room_here n room =
+      subst (λ (x : Bucket). length (record_bytes x.records) + (RECORD_HEAD_BYTES + n) ≤ ROOM_BYTES) says_here
+      (room_is (length (record_bytes b.records)) n room)
 
 -- ---- what was written
 
-module _ (pool pool' : PoolState) (page : ℕ) (key : RecordKey) (b : Bucket)
-    (there : IsBucketThere page (store_of pool.images)) (is : b ≡ bucket_at (store_of pool.images) page) where
+module _ (pool pool' : PoolState) (ready : IsReady pool) (page : ℕ) (key : RecordKey) (b : Bucket)
+    (ahead : IsBucketAhead page pool.images b) (place : Place) (placed : place ≡ place_in key b.records)
+    (old new : List ℕ) (here : slice_get pool.images page ≡ Some old)
+    (stored : pool' ≡ record pool { images = slice_set pool.images page new }) where
   held_there : (value : Option (List ℕ)) → lookup key b.records ≡ value →
       lookup key (records_at (store_of pool.images) page) ≡ value
-  held_there value was = ap (λ (x : Bucket). lookup key x.records) (sym is) ∙ was
+  held_there value was = ap (λ (x : Bucket). lookup key x.records) (sym ahead.is) ∙ was
 
-  -- ---- a put
+  -- any record of the bucket
+  module _ (w : RecordWrite) (changes : Changes (records_after w) old new) where
+    bucket : IsBucketPage old
+    bucket = (ahead.image old here).0
 
-  module _ (value : List ℕ) (none : lookup key b.records ≡ None)
-      (room : has_room (length (record_bytes b.records)) (length value) ≡ true) where
-    fits : length (record_bytes (records_at (store_of pool.images) page)) + (RECORD_HEAD_BYTES + length value)
-        ≤ ROOM_BYTES
-    fits = subst (λ (x : Bucket). length (record_bytes x.records) + (RECORD_HEAD_BYTES + length value) ≤ ROOM_BYTES) is
-        (room_is (length (record_bytes b.records)) (length value) room)
+    written : store_of pool'.images ≡ write_record page w (store_of pool.images)
+    written = ap (λ (p : PoolState). store_of p.images) stored
+        ∙ stored_there pool page old new here ahead.there.behind bucket w changes
 
-    pub put_done : OnlyWrites true pool pool' →
-        (IsTrue pool.honest → store_of pool'.images ≡ write_record page (Put (pair key value)) (store_of pool.images)) →
-        WritesOn deeds.Put page None key value pool pool'
-    put_done writes ok = record {
-      has = sym (ap (option_map length) (held_there None none));
-      last = fits;
-      writes = writes;
-      is = ok;
-    }
+    writes : OnlyWrites true pool pool'
+    writes = writes_there pool page old new here ahead.there.behind bucket w changes pool' ready stored
 
-    pub put_failed : (fault : FileFault) → OnlyWrites false pool pool' → FileHasCause pool pool' fault →
-        (IsTrue pool.honest → pool'.images ≡ pool.images) →
-        (IsTrue pool.honest → IsFilePool pool → TakesRecord page key (length value) (store_of pool.images) →
-        IsDevicesFault pool pool' fault) → FailsOn fault pool pool'
-    put_failed fault writes cause spares devices = record {
-      writes = writes;
-      cause = cause;
-      spares = spares;
-      devices = λ honest file.
-          devices honest file (record { there = there; absent = held_there None none; room = fits });
-    }
+  -- a put
+  pub put_done : (value : List ℕ) → lookup key b.records ≡ None →
+      has_room (length (record_bytes b.records)) (length value) ≡ true →
+      Changes (inserted (pair place.key value)) old new → WritesOn deeds.Put page None key value pool pool'
+  put_done value none room changes =
+      let w : RecordWrite = Put (pair key value) in
+      let change = subst (λ (p : Place). Changes (inserted (pair p.key value)) old new) placed changes in
+      record {
+        has = sym (ap (option_map length) (held_there None none));
+        last = subst (λ (x : Bucket). length (record_bytes x.records) + (RECORD_HEAD_BYTES + length value)
+            ≤ ROOM_BYTES) ahead.is (room_is (length (record_bytes b.records)) (length value) room);
+        writes = writes w change;
+        is = λ honest. written w change;
+      }
 
-  -- ---- a replace, and a removal
-
+  -- a replace, and a removal
   module _ (value : List ℕ) (has : lookup key b.records ≡ Some value) where
-    some_there : IsSome (lookup key (records_at (store_of pool.images) page))
-    some_there = ap is_some (held_there (Some value) has)
-
     length_is : Some (length value) ≡ option_map length (lookup key (records_at (store_of pool.images) page))
     length_is = sym (ap (option_map length) (held_there (Some value) has))
 
-    pub replace_done : (front : List ℕ) → OnlyWrites true pool pool' →
-        (IsTrue pool.honest → store_of pool'.images ≡ write_record page (Replace (pair key (front ++ drop (length front)
-        (value_of_key key (records_at (store_of pool.images) page))))) (store_of pool.images)) →
+    pub replace_done : (front : List ℕ) → Changes (fronted place.key front) old new →
         WritesOn deeds.Replace page (Some (length value)) key front pool pool'
-    replace_done front writes ok = record { has = length_is; last = refl; writes = writes; is = ok }
-
-    pub replace_failed : (front : List ℕ) → length front ≤ length value → (fault : FileFault) →
-        OnlyWrites false pool pool' → FileHasCause pool pool' fault →
-        (IsTrue pool.honest → pool'.images ≡ pool.images) →
-        (IsTrue pool.honest → IsFilePool pool → IsBucketThere page (store_of pool.images) →
-        IsSome (lookup key (records_at (store_of pool.images) page)) →
-        length front ≤ length (value_of_key key (records_at (store_of pool.images) page)) →
-        IsDevicesFault pool pool' fault) → FailsOn fault pool pool'
-    replace_failed front short fault writes cause spares devices = record {
-      writes = writes;
-      cause = cause;
-      spares = spares;
-      devices = λ honest file. devices honest file there some_there
-          (subst (λ (x : Option (List ℕ)). length front ≤ length (unwrap_or x []))
-          (sym (held_there (Some value) has)) short);
-    }
+    replace_done front changes =
+        let store : List Pair → RecordWrite =
+        λ (ps : List Pair). Replace (pair key (with_front front (value_of_key key ps))) in
+        let change = subst (λ (p : Place). Changes (fronted p.key front) old new) placed changes in
+        let same : records_in old ≡ records_at (store_of pool.images) page =
+        ap (λ (x : Bucket). x.records) (sym (ahead.image old here).1 ∙ ahead.is) in
+        record {
+          has = length_is;
+          last = refl;
+          writes = writes (store (records_in old)) change;
+          is = λ honest. written (store (records_in old)) change
+              ∙ ap (λ (ps : List Pair). write_record page (store ps) (store_of pool.images)) same;
+        }
 
     -- the front of the value with links set in it is that of the value there
     pub front_on : (links : Links) (front : List ℕ) → HasFrontSet value links front →
@@ -136,24 +156,14 @@ module _ (pool pool' : PoolState) (page : ℕ) (key : RecordKey) (b : Bucket)
     }
 
     pub remove_done : (bytes : List ℕ) →
-        is_due b.depth (length (record_bytes b.records)) (length value) ≡ false → OnlyWrites true pool pool' →
-        (IsTrue pool.honest → store_of pool'.images ≡ write_record page (Remove key) (store_of pool.images)) →
-        WritesOn deeds.Remove page (Some (length value)) key bytes pool pool'
-    remove_done bytes none writes ok = record {
-      has = length_is;
-      last = subst (λ (x : Bucket). is_due x.depth (length (record_bytes x.records)) (length value) ≡ false) is none;
-      writes = writes;
-      is = ok;
-    }
-
-    pub remove_failed : (fault : FileFault) → OnlyWrites false pool pool' → FileHasCause pool pool' fault →
-        (IsTrue pool.honest → pool'.images ≡ pool.images) →
-        (IsTrue pool.honest → IsFilePool pool → IsBucketThere page (store_of pool.images) →
-        IsSome (lookup key (records_at (store_of pool.images) page)) → IsDevicesFault pool pool' fault) →
-        FailsOn fault pool pool'
-    remove_failed fault writes cause spares devices = record {
-      writes = writes;
-      cause = cause;
-      spares = spares;
-      devices = λ honest file. devices honest file there some_there;
-    }
+        is_due b.depth (length (record_bytes b.records)) (length value) ≡ false →
+        Changes (removed place.key) old new → WritesOn deeds.Remove page (Some (length value)) key bytes pool pool'
+    remove_done bytes due changes =
+        let change = subst (λ (p : Place). Changes (removed p.key) old new) placed changes in
+        record {
+          has = length_is;
+          last = subst (λ (x : Bucket). is_due x.depth (length (record_bytes x.records)) (length value) ≡ false)
+              ahead.is due;
+          writes = writes (Remove key) change;
+          is = λ honest. written (Remove key) change;
+        }

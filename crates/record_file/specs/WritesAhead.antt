@@ -1,15 +1,24 @@
 -- What a deed writes at once into the bucket on a page that is in a frame, with nothing more due behind it.
 -- docs/STEPS.md, "Search".
-use Rattle.std.specs.Prelude.{ℕ, ◌≡◌, ◌≤◌, ◌+◌, true, false, List, length, Option, Some, None, IsSome, IsTrue}
+use Rattle.std.specs.Prelude.{ℕ, ◌≡◌, ◌≤◌, ◌+◌, true, false, List, length, Option, Some, None, IsSome, IsTrue, slice_get}
 use Rattle.std.specs.Option.{option_map}
+use Rattle.bucket_page.specs.Bucket.{Bucket}
+use Rattle.bucket_page.specs.Changes.{IsBucketPage}
+use Rattle.bucket_page.specs.Reading.{bucket_in}
 use Rattle.bucket_page.specs.declared.layout.TheConstants.{RECORD_HEAD_BYTES, ROOM_BYTES}
 use Rattle.hash_file.specs.Changes.{write_record}
 use Rattle.hash_file.specs.Store.{bucket_at}
-use Rattle.split_merge.specs.file_pages.declared.fault.FileFault.{FileFault}
-use Rattle.record_file.specs.Words.{RecordKey, pair, lookup, record_bytes, value_of_key, PoolState, FileHasCause, IsDevicesFault, Store, store_of, records_at, IsFilePool, OnlyWrites, Put, Replace, Remove}
+use Rattle.file_pages.specs.Writes.{IsBucketThere}
+use Rattle.record_file.specs.Words.{RecordKey, pair, lookup, record_bytes, value_of_key, PoolState, Store, store_of, records_at, OnlyWrites, Put, Replace, Remove}
 use Rattle.record_file.specs.BucketAccesses.{is_due, with_front}
 use Rattle.record_file.specs.declared.bucket_access.Deed.{Deed}
 use Rattle.record_file.specs.declared.bucket_access.Deed.TheVariants as deeds
+
+-- the bucket on a page, as the image of that page has it
+pub record IsBucketAhead (page : ℕ) (images : List (List ℕ)) (b : Bucket) : Type 0 where
+  pub there : IsBucketThere page (store_of images)
+  pub is : b ≡ bucket_at (store_of images) page
+  pub image : (payload : List ℕ) → slice_get images page ≡ Some payload → IsBucketPage payload × (b ≡ bucket_in payload)
 
 -- what it makes of the file, where these bytes are lent
 abbrev pub written_on : Deed → (page : ℕ) → RecordKey → List ℕ → Store → Store
@@ -38,10 +47,3 @@ pub record WritesOn (deed : Deed) (page : ℕ) (found : Option ℕ) (key : Recor
   pub last : IsLast deed page found bytes (store_of pool.images)
   pub writes : OnlyWrites true pool pool'
   pub is : IsTrue pool.honest → store_of pool'.images ≡ written_on deed page key bytes (store_of pool.images)
-
--- nothing is written, for a fault of the device
-pub record FailsOn (fault : FileFault) (pool pool' : PoolState) : Type 0 where
-  pub writes : OnlyWrites false pool pool'
-  pub cause : FileHasCause pool pool' fault
-  pub spares : IsTrue pool.honest → pool'.images ≡ pool.images
-  pub devices : IsTrue pool.honest → IsFilePool pool → IsDevicesFault pool pool' fault

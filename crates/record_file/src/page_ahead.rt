@@ -1,22 +1,19 @@
 //! A deed done at once in the bucket on a page that is in a frame.
 //!
-//! Each looks first, and writes only where nothing more is due behind it: a second try of a put,
-//! a merge behind a removal. So a fault of the write is one of the device.
+//! Each looks first, in one walk of the bucket, and writes at the place that this told, where nothing
+//! more is due behind it: a second try of a put, a merge behind a removal. So nothing can fail.
 
-ghost use Rattle.std.specs.Prelude.{◌≡◌, ◌≤◌, ℕ, List, length, take, IfErr, IfOk, IfSome, None, Some, true, false};
-ghost use Rattle.file_pages.specs.Writes.{IsBucketThere};
-ghost use Rattle.hash_file.specs.Store.{bucket_at};
+ghost use Rattle.std.specs.Prelude.{◌≡◌, ◌≤◌, ℕ, List, length, take, IfSome, None, Some, true, false};
 ghost use Rattle.queue_records.specs.declared.layout.TheConstants.{MESSAGE_BYTES};
 ghost use Rattle.record_file.specs.Readings.{HasFrontOn, HasFrontSet};
-ghost use Rattle.record_file.specs.Words.{IsReady, store_of};
-ghost use Rattle.record_file.specs.WritesAhead.{FailsOn, WritesOn};
+ghost use Rattle.record_file.specs.Words.{IsReady};
+ghost use Rattle.record_file.specs.WritesAhead.{IsBucketAhead, WritesOn};
 ghost use Rattle.record_file.specs.declared.bucket_access.Deed.{Deed};
 
 use crate::bucket_access::{has_room, is_due};
 use bucket_page::{BucketView, RecordKey};
 use directory::ROOT_PAGE;
 use file_pages::buffer_pool::Pool;
-use file_pages::{FileFault, put_record, remove_record, replace_front};
 use page_device::PageDevice;
 use queue_records::{Links, MESSAGE_BYTES, Value, relink};
 
@@ -26,24 +23,28 @@ pub(crate) fn put_ahead<D: PageDevice>(
     page: u32,
     key: &RecordKey,
     value: &[u8],
-) -> Result<bool, FileFault>
+) -> bool
     requires ready { IsReady pool.old }
-    ensures made { IfOk result (λ made. made ≡ true →
-        WritesOn Deed.Put page None key.now value.now pool.old pool.new) }
-    ensures spares { IfOk result (λ made. made ≡ false → pool.new ≡ pool.old) }
-    ensures failed { IfErr result (λ fault. FailsOn fault pool.old pool.new) }
+    ensures made { result ≡ true →
+        WritesOn Deed.Put page None key.now value.now pool.old pool.new }
+    ensures spares { result ≡ false → pool.new ≡ pool.old }
 {
     let Some(bucket) = bucket_ahead(pool, page) else {
-        return Ok(false);
+        return false;
     };
-    let None = bucket.find(key) else {
-        return Ok(false);
+    let sought = bucket.seek(key);
+    let place = sought.place;
+    let None = sought.value else {
+        return false;
     };
     if !has_room(bucket.used(), value.len()) {
-        return Ok(false);
+        return false;
     }
-    put_record(pool, page, key, value)?;
-    Ok(true)
+    let Some(image) = pool.resident_mut(page) else {
+        return false;
+    };
+    image.put_at(&place, value);
+    true
 }
 
 /// Replaces the value of a key by one as long.
@@ -52,24 +53,28 @@ pub(crate) fn replace_ahead<D: PageDevice>(
     page: u32,
     key: &RecordKey,
     value: &[u8],
-) -> Result<bool, FileFault>
+) -> bool
     requires ready { IsReady pool.old }
-    ensures made { IfOk result (λ made. made ≡ true →
-        WritesOn Deed.Replace page (Some (length value.now)) key.now value.now pool.old pool.new) }
-    ensures spares { IfOk result (λ made. made ≡ false → pool.new ≡ pool.old) }
-    ensures failed { IfErr result (λ fault. FailsOn fault pool.old pool.new) }
+    ensures made { result ≡ true →
+        WritesOn Deed.Replace page (Some (length value.now)) key.now value.now pool.old pool.new }
+    ensures spares { result ≡ false → pool.new ≡ pool.old }
 {
     let Some(bucket) = bucket_ahead(pool, page) else {
-        return Ok(false);
+        return false;
     };
-    let Some(old) = bucket.find(key) else {
-        return Ok(false);
+    let sought = bucket.seek(key);
+    let place = sought.place;
+    let Some(old) = sought.value else {
+        return false;
     };
     if old.len() != value.len() {
-        return Ok(false);
+        return false;
     }
-    replace_front(pool, page, key, value)?;
-    Ok(true)
+    let Some(image) = pool.resident_mut(page) else {
+        return false;
+    };
+    image.replace_front_at(&place, value);
+    true
 }
 
 /// Sets links in the front of the value of a key, where it has one. The value's length is told, and
@@ -80,31 +85,33 @@ pub(crate) fn relink_ahead<D: PageDevice>(
     key: &RecordKey,
     links: &Links,
     front: &mut Value,
-) -> Result<Option<usize>, FileFault>
+) -> Option<usize>
     requires ready { IsReady pool.old }
-    ensures made { IfOk result (λ made. IfSome made (λ len.
-        WritesOn Deed.Replace page (Some len) key.now front.new pool.old pool.new)) }
-    ensures set { IfOk result (λ made. IfSome made (λ len.
-        HasFrontOn page len key.now pool.old links.now front.new)) }
-    ensures spares { IfOk result (λ made. made ≡ None →
-        (front.new ≡ front.old) × (pool.new ≡ pool.old)) }
-    ensures failed { IfErr result (λ fault.
-        (front.new ≡ front.old) × FailsOn fault pool.old pool.new) }
+    ensures made { IfSome result (λ len.
+        WritesOn Deed.Replace page (Some len) key.now front.new pool.old pool.new) }
+    ensures set { IfSome result (λ len.
+        HasFrontOn page len key.now pool.old links.now front.new) }
+    ensures spares { result ≡ None → (front.new ≡ front.old) × (pool.new ≡ pool.old) }
 {
     let Some(bucket) = bucket_ahead(pool, page) else {
-        return Ok(None);
+        return None;
     };
-    let Some(value) = bucket.find(key) else {
-        return Ok(None);
+    let sought = bucket.seek(key);
+    let place = sought.place;
+    let Some(value) = sought.value else {
+        return None;
     };
     let len = value.len();
     let mut relinked = [0; MESSAGE_BYTES];
     let Some(bytes) = set_front(value, links, &mut relinked) else {
-        return Ok(None);
+        return None;
     };
-    replace_front(pool, page, key, &relinked[..bytes])?;
+    let Some(image) = pool.resident_mut(page) else {
+        return None;
+    };
+    image.replace_front_at(&place, &relinked[..bytes]);
     front.set(&relinked[..bytes]);
-    Ok(Some(len))
+    Some(len)
 }
 
 /// Takes the record of a key out, where no merge is due then. The length of its value is told.
@@ -112,31 +119,34 @@ pub(crate) fn remove_ahead<D: PageDevice>(
     pool: &mut Pool<D>,
     page: u32,
     key: &RecordKey,
-) -> Result<Option<usize>, FileFault>
+) -> Option<usize>
     requires ready { IsReady pool.old }
-    ensures made { IfOk result (λ made. IfSome made (λ len. (bytes : List ℕ) →
-        WritesOn Deed.Remove page (Some len) key.now bytes pool.old pool.new)) }
-    ensures spares { IfOk result (λ made. made ≡ None → pool.new ≡ pool.old) }
-    ensures failed { IfErr result (λ fault. FailsOn fault pool.old pool.new) }
+    ensures made { IfSome result (λ len. (bytes : List ℕ) →
+        WritesOn Deed.Remove page (Some len) key.now bytes pool.old pool.new) }
+    ensures spares { result ≡ None → pool.new ≡ pool.old }
 {
     let Some(bucket) = bucket_ahead(pool, page) else {
-        return Ok(None);
+        return None;
     };
-    let Some(value) = bucket.find(key) else {
-        return Ok(None);
+    let sought = bucket.seek(key);
+    let place = sought.place;
+    let Some(value) = sought.value else {
+        return None;
     };
     let len = value.len();
     if is_due(bucket.depth(), bucket.used(), len) {
-        return Ok(None);
+        return None;
     }
-    remove_record(pool, page, key)?;
-    Ok(Some(len))
+    let Some(image) = pool.resident_mut(page) else {
+        return None;
+    };
+    image.remove_at(&place);
+    Some(len)
 }
 
 /// The bucket on a page that is in a frame; none where there is none.
 fn bucket_ahead<D: PageDevice>(pool: &Pool<D>, page: u32) -> Option<BucketView<'_>>
-    ensures there { IfSome result (λ _. IsBucketThere page (store_of pool.now.images)) }
-    ensures is { IfSome result (λ bucket. bucket ≡ bucket_at (store_of pool.now.images) page) }
+    ensures { IfSome result (IsBucketAhead page pool.now.images) }
 {
     if page < ROOT_PAGE {
         return None;

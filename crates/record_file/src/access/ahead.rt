@@ -4,7 +4,6 @@ ghost use Rattle.std.specs.Prelude.{◌≡◌, IfErr, IfOk, IfSome, None, true, 
 ghost use Rattle.record_file.specs.AccessWords.{EndsRow, IsReady, IsSeat, row_of};
 ghost use Rattle.record_file.specs.Accesses.{access_locks};
 ghost use Rattle.record_file.specs.AccessRuns.{FailsAtOnce, WritesAtOnce, WritesThere};
-ghost use Rattle.record_file.specs.WritesAhead.{FailsOn};
 
 use crate::access::Access;
 use crate::operation::RecordOperation;
@@ -19,7 +18,7 @@ impl Access {
     /// pages are in frames, the page that the directory names has the pseudokey and what it writes
     /// can stand there, nobody stands in its way, and nothing more is due behind it. Else nothing is
     /// done, it tells false, and it is left to `step`. The lock of the page is never taken, since
-    /// nobody else steps in between. A fault is that of the write; the access is what it was then.
+    /// nobody else steps in between.
     pub fn write_through<D: PageDevice>(
         &mut self,
         pool: &mut Pool<D>,
@@ -42,7 +41,7 @@ impl Access {
         let Some(page) = bucket.heads_for(pool, locks, seat) else {
             return Ok(false);
         };
-        let Some(found) = self.write_ahead(pool, page)? else {
+        let Some(found) = self.write_ahead(pool, page) else {
             return Ok(false);
         };
         self.operation.end_at(page, found);
@@ -56,44 +55,41 @@ impl Access {
         &mut self,
         pool: &mut Pool<D>,
         page: u32,
-    ) -> Result<Option<Option<usize>>, FileFault>
+    ) -> Option<Option<usize>>
         requires ready { IsReady pool.old }
-        ensures made { IfOk result (λ made. IfSome made (λ found.
-            WritesThere page found pool.old pool.new self.old self.new)) }
-        ensures spares { IfOk result (λ made. made ≡ None →
-            (self.new ≡ self.old) × (pool.new ≡ pool.old)) }
-        ensures failed { IfErr result (λ fault.
-            (self.new ≡ self.old) × FailsOn fault pool.old pool.new) }
+        ensures made { IfSome result (λ found.
+            WritesThere page found pool.old pool.new self.old self.new) }
+        ensures spares { result ≡ None → (self.new ≡ self.old) × (pool.new ≡ pool.old) }
     {
         match &self.operation {
-            RecordOperation::Find(_) => Ok(None),
+            RecordOperation::Find(_) => None,
             RecordOperation::Insert(_) => {
-                if !put_ahead(pool, page, &self.key, self.value.as_slice())? {
-                    return Ok(None);
+                if !put_ahead(pool, page, &self.key, self.value.as_slice()) {
+                    return None;
                 }
-                Ok(Some(None))
+                Some(None)
             }
             RecordOperation::Replace(_) => match &self.links {
                 None => {
                     let value = self.value.as_slice();
-                    if !replace_ahead(pool, page, &self.key, value)? {
-                        return Ok(None);
+                    if !replace_ahead(pool, page, &self.key, value) {
+                        return None;
                     }
-                    Ok(Some(Some(value.len())))
+                    Some(Some(value.len()))
                 }
                 Some(links) => {
-                    let Some(len) = relink_ahead(pool, page, &self.key, links, &mut self.value)?
+                    let Some(len) = relink_ahead(pool, page, &self.key, links, &mut self.value)
                     else {
-                        return Ok(None);
+                        return None;
                     };
-                    Ok(Some(Some(len)))
+                    Some(Some(len))
                 }
             },
             RecordOperation::Delete(_) => {
-                let Some(len) = remove_ahead(pool, page, &self.key)? else {
-                    return Ok(None);
+                let Some(len) = remove_ahead(pool, page, &self.key) else {
+                    return None;
                 };
-                Ok(Some(Some(len)))
+                Some(Some(len))
             }
         }
     }

@@ -1,35 +1,14 @@
 -- What its bucket access is told of its way, and what is written at the page, are its own steps.
-use Rattle.std.proofs.Common.{refl, sym, ap, ◌∙◌, subst, ℕ, true, Option, IfSome, length}
-use Rattle.file_pages.proofs.ReadLemmas.{handed_on}
-use Rattle.file_pages.specs.declared.fault.FileFault.{FileFault}
+use Rattle.std.proofs.Common.{refl, sym, ap, ◌∙◌, subst, true, length}
 use Rattle.record_file.specs.OperationRuns.{GoesToPage, IsBucketOf, OperationHeads, operation_through}
-use Rattle.record_file.specs.AccessRuns.{FailsAtOnce, TakesAhead, WritesAtOnce, WritesThere}
+use Rattle.record_file.specs.AccessRuns.{TakesAhead, WritesAtOnce, WritesThere}
 use Rattle.record_file.specs.Accesses.{AccessView}
 use Rattle.record_file.specs.AccessWords.{MayBeLent, PoolState, RecordOperation}
-use Rattle.record_file.specs.WritesAhead.{FailsOn}
 use Rattle.record_file.proofs.AccessAheadLemmas.{row_bare}
-use Rattle.record_file.proofs.AccessWrittenLemmas.{fails_at_once, writes_at_once}
+use Rattle.record_file.proofs.AccessWrittenLemmas.{writes_at_once}
 use Rattle.record_file.proofs.HeadLemmas.{bucket_heads}
-use Rattle.record_file.proofs.OperationWrittenLemmas.{bucket_going, goes_through}
+use Rattle.record_file.proofs.OperationWrittenLemmas.{goes_through}
 use Rattle.record_file.proofs.access.Access.write_through.Goals as goal
-
-pub returns-in_err-found-clause-failed : goal.returns-in_err-found-clause-failed
-returns-in_err-found-clause-failed g c =
-    let old : AccessView = c.args.self.now in
-    let pool' : PoolState = c.write_ahead.new.pool in
-    let fault : FileFault = c.in_err-found.field-0.0 in
-    let failed = c.in_err-found.ensures.failed in
-    let on = subst (λ (v : AccessView). IsBucketOf c.in-Some.bucket.now v.operation) c.self.view_is c.in-Some.ensures in
-    let searches = c.in-Some-heads_for.ensures.searches refl in
-    handed_on c.from_residual.result fault
-    (λ (e : FileFault). FailsAtOnce c.args.seat e old c.write_ahead.new.self c.args.pool.now pool' c.args.locks.now)
-    c.from_residual.ensures.1
-    (subst (λ (v : AccessView). FailsAtOnce c.args.seat fault old v c.args.pool.now pool' c.args.locks.now)
-    (sym failed.0)
-    (fails_at_once c.args.seat fault old c.args.pool.now pool' c.args.locks.now
-    (record { seated = c.requires.seat; ready = c.requires.ready; row = c.requires.row })
-    (bucket_going c.in-Some.bucket.now searches old.operation on)
-    (subst (λ (p : PoolState). FailsOn fault p pool') c.heads_for.ensures.pool failed.1)))
 
 pub returns-clause-made : goal.returns-clause-made
 returns-clause-made g c = λ made.
@@ -39,13 +18,12 @@ returns-clause-made g c = λ made.
     let pool' : PoolState = c.write_ahead.new.pool in
     let b = c.in-Some.bucket.now in
     let page = c.in-Some-heads_for.page in
-    let found = c.in-Some-2.found in
+    let found = c.in-Some-write_ahead.found in
     let way = c.in-Some-heads_for.ensures in
     let on = subst (λ (v : AccessView). IsBucketOf b v.operation) c.self.view_is c.in-Some.ensures in
     let lent = subst (λ (v : AccessView). MayBeLent (length c.self.inside.value) v.operation) c.self.view_is c.self.invariant.lent in
     let done = subst (λ (p : PoolState). WritesThere page found p pool' old mid) c.heads_for.ensures.pool
-    (subst (λ (r : Option (Option ℕ)). IfSome r (λ (f : Option ℕ).
-    WritesThere page f c.heads_for.new.pool pool' old mid)) c.in-Some-2.is c.in_ok-found.ensures.made) in
+    c.in-Some-write_ahead.ensures.made in
     let heads : OperationHeads c.args.seat page old.operation pool c.args.locks.now =
     bucket_heads b (way.searches refl) (way.bare refl) c.args.seat page pool c.args.locks.now _ old.operation on lent
     way.heads in
