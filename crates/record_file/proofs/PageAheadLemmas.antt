@@ -1,6 +1,7 @@
 -- A deed done at once: the bucket that was looked at, and why what was written is that of the deed.
-use Rattle.std.proofs.Common.{◌≡◌, refl, sym, ap, ◌∙◌, subst, ℕ, ◌+◌, ◌≤◌, ◌<◌, true, false, List, [], length, Option, Some, None, IfSome, IsSome, Ok, is_some, slice_get, slice_set}
+use Rattle.std.proofs.Common.{◌≡◌, refl, sym, ap, ◌∙◌, subst, ℕ, ◌+◌, ◌≤◌, ◌<◌, true, false, List, [], length, Option, Some, None, IfNone, IfSome, IsSome, Ok, is_some, slice_get, slice_set}
 use Rattle.std.proofs.lemmas.Option.{get_or_from_slice_get, slice_get_within}
+use Rattle.std.specs.Borrow.{Bor}
 use Rattle.std.specs.Option.{option_map}
 use Rattle.std.specs.Prelude.{unwrap_or}
 use Rattle.bucket_page.specs.Bucket.{Bucket}
@@ -55,6 +56,22 @@ module _ (images : List (List ℕ)) (page : ℕ) (payload : List ℕ) (behind : 
         let one = some_of payload other (sym here ∙ here') in
         (subst IsBucketPage one told.0, told.1 ∙ ap bucket_in one);
   }
+
+-- ---- what the walk told
+
+module _ (key : RecordKey) (b : Bucket) (told : Option (Bor (List ℕ))) where
+  pub none_told : told ≡ None → IfNone told (lookup key b.records ≡ None) → lookup key b.records ≡ None
+  none_told is none = subst (λ (r : Option (Bor (List ℕ))). IfNone r (lookup key b.records ≡ None)) is none
+
+  pub some_told : (value : Bor (List ℕ)) → told ≡ Some value →
+      IfSome told (λ (v : Bor (List ℕ)). lookup key b.records ≡ Some v.now) → lookup key b.records ≡ Some value.now
+  some_told value is some =
+      subst (λ (r : Option (Bor (List ℕ))). IfSome r (λ (v : Bor (List ℕ)). lookup key b.records ≡ Some v.now)) is some
+
+-- no merge is due by what the bucket told of itself
+pub not_due : (b : Bucket) (depth used n : ℕ) → depth ≡ b.depth → used ≡ length (record_bytes b.records) →
+    false ≡ is_due depth used n → is_due b.depth (length (record_bytes b.records)) n ≡ false
+not_due b depth used n deep full none = (λ j. is_due (sym deep j) (sym full j) n) ∙ sym none
 
 -- ---- the place of its key in the image that is lent
 

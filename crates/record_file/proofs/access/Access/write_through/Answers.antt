@@ -21,7 +21,8 @@ returns-clause-made g c = λ made.
     let found = c.in-Some-write_ahead.found in
     let way = c.in-Some-heads_for.ensures in
     let on = subst (λ (v : AccessView). IsBucketOf b v.operation) c.self.view_is c.in-Some.ensures in
-    let lent = subst (λ (v : AccessView). MayBeLent (length c.self.inside.value) v.operation) c.self.view_is c.self.invariant.lent in
+    let lent = subst (λ (v : AccessView). MayBeLent (length c.self.inside.value) v.operation) c.self.view_is
+    c.self.invariant.lent in
     let done = subst (λ (p : PoolState). WritesThere page found p pool' old mid) c.heads_for.ensures.pool
     c.in-Some-write_ahead.ensures.made in
     let heads : OperationHeads c.args.seat page old.operation pool c.args.locks.now =
