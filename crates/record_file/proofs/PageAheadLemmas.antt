@@ -77,32 +77,32 @@ not_due b depth used n deep full none = (λ j. is_due (sym deep j) (sym full j) 
 
 module _ (images : List (List ℕ)) (page : ℕ) (b : Bucket) (ahead : IsBucketAhead page images b) (key : RecordKey)
     (place : Place) (placed : place ≡ place_in key b.records) (old : List ℕ) (here : slice_get images page ≡ Some old)
-    where
-  pub bucket_here : IsBucketPage old
-  bucket_here = (ahead.image old here).0
+  where
+    pub bucket_here : IsBucketPage old
+    bucket_here = (ahead.image old here).0
 
-  pub says_here : b ≡ bucket_in old
-  says_here = (ahead.image old here).1
+    pub says_here : b ≡ bucket_in old
+    says_here = (ahead.image old here).1
 
-  pub placed_here : IsPlace place (records_in old)
-  placed_here = placed ∙ (λ j. place_in (ap (λ (p : Place). p.key) (sym placed) j) (says_here j).records)
+    pub placed_here : IsPlace place (records_in old)
+    placed_here = placed ∙ (λ j. place_in (ap (λ (p : Place). p.key) (sym placed) j) (says_here j).records)
 
-  pub held_here : (value : Option (List ℕ)) → lookup key b.records ≡ value → lookup place.key (records_in old) ≡ value
-  held_here value was = (λ j. lookup (ap (λ (p : Place). p.key) placed j) (sym says_here j).records) ∙ was
+    pub held_here : (value : Option (List ℕ)) → lookup key b.records ≡ value → lookup place.key (records_in old) ≡ value
+    held_here value was = (λ j. lookup (ap (λ (p : Place). p.key) placed j) (sym says_here j).records) ∙ was
 
-  pub long_here : (value front : List ℕ) → lookup key b.records ≡ Some value → length front ≤ length value →
-      length front ≤ length (value_of_key place.key (records_in old))
-  long_here value front was short =
-      subst (λ (x : Option (List ℕ)). length front ≤ length (unwrap_or x [])) (sym (held_here (Some value) was)) short
+    pub long_here : (value front : List ℕ) → lookup key b.records ≡ Some value → length front ≤ length value →
+        length front ≤ length (value_of_key place.key (records_in old))
+    long_here value front was short =
+        subst (λ (x : Option (List ℕ)). length front ≤ length (unwrap_or x [])) (sym (held_here (Some value) was)) short
 
-  pub some_here : (value : List ℕ) → lookup key b.records ≡ Some value → IsSome (lookup place.key (records_in old))
-  some_here value was = ap is_some (held_here (Some value) was)
+    pub some_here : (value : List ℕ) → lookup key b.records ≡ Some value → IsSome (lookup place.key (records_in old))
+    some_here value was = ap is_some (held_here (Some value) was)
 
-  pub room_here : (n : ℕ) → has_room (length (record_bytes b.records)) n ≡ true →
-      length (record_bytes (records_in old)) + (RECORD_HEAD_BYTES + n) ≤ ROOM_BYTES
-  room_here n room =
-      subst (λ (x : Bucket). length (record_bytes x.records) + (RECORD_HEAD_BYTES + n) ≤ ROOM_BYTES) says_here
-      (room_is (length (record_bytes b.records)) n room)
+    pub room_here : (n : ℕ) → has_room (length (record_bytes b.records)) n ≡ true →
+        length (record_bytes (records_in old)) + (RECORD_HEAD_BYTES + n) ≤ ROOM_BYTES
+    room_here n room =
+        subst (λ (x : Bucket). length (record_bytes x.records) + (RECORD_HEAD_BYTES + n) ≤ ROOM_BYTES) says_here
+        (room_is (length (record_bytes b.records)) n room)
 
 -- ---- what was written
 

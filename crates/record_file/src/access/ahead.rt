@@ -51,11 +51,7 @@ impl Access {
 
     /// Writes on a page that is in a frame, where nothing more is due behind that, and takes what
     /// it writes as `take` does. Of the key, the length of the value that stood there is told.
-    fn write_ahead<D: PageDevice>(
-        &mut self,
-        pool: &mut Pool<D>,
-        page: u32,
-    ) -> Option<Option<usize>>
+    fn write_ahead<D: PageDevice>(&mut self, pool: &mut Pool<D>, page: u32) -> Option<Option<usize>>
         requires ready { IsReady pool.old }
         ensures made { IfSome result (λ found.
             WritesThere page found pool.old pool.new self.old self.new) }
