@@ -154,10 +154,12 @@ impl Questions {
         if self.inquiry.wants(call).is_some() {
             return false;
         }
-        if !self.changes(call) {
+        // Mostly the names are there, which is told by one comparison, and what is written is not
+        // looked at.
+        if is_ready(self.names.turn(call, &self.inquiry)) {
             return true;
         }
-        is_ready(self.names.turn(call, &self.inquiry))
+        !self.changes(call)
     }
 
     /// Whether it inserts on trial or writes something where its inquiry has come.

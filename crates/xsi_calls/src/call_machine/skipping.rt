@@ -13,7 +13,7 @@ use buffer_pool::Pool;
 use file_pages::FileFault;
 use page_device::PageDevice;
 use page_locks::LockTable;
-use xsi_inquiry::Inquiry;
+use queue_model::Call;
 
 impl CallMachine {
     /// All steps of the next question, in one go, where it has not decided, nothing is inserted on
@@ -74,8 +74,7 @@ impl CallMachine {
         if self.is_undecided() {
             let tries = self.part.is_trying();
             if !tries {
-                // A call that inserts nothing on trial is left to its Decide.
-                if !self.questions.inquiry().inserts(&self.call) {
+                if !self.may_try() {
                     return Ok(false);
                 }
                 if !self.questions.is_done(&self.part, &self.call) {
@@ -110,5 +109,11 @@ impl CallMachine {
             return place.writes.write_through(&plan, pool, locks, keys, seat);
         }
         Ok(false)
+    }
+
+    /// Whether a call of its kind may insert on trial. Any other is left to its Decide, with no look at
+    /// what it would insert, which `begin_first` takes.
+    fn may_try(&self) -> bool {
+        matches!(self.call, Call::Get(_) | Call::Send(_))
     }
 }

@@ -21,7 +21,7 @@ use Rattle.xsi_calls.proofs.StepLemmas.{tried_with}
 use Rattle.xsi_calls.proofs.UndecidedAtOnceLemmas.{trial_at_once, tries_from_part}
 use Rattle.xsi_calls.proofs.call_machine.CallMachine.write_through.Given as given
 use Rattle.xsi_calls.proofs.call_machine.CallMachine.write_through.Goals as goal
-use Rattle.xsi_calls.proofs.call_machine.CallMachine.write_through.Goals.{After-keep_order, then-not-tries+else-not-inserts+else-not-is_done+in-Ok-true, else-not-tries}
+use Rattle.xsi_calls.proofs.call_machine.CallMachine.write_through.Goals.{After-keep_order, then-not-tries+else-not-may_try+else-not-is_done+in-Ok-true, else-not-tries}
 
 -- behind its questions it tries, and a step of that is one of the call
 tried : (g : given.Over) (c : After-keep_order g) → (part : Part) × (c.if-not-tries.self-inside ≡ record {
@@ -33,7 +33,7 @@ tried : (g : given.Over) (c : After-keep_order g) → (part : Part) × (c.if-not
 }) × Tries c.self.inside.call c.self.inside.questions c.self.inside.part part
 tried g c =
     elim c.if-not-tries.branch [
-      | then-not-tries+else-not-inserts+else-not-is_done+in-Ok-true w ↦ (
+      | then-not-tries+else-not-may_try+else-not-is_done+in-Ok-true w ↦ (
         w.begin_first.new.self,
         w.self-inside-is,
         subst (λ (r : Result Bool NotASystem). GoesOnTrying c.self.inside.call c.self.inside.questions r
@@ -92,7 +92,7 @@ returns-then-branch-clause-made g c = λ made stopped.
     rw (here, on_trial, counted) (trial_at_once hash c.args.seat i.call (asked_with q None)
     (subst (λ (x : Inside). AreNames x.questions.names) is c.keep_order.ensures) c.new-plan.result
     (c.new-plan.ensures ∙ ap (λ (y : AnyInquiry). plan_of c.if-not-tries.self-inside.call y)
-    c.inquiry-then-is_undecided.ensures ∙ ap (λ (x : Inside). plan_of x.call x.questions.inquiry) is)
+    c.inquiry.ensures ∙ ap (λ (x : Inside). plan_of x.call x.questions.inquiry) is)
     (decision_by i.call q.inquiry) place.writes c.write_through.new.self c.args.pool.now c.write_through.new.pool
     c.args.locks.now c.requires.seat (row ∙ sym tries.row ∙ ap undecided_locks now)
     (c.in_ok-write_through-in-Writes.ensures.made c.if-branch.true)) in
@@ -130,7 +130,7 @@ returns-in_err-write_through-in-Writes-clause-failed g c =
     rw (here, on_trial) (tried_with hash c.args.seat i.call (asked_with q None) c.args.pool.now c.args.locks.now
     c.new-plan.result
     (c.new-plan.ensures ∙ ap (λ (y : AnyInquiry). plan_of c.if-not-tries.self-inside.call y)
-    c.inquiry-then-is_undecided.ensures ∙ ap (λ (x : Inside). plan_of x.call x.questions.inquiry) is)
+    c.inquiry.ensures ∙ ap (λ (x : Inside). plan_of x.call x.questions.inquiry) is)
     (record { writes = place.writes; decision = decision_by i.call q.inquiry })
     (subst (λ (x : Inside). AreNames x.questions.names) is c.keep_order.ensures)
     (row ∙ sym tries.row ∙ ap undecided_locks now) (Fault fault) c.write_through.new.self c.write_through.new.pool
