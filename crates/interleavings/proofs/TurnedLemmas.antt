@@ -93,7 +93,7 @@ module _ (hash : RecordKey → ℕ) (seat : ℕ) (s : State) (filed : IsFiled s)
       HasAsLong (its_plan new.call new.undecided.questions).trials r
   inserts_as_long same before behind full calls goes r has =
       let at =
-          tries_at hash seat s filed new.call after pool' locks' change' new.undecided new.stage behind full goes in
+      tries_at hash seat s filed new.call after pool' locks' change' new.undecided new.stage behind full goes in
       let knows = knows_at hash seat s filed old.call records pool locks change old.undecided old.stage before calls in
       by (slice_get (its_plan new.call new.undecided.questions).trials 0) refl at.first
       (subst (λ (c : Call). KnowsOf c old.undecided.questions.inquiry old.undecided.questions.room s) (sym same) knows)
