@@ -58,7 +58,7 @@ transfer_of t (step.SyncCut page) = SyncJournal true
 transfer_of t (step.ReadZero page) = ReadPage 0
 transfer_of t (step.Begin page seal) = WriteHead (head_of (front_of t.count t.journal.number seal))
 transfer_of t (step.ReadPage page) = ReadPage page
-transfer_of t (step.AddImage page was) = WriteImage t.journal.end (image_of t.journal.sum page was)
+transfer_of t (step.AddImage page image sum) = WriteImage t.journal.end image
 transfer_of t (step.Make act) = transfer_of_act t act
 
 -- ---- with which step an act begins
@@ -127,10 +127,15 @@ abbrev pub begun_with : ℕ → (seal : List ℕ) → Standing → Standing
 begun_with count seal journal =
     record journal { end = 80; sum = sha256 (front_of count journal.number seal) }
 
-abbrev pub with_image : (page : ℕ) → (was : List ℕ) → Standing → Standing
-with_image page was journal = record journal {
-  end = min (journal.end + 4132) 18446744073709551615;
-  sum = image_sum journal.sum page was;
+-- an image was added that ends with this digest
+abbrev pub with_image : (sum : List ℕ) → Standing → Standing
+with_image sum journal =
+    record journal { end = min (journal.end + 4132) 18446744073709551615; sum = sum }
+
+-- the image of the page that was read goes on from the digest of what stands in the journal
+abbrev pub image_next : (page : ℕ) → (was : List ℕ) → TransfersState → TransfersState
+image_next page was t = record t {
+  step = step.AddImage page (image_of t.journal.sum page was) (image_sum t.journal.sum page was);
 }
 
 -- its act goes on
@@ -142,7 +147,7 @@ gone_on (step.SyncCut page) read t =
 gone_on (step.ReadZero page) read t = record t { step = step.Begin page (seal_in read) }
 gone_on (step.Begin page seal) read t =
     record t { journal = begun_with t.count seal t.journal; step = step.ReadPage page }
-gone_on (step.ReadPage page) read t = record t { step = step.AddImage page read }
+gone_on (step.ReadPage page) read t = image_next page read t
 gone_on s read t = record t { step = s }
 
 -- or it is done, and what stands in the journal outlasts a crash where it was synced
@@ -154,8 +159,8 @@ counted journal = record journal { size = max journal.size journal.end }
 
 abbrev pub Tells : {S : Type 0} → (S → Pages) → (S → Pages → Type 0) → (S → S → Type 0) → (read : List ℕ) →
     (pages after : S) → (old new : TransfersState) → Step → Type 0
-Tells saved_of wants noted read pages after old new (step.AddImage page was) =
-    (new ≡ done_with (Guard page) (with_image page was old.journal) old) × (after ≡ pages)
+Tells saved_of wants noted read pages after old new (step.AddImage page image sum) =
+    (new ≡ done_with (Guard page) (with_image sum old.journal) old) × (after ≡ pages)
 Tells saved_of wants noted read pages after old new (step.Make act) =
     (new ≡ done_with act (counted old.journal) old) × Ends saved_of wants noted act pages after
 Tells saved_of wants noted read pages after old new s = (new ≡ gone_on s read old) × (after ≡ pages)

@@ -2,7 +2,7 @@
 ghost use Rattle.std.specs.Prelude.{◌≡◌, true, false, IfOk, OnErr, OnOk, take};
 ghost use Rattle.journal_bytes.specs.Bytes.{says};
 ghost use Rattle.pair_transfers.specs.Saving.{Ends, is_over};
-ghost use Rattle.pair_transfers.specs.Transfers.{Asks, Tells, begins_at, begun_with, counted, done_with, first_step, gone_on, is_long, next_number, none_under_way, numbered, transfer_of, transfer_of_act, with_image};
+ghost use Rattle.pair_transfers.specs.Transfers.{Asks, Tells, begins_at, begun_with, counted, done_with, first_step, gone_on, image_next, is_long, next_number, none_under_way, numbered, transfer_of, transfer_of_act, with_image};
 ghost use Rattle.pair_transfers.specs.declared.save.Act.TheVariants.{Guard};
 ghost use Rattle.pair_transfers.specs.declared.save.Place.TheVariants.{Failed};
 ghost use Rattle.pair_transfers.specs.declared.transfers.Step.TheVariants.{ReadPage};
@@ -87,8 +87,8 @@ pub enum Step {
     Begin(u32, Seal),
     /// The page is read.
     ReadPage(u32),
-    /// Its image is added.
-    AddImage(u32, Page),
+    /// Its image is added, which ends with this digest.
+    AddImage(u32, [u8; IMAGE_BYTES], Sum),
     /// An act that is one transfer.
     Make(Act),
 }
@@ -213,10 +213,7 @@ impl Transfers {
                 Transfer::WriteHead(bytes)
             }
             Step::ReadPage(page) => Transfer::ReadPage(*page),
-            Step::AddImage(page, was) => {
-                let (bytes, _) = spell_image(&self.journal.sum, *page, was);
-                Transfer::WriteImage(self.journal.end, bytes)
-            }
+            Step::AddImage(_, image, _) => Transfer::WriteImage(self.journal.end, *image),
             Step::Make(act) => self.transfer_of_act(act),
         }
     }
@@ -267,7 +264,7 @@ impl Transfers {
             return self.save.told(pages, &Act::SyncFile, false);
         }
         match self.step {
-            Step::AddImage(page, was) => self.end_image(pages, page, &was),
+            Step::AddImage(page, _, sum) => self.end_image(pages, page, &sum),
             Step::Make(act) => self.end_act(pages, &act),
             step => {
                 self.go_on(step, read);
@@ -289,21 +286,20 @@ impl Transfers {
         self.save.told(pages, act, true)
     }
 
-    /// The image of a page stands in the journal.
+    /// The image of a page stands in the journal, and ends with this digest.
     fn end_image<S: Unsaved>(
         &mut self,
         pages: &mut S,
         page: u32,
-        was: &Page,
+        sum: &Sum,
     ) -> Result<(), SaveFault>
         ensures advanced { OnOk result (self.new ≡
-            done_with (Guard page) (with_image page was.now self.old.journal) self.old) }
+            done_with (Guard page) (with_image sum.now self.old.journal) self.old) }
         ensures failed { OnErr result (self.new.save.place ≡ Failed) }
         ensures pages { OnOk result (pages.new ≡ pages.old) }
     {
         self.step = Step::Ask;
-        let (_, sum) = spell_image(&self.journal.sum, page, was);
-        self.journal.sum = sum;
+        self.journal.sum = *sum;
         self.journal.end = self.journal.end.saturating_add(IMAGE_BYTES as u64);
         self.save.told(pages, &Act::Guard(page), true)
     }
@@ -321,9 +317,17 @@ impl Transfers {
             }
             Step::ReadZero(page) => self.step = Step::Begin(page, seal_of(read)),
             Step::Begin(page, seal) => self.end_head(page, &seal),
-            Step::ReadPage(page) => self.step = Step::AddImage(page, *read),
+            Step::ReadPage(page) => self.spell_next(page, read),
             step => self.step = step,
         }
+    }
+
+    /// A page was read: its image goes on from the digest of what stands in the journal.
+    fn spell_next(&mut self, page: u32, read: &Page)
+        ensures { self.new ≡ image_next page read.now self.old }
+    {
+        let (image, sum) = spell_image(&self.journal.sum, page, read);
+        self.step = Step::AddImage(page, image, sum);
     }
 
     /// The save gets a number: one above that of the head that was read, where there is one.
