@@ -32,8 +32,8 @@ calls_front_of count number seal =
 abbrev pub image_sum : (before : List ℕ) → (number : ℕ) → (page : List ℕ) → List ℕ
 image_sum before number page = sha256 (before ++ (four number ++ page))
 
-abbrev pub image_of : (before : List ℕ) → (number : ℕ) → (page : List ℕ) → List ℕ
-image_of before number page = (four number ++ page) ++ image_sum before number page
+abbrev pub image_of : (number : ℕ) → (page sum : List ℕ) → List ℕ
+image_of number page sum = (four number ++ page) ++ sum
 
 -- ---- what stands where a head is looked for
 

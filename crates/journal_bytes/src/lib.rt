@@ -15,5 +15,5 @@ pub use head::{
     FoundHead, HEAD_BYTES, Head, NEW_VERSION, VERSION_OF_CALLS, read_head, spell_end, spell_head,
     spell_head_of_calls,
 };
-pub use image::{IMAGE_BYTES, Sum, spell_image};
+pub use image::{IMAGE_BYTES, Sum, put_image, sum_of_image};
 pub use page_zero::{PageZero, SEAL_BYTES, Seal, seal_of};

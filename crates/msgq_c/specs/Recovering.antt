@@ -1,12 +1,13 @@
 -- A file is recovered, transfer by transfer. docs/FORMAT.md, "The journal".
 use Rattle.std.specs.Prelude.{ℕ, ◌≡◌, ◌⊎◌, Bool, true, List, Option, Some, None}
-use Rattle.pair_transfers.specs.RecoveryTransfers.{Asks, Refuses, Tells, begins_calls, recovers_at}
+use Rattle.pair_transfers.specs.RecoveryTransfers.{Asks, Refuses, Tells, begins_calls, recovers_at, written_now}
+use Rattle.pair_transfers.specs.Transfers.{laid_over}
 use Rattle.pair_transfers.specs.declared.recovery.RecoverFault.{RecoverFault}
 use Rattle.pair_transfers.specs.declared.recovery.RecoverFault.TheVariants.{Device, Foreign, OtherVersion}
 use Rattle.pair_transfers.specs.declared.recovering.Recovering.{Recovering}
 use Rattle.pair_transfers.specs.declared.transfers.Transfer.{Transfer}
 use Rattle.msgq_c.specs.HeldRecovery.{RecoveryUnderWay}
-use Rattle.msgq_c.specs.Saving.{HasBytes, order_of, standing_of}
+use Rattle.msgq_c.specs.Saving.{order_of, standing_of}
 use Rattle.msgq_c.specs.declared.codes.TheConstants.{DONE, FAILED, IN_USE, NO_MEMORY, NO_SESSION, OTHER_FILE, OTHER_VERSION}
 use Rattle.msgq_c.specs.declared.recovered.Recovered.{Recovered}
 use Rattle.msgq_c.specs.declared.saving.Order.{Order}
@@ -31,13 +32,14 @@ refusal_code Device = FAILED
 refusal_code Foreign = OTHER_FILE
 refusal_code OtherVersion = OTHER_VERSION
 
--- the next transfer was told, or the journal is refused, or a transfer has failed
+-- the next transfer was told, and the bytes that are to be written stand first; or the journal is refused, or a
+-- transfer has failed
 pub record HasAskedNext (order : Order) (room bytes : List ℕ) (code : ℕ) (old : Recovered)
     (after : RecoveryUnderWay) : Type 0 where
   pub new : Recovered
   pub after_is : after ≡ Some new
   pub asked : ((told : Option Transfer) × (code ≡ DONE) × Asks old.recovering new.recovering told
-      × (order ≡ order_of told) × HasBytes told room bytes)
+      × (order ≡ order_of told) × (bytes ≡ laid_over (written_now new.recovering) room))
       ⊎ ((fault : RecoverFault) × (code ≡ refusal_code fault) × Refuses old.recovering fault)
 
 abbrev pub AsksRecovery : Order → (room bytes : List ℕ) → ℕ → (old after : RecoveryUnderWay) → Type 0

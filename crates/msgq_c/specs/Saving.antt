@@ -1,8 +1,8 @@
 -- A session is saved, transfer by transfer. docs/FORMAT.md, "The journal".
-use Rattle.std.specs.Prelude.{ℕ, ◌≡◌, ◌⊎◌, ◌*◌, ◌++◌, ⊤, Bool, true, false, List, drop, length, Option, Some, None}
+use Rattle.std.specs.Prelude.{ℕ, ◌≡◌, ◌⊎◌, ◌*◌, Bool, true, false, List, length, Option, Some, None}
 use Rattle.queue_model.specs.State.{State}
 use Rattle.session.specs.Session.{AreItsPages, Holds, pages_of, saved_of}
-use Rattle.pair_transfers.specs.Transfers.{Asks, Tells, begins_at, none_under_way}
+use Rattle.pair_transfers.specs.Transfers.{Asks, Tells, begins_at, laid_over, none_under_way, written_of}
 use Rattle.pair_transfers.specs.declared.save.SaveFault.{SaveFault}
 use Rattle.pair_transfers.specs.declared.save.SaveFault.TheVariants.{Device, Pages, NoMemory}
 use Rattle.pair_transfers.specs.declared.transfers.Standing.{Standing}
@@ -62,10 +62,10 @@ order_of None = order_at OVER 0 0
 order_of (Some ReadHead) = order_at READ_JOURNAL 80 0
 order_of (Some (ReadJournal at length)) = order_at READ_JOURNAL length at
 order_of (Some (ReadPage page)) = order_at READ_FILE 4096 (page * 4096)
-order_of (Some (WriteHead head)) = order_at WRITE_JOURNAL 80 0
-order_of (Some (WriteImage at image)) = order_at WRITE_JOURNAL 4132 at
-order_of (Some (WriteEntry at entry)) = order_at WRITE_JOURNAL 36 at
-order_of (Some (WritePage page bytes)) = order_at WRITE_FILE 4096 (page * 4096)
+order_of (Some WriteHead) = order_at WRITE_JOURNAL 80 0
+order_of (Some (WriteImage at)) = order_at WRITE_JOURNAL 4132 at
+order_of (Some (WriteEntry at)) = order_at WRITE_JOURNAL 36 at
+order_of (Some (WritePage page)) = order_at WRITE_FILE 4096 (page * 4096)
 order_of (Some (CutFile pages)) = order_at CUT_FILE 0 (pages * 4096)
 order_of (Some CutJournal) = order_at CUT_JOURNAL 0 0
 order_of (Some (SyncJournal true)) = order_at SYNC_JOURNAL 0 0
@@ -76,18 +76,6 @@ order_of (Some (SyncFile false)) = order_at SYNC_FILE_BYTES 0 0
 order_of (Some (Remake calls)) = order_at REMAKE calls 4
 order_of (Some (WriteZeros at zeros)) = order_at WRITE_ZEROS zeros at
 order_of (Some (WriteCalls at length)) = order_at WRITE_CALLS length at
-
--- these over the first ones
-abbrev pub laid_over : (part whole : List ℕ) → List ℕ
-laid_over part whole = part ++ drop (length part) whole
-
--- the bytes that are to be written stand first
-abbrev pub HasBytes : Option Transfer → (old new : List ℕ) → Type 0
-HasBytes (Some (WriteHead head)) old new = new ≡ laid_over head old
-HasBytes (Some (WriteImage at image)) old new = new ≡ laid_over image old
-HasBytes (Some (WriteEntry at entry)) old new = new ≡ laid_over entry old
-HasBytes (Some (WritePage page written)) old new = new ≡ laid_over written old
-HasBytes transfer old new = ⊤
 
 abbrev pub fault_code : SaveFault → ℕ
 fault_code Device = FAILED
@@ -100,14 +88,14 @@ standing_of stands sum =
 
 abbrev pub BeginsHandle : Standing → ℕ → (old after : KeptSession) → Type 0
 BeginsHandle journal = Of (λ old code after.
-    (code ≡ DONE) × (after ≡ Some (record old { transfers = begins_at (pages_of old.session) journal })))
+    (code ≡ DONE) × (after ≡ Some (record old { transfers = begins_at (pages_of old.session) journal old.transfers })))
 
--- the next transfer was told, or there is a fault
+-- the next transfer was told, and the bytes that are to be written stand first; or there is a fault
 pub record HasAsked (order : Order) (room bytes : List ℕ) (code : ℕ) (old : Kept) (after : KeptSession) : Type 0 where
   pub new : Kept
   pub after_is : after ≡ Some new
   pub asked : ((told : Option Transfer) × (code ≡ DONE) × AsksKept old new told × (order ≡ order_of told)
-      × HasBytes told room bytes)
+      × (bytes ≡ laid_over (written_of new.transfers new.transfers.step) room))
       ⊎ ((fault : SaveFault) × (code ≡ fault_code fault))
 
 abbrev pub AsksHandle : Order → (room bytes : List ℕ) → ℕ → (old after : KeptSession) → Type 0

@@ -7,7 +7,7 @@ ghost use Rattle.msgq_c.specs.Recovering.{AsksRecovery, BeginsCalls, BeginsRecov
 
 use crate::codes::{DONE, FAILED, IN_USE, NO_MEMORY, NO_SESSION, OTHER_FILE, OTHER_VERSION};
 use crate::held::recovery::HeldRecovery;
-use crate::saving::{Order, Stands, tell};
+use crate::saving::{Order, Stands, order_of};
 use pair_transfers::journal_bytes::{IMAGE_BYTES, Sum};
 use pair_transfers::{RecoverFault, Recovering};
 use std::alloc::Global;
@@ -99,13 +99,17 @@ pub extern "C" fn msgq_recovery_next(
     }
     let mut recovery = handle.take(alloc);
     let told = recovery.recovering.next();
-    handle.put(recovery);
     match told {
         Ok(transfer) => {
-            tell(&transfer, order, bytes);
+            recovery.recovering.spell(bytes);
+            handle.put(recovery);
+            *order = order_of(&transfer);
             DONE
         }
-        Err(fault) => refusal_code(fault),
+        Err(fault) => {
+            handle.put(recovery);
+            refusal_code(fault)
+        }
     }
 }
 

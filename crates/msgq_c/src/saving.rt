@@ -1,9 +1,9 @@
 //! A session is saved, transfer by transfer.
 
-ghost use Rattle.std.specs.Prelude.{◌≡◌, ◌≤◌, ◌*◌, IfOk, OnOk, length};
+ghost use Rattle.std.specs.Prelude.{◌≡◌, ◌*◌, IfOk, OnOk};
 ghost use Rattle.pair_transfers.specs.Transfers.{begins_at};
 ghost use Rattle.session.specs.Session.{pages_of};
-ghost use Rattle.msgq_c.specs.Saving.{AsksHandle, AsksKept, BeginsHandle, HasBytes, TellsHandle, TellsKept, fault_code, laid_over, order_of, standing_of};
+ghost use Rattle.msgq_c.specs.Saving.{AsksHandle, AsksKept, BeginsHandle, TellsHandle, TellsKept, fault_code, order_of, standing_of};
 
 use crate::codes::{DONE, FAILED, NO_MEMORY, NO_SESSION};
 use crate::handle::Handle;
@@ -116,7 +116,7 @@ impl Kept {
     /// Begins to save its pages, beside this journal.
     fn begin_save(&mut self, journal: Standing)
         ensures { self.new ≡ record self.old {
-          transfers = begins_at (pages_of self.old.session) journal;
+          transfers = begins_at (pages_of self.old.session) journal self.old.transfers;
         } }
     {
         let pages = self.session.pages();
@@ -187,13 +187,17 @@ pub extern "C" fn msgq_session_save_next(
     }
     let mut kept = handle.take(alloc);
     let told = kept.next_transfer(alloc);
-    handle.put(kept);
     match told {
         Ok(transfer) => {
-            tell(&transfer, order, bytes);
+            kept.transfers.spell(bytes);
+            handle.put(kept);
+            *order = order_of(&transfer);
             DONE
         }
-        Err(fault) => code_of_fault(fault),
+        Err(fault) => {
+            handle.put(kept);
+            code_of_fault(fault)
+        }
     }
 }
 
@@ -231,30 +235,6 @@ pub(crate) fn code_of_fault(fault: SaveFault) -> u32
     }
 }
 
-/// Tells a transfer, and puts its bytes first.
-pub(crate) fn tell(transfer: &Option<Transfer>, order: &mut Order, bytes: &mut [u8; IMAGE_BYTES])
-    ensures order { order.new ≡ order_of transfer.now }
-    ensures bytes { HasBytes transfer.now bytes.old bytes.new }
-{
-    *order = order_of(transfer);
-    match transfer {
-        Some(Transfer::WriteHead(head)) => put_first(head, bytes),
-        Some(Transfer::WriteImage(_, image)) => put_first(image, bytes),
-        Some(Transfer::WriteEntry(_, entry)) => put_first(entry, bytes),
-        Some(Transfer::WritePage(_, page)) => put_first(page, bytes),
-        _ => {}
-    }
-}
-
-/// Writes a part over the first bytes.
-fn put_first(part: &[u8], whole: &mut [u8])
-    requires { length part.now ≤ length whole.old }
-    ensures { whole.new ≡ laid_over part.now whole.old }
-{
-    let (front, _) = whole.split_at_mut(part.len());
-    front.copy_from_slice(part);
-}
-
 /// What is told of a transfer, but for its bytes.
 pub(crate) fn order_of(transfer: &Option<Transfer>) -> Order
     ensures { result ≡ order_of transfer.now }
@@ -264,10 +244,10 @@ pub(crate) fn order_of(transfer: &Option<Transfer>) -> Order
         Some(Transfer::ReadHead) => Order::at(READ_JOURNAL, 80, 0),
         Some(Transfer::ReadJournal(at, length)) => Order::at(READ_JOURNAL, *length, *at),
         Some(Transfer::ReadPage(page)) => Order::of_page(READ_FILE, *page),
-        Some(Transfer::WriteHead(_)) => Order::at(WRITE_JOURNAL, 80, 0),
-        Some(Transfer::WriteImage(at, _)) => Order::at(WRITE_JOURNAL, 4132, *at),
-        Some(Transfer::WriteEntry(at, _)) => Order::at(WRITE_JOURNAL, 36, *at),
-        Some(Transfer::WritePage(page, _)) => Order::of_page(WRITE_FILE, *page),
+        Some(Transfer::WriteHead) => Order::at(WRITE_JOURNAL, 80, 0),
+        Some(Transfer::WriteImage(at)) => Order::at(WRITE_JOURNAL, 4132, *at),
+        Some(Transfer::WriteEntry(at)) => Order::at(WRITE_JOURNAL, 36, *at),
+        Some(Transfer::WritePage(page)) => Order::of_page(WRITE_FILE, *page),
         Some(Transfer::CutFile(pages)) => Order::at(CUT_FILE, 0, u64::from(*pages) * 4096),
         Some(Transfer::CutJournal) => Order::at(CUT_JOURNAL, 0, 0),
         Some(Transfer::SyncJournal(true)) => Order::at(SYNC_JOURNAL, 0, 0),

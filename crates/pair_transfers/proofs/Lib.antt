@@ -5,5 +5,6 @@ mod PuttingBackLemmas
 mod RecoveringLemmas
 mod RecoveryStepLemmas
 mod RestoringLemmas
+mod RoomLemmas
 mod SavingLemmas
 mod StepLemmas

@@ -1,5 +1,5 @@
 -- A save goes on: an act is made that was told.
-use Rattle.std.proofs.Common.{arith, ℕ, ◌≡◌, ◌≤◌, ◌<◌, inl, inr, refl, sym, ap, ◌∙◌, subst, Bool, true, false, length, Option, Some, None, IsTrue}
+use Rattle.std.proofs.Common.{arith, ℕ, ◌≡◌, ◌≤◌, ◌<◌, inl, inr, refl, sym, ap, ◌∙◌, subst, Bool, true, false, length, List, Option, Some, None, IsTrue}
 use Rattle.std.specs.Prelude.{nat_lt}
 use Rattle.std.proofs.lemmas.Bool.Decides.{nat_tests}
 use Rattle.safe_device.specs.Crash.{Elapses, LeavesOnly}
@@ -16,11 +16,12 @@ use Rattle.pair_transfers.specs.declared.save.Place.TheVariants.{Guarding, Writi
 use Rattle.pair_transfers.proofs.SavingLemmas.{all_written, begins, begins_left, end_synced_left, ended_left, file_synced_left, guarding_left, guards_one, image_left, is_ended, is_saved, nothing_same, nothing_to_do, saved_in, saved_in_is, synced_left, writes_next, writes_one, written_left}
 
 module _ {P : Type 0} (file : P → Pages) (journal : P → Option Journal) (may_leave : P → Left → Type 0)
-    (content : Pages) (saved : Saved) (s : SaveState) (old new : P) (done : Bool)
+    (content : Pages) (saved : Saved) (s : SaveState) (bytes : List ℕ) (old new : P) (done : Bool)
     (as_many : length content ≡ length saved.pages) (few : length content ≤ 4294967295) where
   -- a crash behind it leaves the one or the other
-  pub left_behind : (place : Place) (act : Act) → IsNextAt place s (Some act) saved.pages content →
-      StandsAt file journal may_leave place s saved content old → Makes file journal may_leave act done old new →
+  pub left_behind : (place : Place) (act : Act) → IsNextAt place s (Some act) bytes saved.pages content →
+      StandsAt file journal may_leave place s saved content old →
+      Makes file journal may_leave act bytes done old new →
       (c : Left) → may_leave new c → IsEither saved (alone content) c
   left_behind (Guarding from) (Guard page) next is (inl none) c now =
       inl (guarding_left file journal may_leave content saved from s old new is c
@@ -29,13 +30,13 @@ module _ {P : Type 0} (file : P → Pages) (journal : P → Option Journal) (may
       inl (image_left file journal may_leave content saved from s old new is page was done adds c now)
   left_behind (Guarding from) SyncImages next is makes c now =
       inl (synced_left file journal may_leave content saved from s old new is done makes c now)
-  left_behind (Guarding from) (Write page bytes) next is makes c now = absurd next
+  left_behind (Guarding from) (Write page) next is makes c now = absurd next
   left_behind (Guarding from) SyncFile next is makes c now = absurd next
   left_behind (Guarding from) End next is makes c now = absurd next
   left_behind (Guarding from) SyncEnd next is makes c now = absurd next
   left_behind (Writing written) (Guard page) next is makes c now = absurd next
   left_behind (Writing written) SyncImages next is makes c now = absurd next
-  left_behind (Writing written) (Write page bytes) next is makes c now =
+  left_behind (Writing written) (Write page) next is makes c now =
       inl (written_left file journal may_leave content saved written s old new is page bytes done next makes c now)
   left_behind (Writing written) SyncFile next is makes c now =
       inl (file_synced_left file journal may_leave content saved written s old new is done makes c now)
@@ -43,14 +44,14 @@ module _ {P : Type 0} (file : P → Pages) (journal : P → Option Journal) (may
   left_behind (Writing written) SyncEnd next is makes c now = absurd next
   left_behind Written (Guard page) next is makes c now = absurd cc
   left_behind Written SyncImages next is makes c now = absurd cc
-  left_behind Written (Write page bytes) next is makes c now = absurd cc
+  left_behind Written (Write page) next is makes c now = absurd cc
   left_behind Written SyncFile next is makes c now = absurd cc
   left_behind Written End next is makes c now =
       ended_left file journal may_leave content saved old new done is makes c now
   left_behind Written SyncEnd next is makes c now = absurd cc
   left_behind Ended (Guard page) next is makes c now = absurd cc
   left_behind Ended SyncImages next is makes c now = absurd cc
-  left_behind Ended (Write page bytes) next is makes c now = absurd cc
+  left_behind Ended (Write page) next is makes c now = absurd cc
   left_behind Ended SyncFile next is makes c now = absurd cc
   left_behind Ended End next is makes c now = absurd cc
   left_behind Ended SyncEnd next is makes c now =
@@ -59,8 +60,10 @@ module _ {P : Type 0} (file : P → Pages) (journal : P → Option Journal) (may
   left_behind Failed act next is makes c now = absurd next
 
   -- and where it is done the save has come further
-  pub stands_behind : (place : Place) (act : Act) → place ≡ s.place → IsNextAt place s (Some act) saved.pages content →
-      StandsAt file journal may_leave place s saved content old → Makes file journal may_leave act done old new →
+  pub stands_behind : (place : Place) (act : Act) → place ≡ s.place →
+      IsNextAt place s (Some act) bytes saved.pages content →
+      StandsAt file journal may_leave place s saved content old →
+      Makes file journal may_leave act bytes done old new →
       done ≡ true → StandsAt file journal may_leave (advanced act s).place (advanced act s) saved content new
   stands_behind (Guarding from) (Guard page) at next is (inl none) ok = absurd (let no = none.failed in cc)
   stands_behind (Guarding from) (Guard page) at next is (inr (was, adds)) ok =
@@ -69,31 +72,31 @@ module _ {P : Type 0} (file : P → Pages) (journal : P → Option Journal) (may
   stands_behind (Guarding from) SyncImages at next is makes ok =
       writes_next file journal may_leave content saved from s old new is done makes (advanced SyncImages s) ok next
       as_many refl
-  stands_behind (Guarding from) (Write page bytes) at next is makes ok = absurd next
+  stands_behind (Guarding from) (Write page) at next is makes ok = absurd next
   stands_behind (Guarding from) SyncFile at next is makes ok = absurd next
   stands_behind (Guarding from) End at next is makes ok = absurd next
   stands_behind (Guarding from) SyncEnd at next is makes ok = absurd next
   stands_behind (Writing written) (Guard page) at next is makes ok = absurd next
   stands_behind (Writing written) SyncImages at next is makes ok = absurd next
-  stands_behind (Writing written) (Write page bytes) at next is makes ok =
-      subst (λ (p : Place). StandsAt file journal may_leave (one_more p) (advanced (Write page bytes) s) saved content
+  stands_behind (Writing written) (Write page) at next is makes ok =
+      subst (λ (p : Place). StandsAt file journal may_leave (one_more p) (advanced (Write page) s) saved content
       new) at
       (writes_one file journal may_leave content saved written s old new is page bytes done next makes
-      (advanced (Write page bytes) s) ok refl)
+      (advanced (Write page) s) ok refl)
   stands_behind (Writing written) SyncFile at next is makes ok =
       all_written file journal may_leave content saved written s old new is done makes ok next
   stands_behind (Writing written) End at next is makes ok = absurd next
   stands_behind (Writing written) SyncEnd at next is makes ok = absurd next
   stands_behind Written (Guard page) at next is makes ok = absurd cc
   stands_behind Written SyncImages at next is makes ok = absurd cc
-  stands_behind Written (Write page bytes) at next is makes ok = absurd cc
+  stands_behind Written (Write page) at next is makes ok = absurd cc
   stands_behind Written SyncFile at next is makes ok = absurd cc
   stands_behind Written End at next is makes ok =
       is_ended file journal may_leave content saved old new done is makes ok
   stands_behind Written SyncEnd at next is makes ok = absurd cc
   stands_behind Ended (Guard page) at next is makes ok = absurd cc
   stands_behind Ended SyncImages at next is makes ok = absurd cc
-  stands_behind Ended (Write page bytes) at next is makes ok = absurd cc
+  stands_behind Ended (Write page) at next is makes ok = absurd cc
   stands_behind Ended SyncFile at next is makes ok = absurd cc
   stands_behind Ended End at next is makes ok = absurd cc
   stands_behind Ended SyncEnd at next is makes ok =
@@ -166,26 +169,27 @@ module _ {P S : Type 0} (honest : Bool) (file : P → Pages) (journal : P → Op
     module _ (pair : P) (pages told : S) (save : SaveState) (so_far : AreUnderWay first_pair pair first pages save)
         (kept : (content : Pages) → wants pages content → wants told content)
         (saved_is : saved_of told ≡ saved_of pages) where
-      not_over : (place : Place) (act : Act) (p q : Pages) → IsNextAt place save (Some act) p q → place ≡ Over → ⊥
-      not_over (Guarding from) act p q next over = absurd cc
-      not_over (Writing written) act p q next over = absurd cc
-      not_over Written act p q next over = absurd cc
-      not_over Ended act p q next over = absurd cc
-      not_over Over act p q next over = absurd cc
-      not_over Failed act p q next over = absurd cc
+      not_over : (place : Place) (act : Act) (bytes : List ℕ) (p q : Pages) →
+          IsNextAt place save (Some act) bytes p q → place ≡ Over → ⊥
+      not_over (Guarding from) act bytes p q next over = absurd cc
+      not_over (Writing written) act bytes p q next over = absurd cc
+      not_over Written act bytes p q next over = absurd cc
+      not_over Ended act bytes p q next over = absurd cc
+      not_over Over act bytes p q next over = absurd cc
+      not_over Failed act bytes p q next over = absurd cc
 
       -- an act is made
-      module _ (act : Act)
-          (next : (content : Pages) → wants pages content → IsNext save (Some act) (saved_of pages) content) (new : P)
-          (done : Bool) (makes : IsTrue honest → Makes file journal may_leave act done pair new)
+      module _ (act : Act) (bytes : List ℕ)
+          (next : (content : Pages) → wants pages content → IsNext save (Some act) bytes (saved_of pages) content)
+          (new : P) (done : Bool) (makes : IsTrue honest → Makes file journal may_leave act bytes done pair new)
           (time : Elapses moment left_since may_leave pair new) where
         next_of : IsTrue honest → (content : Pages) → wants first content →
-            IsNextAt save.place save (Some act) (file first_pair) content
+            IsNextAt save.place save (Some act) bytes (file first_pair) content
         next_of sound content wanted =
             let here = so_far content wanted in
             let told_so = next content here.wanted in
-            subst (λ (ps : Pages). IsNextAt save.place save (Some act) ps content)
-            (here.unsaved (not_over save.place act (saved_of pages) content told_so) ∙ pages_in sound) told_so
+            subst (λ (ps : Pages). IsNextAt save.place save (Some act) bytes ps content)
+            (here.unsaved (not_over save.place act bytes (saved_of pages) content told_so) ∙ pages_in sound) told_so
 
         few_pages : IsTrue honest → (content : Pages) → wants first content → length content ≤ 4294967295
         few_pages sound content wanted =
@@ -199,8 +203,8 @@ module _ {P S : Type 0} (honest : Bool) (file : P → Pages) (journal : P → Op
             (IsEither (committed file journal first_pair) (alone content)) (here.unseen sound) time
             (λ c now. subst (λ (v : Saved). IsEither v (alone content) c)
             (sym (saved_in_is file journal may_leave content first_pair (saved_of first) (ready sound)))
-            (left_behind file journal may_leave content (saved_in file journal may_leave content first_pair) save pair
-            new done (many sound content wanted) (few_pages sound content wanted) save.place act
+            (left_behind file journal may_leave content (saved_in file journal may_leave content first_pair) save bytes
+            pair new done (many sound content wanted) (few_pages sound content wanted) save.place act
             (next_of sound content wanted) (here.stands sound) (makes sound) c now))
 
         -- and told
@@ -217,12 +221,12 @@ module _ {P S : Type 0} (honest : Bool) (file : P → Pages) (journal : P → Op
                 (saved_in file journal may_leave content first_pair) content new
             stood sound =
                 stands_behind file journal may_leave content (saved_in file journal may_leave content first_pair) save
-                pair new done (many sound content wanted) (few_pages sound content wanted) save.place act refl
+                bytes pair new done (many sound content wanted) (few_pages sound content wanted) save.place act refl
                 (next_of sound content wanted) (here.stands sound) (makes sound) ok
 
             unsaved_now : saved_of told ≡ saved_of first
             unsaved_now = saved_is
-                ∙ here.unsaved (not_over save.place act (saved_of pages) content (next content here.wanted))
+                ∙ here.unsaved (not_over save.place act bytes (saved_of pages) content (next content here.wanted))
 
             same_as : after ≡ told → (t : SaveState) → (t.place ≡ Over → ⊥) → (IsTrue honest →
                 StandsAt file journal may_leave t.place t (saved_in file journal may_leave content first_pair) content
@@ -244,15 +248,15 @@ module _ {P S : Type 0} (honest : Bool) (file : P → Pages) (journal : P → Op
             more_not_over Over not is = not refl
             more_not_over Failed not is = absurd cc
 
-            behind_act : (a : Act) → IsNextAt save.place save (Some a) (saved_of pages) content →
+            behind_act : (a : Act) → IsNextAt save.place save (Some a) bytes (saved_of pages) content →
                 Ends saved_of wants noted a told after →
                 (IsTrue honest → StandsAt file journal may_leave (advanced a save).place (advanced a save)
                 (saved_in file journal may_leave content first_pair) content new) →
                 IsUnderWay content first_pair new first after (advanced a save)
             behind_act (Guard page) at same stands = same_as same (advanced (Guard page) save) (λ is. absurd cc) stands
             behind_act SyncImages at same stands = same_as same (advanced SyncImages save) (λ is. absurd cc) stands
-            behind_act (Write page bytes) at same stands = same_as same (advanced (Write page bytes) save)
-                (more_not_over save.place (not_over save.place (Write page bytes) (saved_of pages) content at)) stands
+            behind_act (Write page) at same stands = same_as same (advanced (Write page) save)
+                (more_not_over save.place (not_over save.place (Write page) bytes (saved_of pages) content at)) stands
             behind_act SyncFile at same stands = same_as same (advanced SyncFile save) (λ is. absurd cc) stands
             behind_act End at same stands = same_as same (advanced End save) (λ is. absurd cc) stands
             behind_act SyncEnd at notes stands =
@@ -266,10 +270,11 @@ module _ {P S : Type 0} (honest : Bool) (file : P → Pages) (journal : P → Op
                 }
 
       -- all is done
-      pub over : ((content : Pages) → wants pages content → IsNext save None (saved_of pages) content) →
+      pub over : (bytes : List ℕ) →
+          ((content : Pages) → wants pages content → IsNext save None bytes (saved_of pages) content) →
           IsTrue honest → (content : Pages) → wants first content →
           HasSaved file journal may_leave saved_of wants content pair told
-      over next sound content wanted = by_place save.place refl (next content here.wanted) (here.stands sound)
+      over bytes next sound content wanted = by_place save.place refl (next content here.wanted) (here.stands sound)
         where
           here : IsUnderWay content first_pair pair first pages save
           here = so_far content wanted
@@ -282,7 +287,8 @@ module _ {P S : Type 0} (honest : Bool) (file : P → Pages) (journal : P → Op
           none_guarded from at none = subst (λ (ps : Pages). IsNoneGuarded from save ps content)
               (unsaved_so (λ is. absurd (let clash : Guarding from ≡ Over = sym at ∙ is in cc))) none
 
-          by_place : (place : Place) → save.place ≡ place → IsNextAt place save None (saved_of pages) content →
+          by_place : (place : Place) → save.place ≡ place →
+              IsNextAt place save None bytes (saved_of pages) content →
               StandsAt file journal may_leave place save (saved_in file journal may_leave content first_pair) content
               pair →
               HasSaved file journal may_leave saved_of wants content pair told

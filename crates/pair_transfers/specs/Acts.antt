@@ -50,12 +50,15 @@ module _ {P : Type 0} (file : P → Pages) (journal : P → Option Journal) (may
     pub ended : done ≡ true → journal new ≡ None
     pub crash : Follows Removed (may_leave old) (may_leave new)
 
-  -- what an act does that is done, or has failed
-  abbrev pub Makes : Act → Bool → (old new : P) → Type 0
-  Makes (Guard page) done old new =
+  abbrev pub Guards : (page : ℕ) → Bool → (old new : P) → Type 0
+  Guards page done old new =
       ReadsNothing done old new ⊎ ((was : List ℕ) × AddsImage page was done old new)
-  Makes SyncImages done old new = SyncsJournal done old new
-  Makes (Write page bytes) done old new = Stores page bytes done old new
-  Makes SyncFile done old new = SyncsFile done old new
-  Makes End done old new = EndsJournal done old new
-  Makes SyncEnd done old new = SyncsJournal done old new
+
+  -- what an act does that is done, or has failed; a page is written with these bytes
+  abbrev pub Makes : Act → (bytes : List ℕ) → Bool → (old new : P) → Type 0
+  Makes (Guard page) bytes done old new = Guards page done old new
+  Makes SyncImages bytes done old new = SyncsJournal done old new
+  Makes (Write page) bytes done old new = Stores page bytes done old new
+  Makes SyncFile bytes done old new = SyncsFile done old new
+  Makes End bytes done old new = EndsJournal done old new
+  Makes SyncEnd bytes done old new = SyncsJournal done old new

@@ -1,5 +1,5 @@
 -- The transfers of a recovery: which stands for which step, and what comes behind it. docs/FORMAT.md, "The journal".
-use Rattle.std.specs.Prelude.{◌≡◌, ◌⊎◌, ◌≤◌, ℕ, ◌==◌, ◌||◌, nat_le, nat_lt, max, not, Bool, true, false, List, length, take, replicate, if◌then◌else◌, Option, Some, None, Result, Ok, Err}
+use Rattle.std.specs.Prelude.{◌≡◌, ◌⊎◌, ◌≤◌, ℕ, ◌==◌, ◌||◌, nat_le, nat_lt, max, not, Bool, true, false, List, [], length, take, replicate, if◌then◌else◌, Option, Some, None, Result, Ok, Err}
 use Rattle.journal_bytes.specs.Bytes.{end_of}
 use Rattle.journal_bytes.specs.Entries.{image_in, put_back_of, put_back_sum}
 use Rattle.journal_bytes.specs.declared.entry.Image.{Image}
@@ -130,9 +130,9 @@ transfer_of_act t SyncJournal = transfer.SyncJournal (waits_for_length t)
 transfer_of_act t (Cut pages) = transfer.CutFile pages
 transfer_of_act t (PutBack index) = transfer.ReadJournal t.at 4132
 transfer_of_act t SyncFile = transfer.SyncFile true
-transfer_of_act t EndImages = transfer.WriteEntry t.journal.end (put_back_of t.journal.sum)
+transfer_of_act t EndImages = transfer.WriteEntry t.journal.end
 transfer_of_act t End =
-    if is_long t then transfer.CutJournal else transfer.WriteHead (end_of t.looking.head.number)
+    if is_long t then transfer.CutJournal else transfer.WriteHead
 
 -- the next part of the calls that are made again
 abbrev pub next_calls : Additions → Option Transfer
@@ -142,13 +142,35 @@ abbrev transfer_by : RecoveryStep → Recovering → Option Transfer
 transfer_by step.Look t = Some (transfer_of_look t.looking)
 transfer_by step.Ask t = None
 transfer_by step.ReadImage t = Some (transfer.ReadJournal t.at 4132)
-transfer_by (step.PutPage page bytes) t = Some (transfer.WritePage page bytes)
+transfer_by (step.PutPage page bytes) t = Some (transfer.WritePage page)
 transfer_by (step.Make act) t = Some (transfer_of_act t act)
 transfer_by step.ReadCalls t = next_calls t.calls
 transfer_by (step.HandOn calls) t = Some (transfer.Remake calls)
 
 abbrev pub transfer_now : Recovering → Option Transfer
 transfer_now t = transfer_by t.step t
+
+-- what is written by it, if anything
+
+abbrev pub written_by : Recovering → RecoveryAct → List ℕ
+written_by t SyncJournal = []
+written_by t (Cut pages) = []
+written_by t (PutBack index) = []
+written_by t SyncFile = []
+written_by t EndImages = put_back_of t.journal.sum
+written_by t End = if is_long t then [] else end_of t.looking.head.number
+
+abbrev written_at : RecoveryStep → Recovering → List ℕ
+written_at step.Look t = []
+written_at step.Ask t = []
+written_at step.ReadImage t = []
+written_at (step.PutPage page bytes) t = bytes
+written_at (step.Make act) t = written_by t act
+written_at step.ReadCalls t = []
+written_at (step.HandOn calls) t = []
+
+abbrev pub written_now : Recovering → List ℕ
+written_now t = written_at t.step t
 
 -- what is told is the transfer of its step
 pub record Asks (old new : Recovering) (told : Option Transfer) : Type 0 where

@@ -63,7 +63,7 @@ abbrev pub advanced : Act → SaveState → SaveState
 advanced (Guard page) s =
     record s { place = Guarding (min (page + 1) 4294967295); guarded = s.guarded ++ page ∷ [] }
 advanced SyncImages s = record s { place = Writing 0 }
-advanced (Write page bytes) s = record s { place = one_more s.place }
+advanced (Write page) s = record s { place = one_more s.place }
 advanced SyncFile s = record s { place = Written }
 advanced End s = record s { place = Ended }
 advanced SyncEnd s = record s { place = Over }
@@ -94,23 +94,23 @@ pub record IsUnwritten (written page : ℕ) (bytes : List ℕ) (s : SaveState) (
   pub page_is : slice_index_or s.guarded written 0 ≡ page
   pub bytes_are : slice_get content page ≡ Some bytes
 
--- and while they are written
-abbrev pub IsNextPage : (written : ℕ) → SaveState → Option Act → (content : Pages) → Type 0
-IsNextPage written s (Some (Write page bytes)) content = IsUnwritten written page bytes s content
-IsNextPage written s (Some SyncFile) content = length s.guarded ≤ written
-IsNextPage written s act content = ⊥
+-- and while they are written, with these bytes
+abbrev pub IsNextPage : (written : ℕ) → SaveState → Option Act → (bytes : List ℕ) → (content : Pages) → Type 0
+IsNextPage written s (Some (Write page)) bytes content = IsUnwritten written page bytes s content
+IsNextPage written s (Some SyncFile) bytes content = length s.guarded ≤ written
+IsNextPage written s act bytes content = ⊥
 
 -- which act is next; none where all is done
-abbrev pub IsNextAt : Place → SaveState → Option Act → (saved content : Pages) → Type 0
-IsNextAt (Guarding from) s act saved content = IsNextImage from s act saved content
-IsNextAt (Writing written) s act saved content = IsNextPage written s act content
-IsNextAt Written s act saved content = act ≡ Some End
-IsNextAt Ended s act saved content = act ≡ Some SyncEnd
-IsNextAt Over s act saved content = act ≡ None
-IsNextAt Failed s act saved content = ⊥
+abbrev pub IsNextAt : Place → SaveState → Option Act → (bytes : List ℕ) → (saved content : Pages) → Type 0
+IsNextAt (Guarding from) s act bytes saved content = IsNextImage from s act saved content
+IsNextAt (Writing written) s act bytes saved content = IsNextPage written s act bytes content
+IsNextAt Written s act bytes saved content = act ≡ Some End
+IsNextAt Ended s act bytes saved content = act ≡ Some SyncEnd
+IsNextAt Over s act bytes saved content = act ≡ None
+IsNextAt Failed s act bytes saved content = ⊥
 
-abbrev pub IsNext : SaveState → Option Act → (saved content : Pages) → Type 0
-IsNext s act saved content = IsNextAt s.place s act saved content
+abbrev pub IsNext : SaveState → Option Act → (bytes : List ℕ) → (saved content : Pages) → Type 0
+IsNext s act bytes saved content = IsNextAt s.place s act bytes saved content
 
 -- a page was told, or nothing was done
 abbrev pub IsTurned : {S : Type 0} → (S → S → Type 0) → (old new : S) → Type 0

@@ -3,13 +3,12 @@ ghost use Rattle.std.specs.Prelude.{◌≡◌, ℕ, List, IsTrue, OnOk};
 ghost use Rattle.safe_device.specs.Crash.{Elapses, LeavesOnly};
 ghost use Rattle.safe_device.specs.Left.{alone};
 ghost use Rattle.safe_device.specs.Safe.{IsEither, committed};
-ghost use Rattle.pair_transfers.specs.Acts.{Makes};
-ghost use Rattle.pair_transfers.specs.declared.save.Act.TheVariants.{Guard};
+ghost use Rattle.pair_transfers.specs.Acts.{Guards, Makes};
 ghost use Rattle.pair_transfers.specs.Saving.{HasSaved, IsReady};
 
 use crate::save::{Act, Save, SaveFault};
 use crate::unsaved::Unsaved;
-use safe_device::page_device::{MAX_PAGES, PAGE_BYTES};
+use safe_device::page_device::{MAX_PAGES, PAGE_BYTES, Page};
 use safe_device::{PageImage, PagePair};
 
 /// No save has more acts: two for each page, and six.
@@ -39,26 +38,27 @@ pub fn save_over<P: PagePair, S: Unsaved>(
     let _ = pair.pages();
     let calls = pair.calls();
     save.begin(calls > 0);
+    let mut bytes = save.room();
     for _ in 0..MOST_ACTS {
-        let Some(act) = save.next(pages)? else {
+        let Some(act) = save.next(pages, &mut bytes)? else {
             return Ok(());
         };
-        let is_done = make(pair, &act);
+        let is_done = make(pair, &act, bytes.page());
         save.told(pages, &act, is_done)?;
     }
     Err(SaveFault::Pages)
 }
 
-/// Makes an act; false where a transfer has failed.
-fn make<P: PagePair>(pair: &mut P, act: &Act) -> bool
+/// Makes an act, of a page that is written with these bytes; false where a transfer has failed.
+fn make<P: PagePair>(pair: &mut P, act: &Act, bytes: &Page) -> bool
     ensures makes { IsTrue P.is_honest →
-        Makes P.file P.journal P.may_leave act.now result pair.old pair.new }
+        Makes P.file P.journal P.may_leave act.now bytes.now result pair.old pair.new }
     ensures time { Elapses P.moment P.left_since P.may_leave pair.old pair.new }
 {
     match act {
         Act::Guard(page) => guard(pair, *page),
         Act::SyncImages => pair.sync_journal().is_ok(),
-        Act::Write(page, bytes) => pair.store(*page, bytes).is_ok(),
+        Act::Write(page) => pair.store(*page, bytes).is_ok(),
         Act::SyncFile => pair.sync_file().is_ok(),
         Act::End => pair.end_journal().is_ok(),
         Act::SyncEnd => pair.sync_journal().is_ok(),
@@ -68,7 +68,7 @@ fn make<P: PagePair>(pair: &mut P, act: &Act) -> bool
 /// Adds the image of a page to the journal.
 fn guard<P: PagePair>(pair: &mut P, page: u32) -> bool
     ensures makes { IsTrue P.is_honest →
-        Makes P.file P.journal P.may_leave (Guard page) result pair.old pair.new }
+        Guards P.file P.journal P.may_leave page result pair.old pair.new }
     ensures time { Elapses P.moment P.left_since P.may_leave pair.old pair.new }
 {
     let mut bytes = [0; PAGE_BYTES];

@@ -2,14 +2,15 @@
 ghost use Rattle.std.specs.Prelude.{◌≡◌, true, Err, IfErr, IfOk, Ok, OnErr, OnOk, Some, length};
 ghost use Rattle.journal_bytes.specs.Entries.{image_in};
 ghost use Rattle.pair_transfers.specs.Reading.{wanted};
-ghost use Rattle.pair_transfers.specs.RecoveryTransfers.{Asks, Refuses, Tells, act_done, act_made, asked_of, asked_on, begins_calls, calls_read, is_long, next_calls, put_next, recovers_at, standing_behind, taken_up, told_on, transfer_now, transfer_of_act, waits_for_length, with_put_back};
+ghost use Rattle.pair_transfers.specs.RecoveryTransfers.{Asks, Refuses, Tells, act_done, act_made, asked_of, asked_on, begins_calls, calls_read, is_long, next_calls, put_next, recovers_at, standing_behind, taken_up, told_on, transfer_now, transfer_of_act, waits_for_length, with_put_back, written_by, written_now};
+ghost use Rattle.pair_transfers.specs.Transfers.{laid_over};
 ghost use Rattle.pair_transfers.specs.declared.recovery.RecoverFault.TheVariants.{Device};
 ghost use Rattle.pair_transfers.specs.declared.recovery.RecoveryPlace.TheVariants.{Failed};
 
 use crate::additions::{Additions, Came};
 use crate::looking::{Look, Looking};
 use crate::recovery::{RecoverFault, Recovery, RecoveryAct, RecoveryPlace};
-use crate::transfers::{MOST_KEPT, MOST_KEPT_OF_CALLS, Standing, Transfer};
+use crate::transfers::{MOST_KEPT, MOST_KEPT_OF_CALLS, Standing, Transfer, put_first};
 use journal_bytes::{IMAGE_BYTES, LEAST_ENTRY, Sum, read_image, spell_end, spell_put_back};
 use safe_device::FoundJournal;
 use safe_device::page_device::Page;
@@ -153,7 +154,7 @@ impl Recovering {
             RecoveryStep::Look => Some(self.looking.transfer()),
             RecoveryStep::Ask => None,
             RecoveryStep::ReadImage => Some(Transfer::ReadJournal(self.at, IMAGE_BYTES as u32)),
-            RecoveryStep::PutPage(page, bytes) => Some(Transfer::WritePage(*page, *bytes)),
+            RecoveryStep::PutPage(page, _) => Some(Transfer::WritePage(*page)),
             RecoveryStep::Make(act) => Some(self.transfer_of_act(*act)),
             RecoveryStep::ReadCalls => self.next_calls(),
             RecoveryStep::HandOn(calls) => Some(Transfer::Remake(*calls)),
@@ -169,12 +170,36 @@ impl Recovering {
             RecoveryAct::Cut(pages) => Transfer::CutFile(pages),
             RecoveryAct::PutBack(_) => Transfer::ReadJournal(self.at, IMAGE_BYTES as u32),
             RecoveryAct::SyncFile => Transfer::SyncFile(true),
-            RecoveryAct::EndImages => {
-                let (bytes, _) = spell_put_back(&self.journal.sum);
-                Transfer::WriteEntry(self.journal.end, bytes)
-            }
+            RecoveryAct::EndImages => Transfer::WriteEntry(self.journal.end),
             RecoveryAct::End if self.is_long() => Transfer::CutJournal,
-            RecoveryAct::End => Transfer::WriteHead(spell_end(self.looking.head.number)),
+            RecoveryAct::End => Transfer::WriteHead,
+        }
+    }
+
+    /// What is written by the transfer that was told last stands first; the bytes behind it stay.
+    pub fn spell(&self, into: &mut [u8; IMAGE_BYTES])
+        ensures { into.new ≡ laid_over (written_now self.now) into.old }
+    {
+        match &self.step {
+            RecoveryStep::PutPage(_, bytes) => put_first(bytes, into),
+            RecoveryStep::Make(act) => self.spell_act(*act, into),
+            _ => {}
+        }
+    }
+
+    /// The same of an act that is one transfer.
+    fn spell_act(&self, act: RecoveryAct, into: &mut [u8; IMAGE_BYTES])
+        ensures { into.new ≡ laid_over (written_by self.now act) into.old }
+    {
+        match act {
+            RecoveryAct::EndImages => {
+                let (entry, _) = spell_put_back(&self.journal.sum);
+                put_first(&entry, into);
+            }
+            RecoveryAct::End if !self.is_long() => {
+                put_first(&spell_end(self.looking.head.number), into);
+            }
+            _ => {}
         }
     }
 

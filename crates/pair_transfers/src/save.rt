@@ -3,8 +3,8 @@ ghost use Rattle.std.specs.Prelude.{◌≡◌, ℕ, Bool, List, [], false, true,
 ghost use Rattle.pair_transfers.specs.Saving.{Ends, IsNext, IsNextImage, IsNextPage, IsTurned, advanced, begun, is_over, one_more};
 ghost use Rattle.pair_transfers.specs.declared.save.Place.TheVariants.{Failed, Saved as Over};
 
+use crate::room::{Room, ZEROS};
 use crate::unsaved::Unsaved;
-use safe_device::page_device::Page;
 use std::alloc::{AllocError, Global};
 use std::marker::Model;
 use thiserror::Error;
@@ -17,7 +17,7 @@ pub enum Act {
     /// The journal is synced.
     SyncImages,
     /// This page is written in its place.
-    Write(u32, Page),
+    Write(u32),
     /// The file is synced.
     SyncFile,
     /// The journal is ended.
@@ -115,10 +115,14 @@ impl Save {
         self.guarded.clear();
     }
 
-    /// What is to be done next; none where all is done.
-    pub fn next<S: Unsaved>(&self, pages: &mut S) -> Result<Option<Act>, SaveFault>
+    /// What is to be done next; none where all is done. Where a page is written, these are its bytes.
+    pub fn next<S: Unsaved>(
+        &self,
+        pages: &mut S,
+        bytes: &mut Room,
+    ) -> Result<Option<Act>, SaveFault>
         ensures next { IfOk result (λ act. (content : List (List ℕ)) → S.wants pages.old content →
-            IsNext self.now act (S.saved pages.old) content) }
+            IsNext self.now act bytes.new (S.saved pages.old) content) }
         ensures kept { OnOk result ((content : List (List ℕ)) → S.wants pages.old content →
             S.wants pages.new content) }
         ensures turned { OnOk result (IsTurned S.turned pages.old pages.new) }
@@ -126,7 +130,7 @@ impl Save {
     {
         match self.place {
             Place::Guarding(from) => Ok(self.next_image(pages, from)),
-            Place::Writing(written) => self.next_page(pages, written),
+            Place::Writing(written) => self.next_page(pages, written, bytes),
             Place::Written => Ok(Some(Act::End)),
             Place::Ended => Ok(Some(Act::SyncEnd)),
             Place::Saved => Ok(None),
@@ -150,9 +154,14 @@ impl Save {
     }
 
     /// The next page that is guarded is written.
-    fn next_page<S: Unsaved>(&self, pages: &mut S, written: usize) -> Result<Option<Act>, SaveFault>
+    fn next_page<S: Unsaved>(
+        &self,
+        pages: &mut S,
+        written: usize,
+        into: &mut Room,
+    ) -> Result<Option<Act>, SaveFault>
         ensures next { IfOk result (λ act. (content : List (List ℕ)) → S.wants pages.old content →
-            IsNextPage written self.now act content) }
+            IsNextPage written self.now act into.new content) }
         ensures kept { OnOk result ((content : List (List ℕ)) → S.wants pages.old content →
             S.wants pages.new content) }
         ensures turned { OnOk result (IsTurned S.turned pages.old pages.new) }
@@ -166,7 +175,25 @@ impl Save {
         let Some(bytes) = pages.page(page) else {
             return Err(SaveFault::Pages);
         };
-        Ok(Some(Act::Write(page, bytes)))
+        let Ok(()) = into.put(&bytes) else {
+            return Err(SaveFault::NoMemory);
+        };
+        Ok(Some(Act::Write(page)))
+    }
+
+    /// It is not made.
+    pub(crate) fn fail(&mut self)
+        ensures { self.new ≡ record self.old { place = Failed } }
+    {
+        self.place = Place::Failed;
+    }
+
+    /// Room without memory.
+    pub(crate) fn room(&self) -> Room
+        ensures { result ≡ ZEROS }
+    {
+        let alloc: Global = *self.guarded.allocator();
+        Room::none(alloc)
     }
 
     /// An act was done, or has failed. Behind the last one the pages are noted as saved.

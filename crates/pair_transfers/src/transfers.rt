@@ -1,17 +1,18 @@
 //! The transfers of a save, with their places and their bytes.
-ghost use Rattle.std.specs.Prelude.{◌≡◌, true, false, IfOk, OnErr, OnOk, take};
+ghost use Rattle.std.specs.Prelude.{◌≡◌, ◌≤◌, true, false, IfOk, OnErr, OnOk, length, take};
 ghost use Rattle.journal_bytes.specs.Bytes.{says};
 ghost use Rattle.pair_transfers.specs.Saving.{Ends, is_over};
-ghost use Rattle.pair_transfers.specs.Transfers.{Asks, Tells, begins_at, begun_with, counted, done_with, first_step, gone_on, is_long, next_number, none_under_way, numbered, transfer_of, transfer_of_act, with_image};
+ghost use Rattle.pair_transfers.specs.Transfers.{Asks, Tells, begins_at, begun_with, counted, done_with, first_step, gone_on, image_next, is_long, laid_over, next_number, none_under_way, numbered, transfer_of, transfer_of_act, with_image, written_by, written_of};
 ghost use Rattle.pair_transfers.specs.declared.save.Act.TheVariants.{Guard};
 ghost use Rattle.pair_transfers.specs.declared.save.Place.TheVariants.{Failed};
 ghost use Rattle.pair_transfers.specs.declared.transfers.Step.TheVariants.{ReadPage};
 
+use crate::room::Room;
 use crate::save::{Act, Save, SaveFault};
 use crate::unsaved::Unsaved;
 use journal_bytes::{
-    HEAD_BYTES, IMAGE_BYTES, LEAST_ENTRY, Seal, Sum, read_head, seal_of, spell_end, spell_head,
-    spell_image,
+    HEAD_BYTES, IMAGE_BYTES, Seal, Sum, put_image, read_head, seal_of, spell_end, spell_head,
+    sum_of_image,
 };
 use safe_device::page_device::Page;
 use std::alloc::{AllocError, Global};
@@ -37,7 +38,7 @@ pub struct Standing {
     pub sum: Sum,
 }
 
-/// A transfer.
+/// A transfer. Whoever tells it spells what is written.
 #[derive(Clone, Copy, Drop)]
 pub enum Transfer {
     /// The first bytes of the journal are read, where a head stands.
@@ -46,18 +47,18 @@ pub enum Transfer {
     ReadJournal(u64, u32),
     /// This page of the file is read.
     ReadPage(u32),
-    /// These bytes are written over the first of the journal.
-    WriteHead([u8; HEAD_BYTES]),
+    /// A head, or what takes its place, is written over the first bytes of the journal.
+    WriteHead,
     /// An image is written into the journal, from this place on.
-    WriteImage(u64, [u8; IMAGE_BYTES]),
+    WriteImage(u64),
     /// So many zeros are written into the journal, from this place on.
     WriteZeros(u64, u32),
     /// An addition of calls is written into the journal, from this place on, of so many bytes.
     WriteCalls(u64, u32),
     /// An entry without bytes is written into the journal, from this place on.
-    WriteEntry(u64, [u8; LEAST_ENTRY]),
+    WriteEntry(u64),
     /// This page of the file is written.
-    WritePage(u32, Page),
+    WritePage(u32),
     /// The file is ended after its first so many pages.
     CutFile(u32),
     /// The journal is cut to nothing.
@@ -87,8 +88,8 @@ pub enum Step {
     Begin(u32, Seal),
     /// The page is read.
     ReadPage(u32),
-    /// Its image is added.
-    AddImage(u32, Page),
+    /// Its image is added, which ends with this digest.
+    AddImage(u32, Sum),
     /// An act that is one transfer.
     Make(Act),
 }
@@ -102,6 +103,8 @@ pub struct Transfers {
     has_calls: bool,
     journal: Standing,
     step: Step,
+    /// The page whose image is added, or that is written.
+    page: Room,
 }
 
 impl Model for Transfers {
@@ -115,6 +118,7 @@ impl Model for Transfers {
       has_calls = t.has_calls;
       journal = t.journal;
       step = t.step;
+      page = t.page;
     } };
 }
 
@@ -134,6 +138,7 @@ impl Transfers {
                 sum: [0; 32],
             },
             step: Step::Ask,
+            page: Room::none(alloc),
         }
     }
 
@@ -141,6 +146,7 @@ impl Transfers {
     pub fn take_room(&mut self, pages: usize) -> Result<(), AllocError>
         ensures { self.new ≡ self.old }
     {
+        self.page.take()?;
         self.save.take_room(pages)
     }
 
@@ -153,7 +159,7 @@ impl Transfers {
 
     /// Begins to save the pages of a file that has so many, beside this journal.
     pub fn begin(&mut self, count: u32, journal: Standing)
-        ensures { self.new ≡ begins_at count journal }
+        ensures { self.new ≡ begins_at count journal self.old }
     {
         let has_calls = journal.end > 0;
         self.save.begin(has_calls);
@@ -172,7 +178,7 @@ impl Transfers {
             (Asks S.saved S.wants S.turned pages.old pages.new self.old self.new) }
     {
         if let Step::Ask = self.step {
-            let Some(act) = self.save.next(pages)? else {
+            let Some(act) = self.save.next(pages, &mut self.page)? else {
                 return Ok(None);
             };
             self.step = self.first_step(act);
@@ -208,15 +214,9 @@ impl Transfers {
             Step::ReadHead(_) => Transfer::ReadHead,
             Step::Cut(_) => Transfer::CutJournal,
             Step::ReadZero(_) => Transfer::ReadPage(0),
-            Step::Begin(_, seal) => {
-                let (bytes, _) = spell_head(self.count, self.journal.number, seal);
-                Transfer::WriteHead(bytes)
-            }
+            Step::Begin(..) => Transfer::WriteHead,
             Step::ReadPage(page) => Transfer::ReadPage(*page),
-            Step::AddImage(page, was) => {
-                let (bytes, _) = spell_image(&self.journal.sum, *page, was);
-                Transfer::WriteImage(self.journal.end, bytes)
-            }
+            Step::AddImage(..) => Transfer::WriteImage(self.journal.end),
             Step::Make(act) => self.transfer_of_act(act),
         }
     }
@@ -228,11 +228,37 @@ impl Transfers {
         match act {
             Act::Guard(page) => Transfer::ReadPage(*page),
             Act::SyncImages => Transfer::SyncJournal(self.journal.size < self.journal.end),
-            Act::Write(page, bytes) => Transfer::WritePage(*page, *bytes),
+            Act::Write(page) => Transfer::WritePage(*page),
             Act::SyncFile => Transfer::SyncFile(false),
             Act::End if self.is_long() => Transfer::CutJournal,
-            Act::End => Transfer::WriteHead(spell_end(self.journal.number)),
+            Act::End => Transfer::WriteHead,
             Act::SyncEnd => Transfer::SyncJournal(self.is_long()),
+        }
+    }
+
+    /// What is written by the transfer that was told last stands first; the bytes behind it stay.
+    pub fn spell(&self, into: &mut [u8; IMAGE_BYTES])
+        ensures { into.new ≡ laid_over (written_of self.now self.now.step) into.old }
+    {
+        match &self.step {
+            Step::Begin(_, seal) => {
+                let (head, _) = spell_head(self.count, self.journal.number, seal);
+                put_first(&head, into);
+            }
+            Step::AddImage(page, sum) => put_image(*page, self.page.page(), sum, into),
+            Step::Make(act) => self.spell_act(act, into),
+            _ => {}
+        }
+    }
+
+    /// The same of an act that is one transfer.
+    fn spell_act(&self, act: &Act, into: &mut [u8; IMAGE_BYTES])
+        ensures { into.new ≡ laid_over (written_by self.now act.now) into.old }
+    {
+        match act {
+            Act::Write(_) => put_first(self.page.page(), into),
+            Act::End if !self.is_long() => put_first(&spell_end(self.journal.number), into),
+            _ => {}
         }
     }
 
@@ -267,12 +293,9 @@ impl Transfers {
             return self.save.told(pages, &Act::SyncFile, false);
         }
         match self.step {
-            Step::AddImage(page, was) => self.end_image(pages, page, &was),
+            Step::AddImage(page, sum) => self.end_image(pages, page, &sum),
             Step::Make(act) => self.end_act(pages, &act),
-            step => {
-                self.go_on(step, read);
-                Ok(())
-            }
+            step => self.go_on(step, read),
         }
     }
 
@@ -289,28 +312,28 @@ impl Transfers {
         self.save.told(pages, act, true)
     }
 
-    /// The image of a page stands in the journal.
+    /// The image of a page stands in the journal, and ends with this digest.
     fn end_image<S: Unsaved>(
         &mut self,
         pages: &mut S,
         page: u32,
-        was: &Page,
+        sum: &Sum,
     ) -> Result<(), SaveFault>
         ensures advanced { OnOk result (self.new ≡
-            done_with (Guard page) (with_image page was.now self.old.journal) self.old) }
+            done_with (Guard page) (with_image sum.now self.old.journal) self.old) }
         ensures failed { OnErr result (self.new.save.place ≡ Failed) }
         ensures pages { OnOk result (pages.new ≡ pages.old) }
     {
         self.step = Step::Ask;
-        let (_, sum) = spell_image(&self.journal.sum, page, was);
-        self.journal.sum = sum;
+        self.journal.sum = *sum;
         self.journal.end = self.journal.end.saturating_add(IMAGE_BYTES as u64);
         self.save.told(pages, &Act::Guard(page), true)
     }
 
     /// A step is done behind which its act goes on.
-    fn go_on(&mut self, step: Step, read: &Page)
-        ensures { self.new ≡ gone_on step read.now self.old }
+    fn go_on(&mut self, step: Step, read: &Page) -> Result<(), SaveFault>
+        ensures gone { OnOk result (self.new ≡ gone_on step read.now self.old) }
+        ensures failed { OnErr result (self.new.save.place ≡ Failed) }
     {
         match step {
             Step::ReadHead(page) => self.number(page, read),
@@ -321,9 +344,24 @@ impl Transfers {
             }
             Step::ReadZero(page) => self.step = Step::Begin(page, seal_of(read)),
             Step::Begin(page, seal) => self.end_head(page, &seal),
-            Step::ReadPage(page) => self.step = Step::AddImage(page, *read),
+            Step::ReadPage(page) => return self.take_page(page, read),
             step => self.step = step,
         }
+        Ok(())
+    }
+
+    /// A page was read: its image goes on from the digest of what stands in the journal.
+    fn take_page(&mut self, page: u32, read: &Page) -> Result<(), SaveFault>
+        ensures gone { OnOk result (self.new ≡ image_next page read.now self.old) }
+        ensures failed { OnErr result (self.new.save.place ≡ Failed) }
+    {
+        let Ok(()) = self.page.put(read) else {
+            self.save.fail();
+            return Err(SaveFault::NoMemory);
+        };
+        let sum = sum_of_image(&self.journal.sum, page, read);
+        self.step = Step::AddImage(page, sum);
+        Ok(())
     }
 
     /// The save gets a number: one above that of the head that was read, where there is one.
@@ -362,4 +400,13 @@ pub(crate) fn next_number(read: &Page) -> Option<u64>
         Some(last) if last < u64::MAX => Some(last + 1),
         _ => None,
     }
+}
+
+/// Writes a part over the first bytes.
+pub(crate) fn put_first(part: &[u8], whole: &mut [u8])
+    requires { length part.now ≤ length whole.old }
+    ensures { whole.new ≡ laid_over part.now whole.old }
+{
+    let (front, _) = whole.split_at_mut(part.len());
+    front.copy_from_slice(part);
 }

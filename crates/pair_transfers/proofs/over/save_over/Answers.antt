@@ -1,4 +1,4 @@
-use Rattle.std.proofs.Common.{subst, refl, Option, List, ℕ}
+use Rattle.std.proofs.Common.{subst, sym, refl, Option, Some, List, ℕ}
 use Rattle.std.specs.Prelude.{nat_lt}
 use Rattle.pair_transfers.specs.Saving.{IsNext}
 use Rattle.pair_transfers.specs.declared.save.Act.{Act}
@@ -21,8 +21,12 @@ loop-preserved g c =
     g.P.PagePair.left_since g.S.Unsaved.saved g.S.Unsaved.wants g.S.Unsaved.noted g.S.Unsaved.as_many c.args.pair.now
     c.args.pages.now c.requires c.pages.result c.pages.ensures c.pages.type_inv c.loop.pair c.loop.pages
     c.next.new.pages c.loop.save c.loop.invariant c.in_ok-act.ensures.kept c.in_ok-act.ensures.saved c.in-Some.act
+    c.page.result.now
+    (subst (λ (b : List ℕ). (content : List (List ℕ)) → g.S.Unsaved.wants c.loop.pages content →
+    IsNext c.loop.save (Some c.in-Some.act) b (g.S.Unsaved.saved c.loop.pages) content) (sym c.page.ensures)
     (subst (λ (o : Option Act). (content : List (List ℕ)) → g.S.Unsaved.wants c.loop.pages content →
-    IsNext c.loop.save o (g.S.Unsaved.saved c.loop.pages) content) c.in-Some.is c.in_ok-act.ensures.next)
+    IsNext c.loop.save o c.next.new.bytes (g.S.Unsaved.saved c.loop.pages) content) c.in-Some.is
+    c.in_ok-act.ensures.next))
     c.make-is_done.new.pair c.make-is_done.result c.make-is_done.ensures.makes c.make-is_done.ensures.time
     c.told.new.pages c.told.new.self c.in_ok-told.ensures.done c.in_ok-told.ensures.advanced c.in_ok-told.ensures.pages
 
@@ -33,8 +37,10 @@ returns-in_default-clause-saved g c =
     g.P.PagePair.left_since g.S.Unsaved.saved g.S.Unsaved.wants g.S.Unsaved.noted g.S.Unsaved.as_many c.args.pair.now
     c.args.pages.now c.requires c.pages.result c.pages.ensures c.pages.type_inv c.loop.pair c.loop.pages
     c.next.new.pages c.loop.save c.loop.invariant c.in_ok-act.ensures.kept c.in_ok-act.ensures.saved
+    c.next.new.bytes
     (subst (λ (o : Option Act). (content : List (List ℕ)) → g.S.Unsaved.wants c.loop.pages content →
-    IsNext c.loop.save o (g.S.Unsaved.saved c.loop.pages) content) c.in_default.is c.in_ok-act.ensures.next)
+    IsNext c.loop.save o c.next.new.bytes (g.S.Unsaved.saved c.loop.pages) content) c.in_default.is
+    c.in_ok-act.ensures.next)
 
 -- an act has failed
 pub returns-in_err-told-clause-any_moment : goal.returns-in_err-told-clause-any_moment
@@ -44,6 +50,10 @@ returns-in_err-told-clause-any_moment g c =
     g.S.Unsaved.as_many
     c.args.pair.now c.args.pages.now c.requires c.pages.result c.pages.ensures c.pages.type_inv c.loop.pair c.loop.pages
     c.next.new.pages c.loop.save c.loop.invariant c.in_ok-act.ensures.kept c.next.ensures.saved c.in-Some.act
+    c.page.result.now
+    (subst (λ (b : List ℕ). (content : List (List ℕ)) → g.S.Unsaved.wants c.loop.pages content →
+    IsNext c.loop.save (Some c.in-Some.act) b (g.S.Unsaved.saved c.loop.pages) content) (sym c.page.ensures)
     (subst (λ (o : Option Act). (content : List (List ℕ)) → g.S.Unsaved.wants c.loop.pages content →
-    IsNext c.loop.save o (g.S.Unsaved.saved c.loop.pages) content) c.in-Some.is c.in_ok-act.ensures.next)
+    IsNext c.loop.save o c.next.new.bytes (g.S.Unsaved.saved c.loop.pages) content) c.in-Some.is
+    c.in_ok-act.ensures.next))
     c.make-is_done.new.pair c.make-is_done.result c.make-is_done.ensures.makes c.make-is_done.ensures.time
