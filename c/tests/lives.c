@@ -206,9 +206,13 @@ static void two_handles(void) {
     end("two handles");
 }
 
+/* By this a server tells that it has heard a request. */
+static int heard[2];
+
 static void waits_and_goes(void) {
     int fd = client();
     (void)hear(fd, 3);
+    must(write(heard[1], "", 1) == 1, "it is told");
     gone(fd);
 }
 
@@ -226,14 +230,20 @@ static void until_under_way(unsigned count) {
 static void cancelled_thread(void) {
     pthread_t thread;
     int told = 1;
+    is(pipe(heard), 0, "a pipe");
     begin(waits_and_goes);
     pthread_create(&thread, NULL, waits, &told);
+    /* (a thread that is cancelled before that need not have sent it) */
+    struct pollfd at = {.fd = heard[0], .events = POLLIN};
+    is(poll(&at, 1, 10000), 1, "the server has heard it");
     until_under_way(1);
     is(server_under_way(server), 1, "requests under way");
     pthread_cancel(thread);
     pthread_join(thread, NULL);
     is(told, 1, "a thread that is cancelled");
     has_ended("its connection");
+    close(heard[0]);
+    close(heard[1]);
     is(server_under_way(server), 0, "requests under way");
     server_end(server);
 }
