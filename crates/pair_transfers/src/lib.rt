@@ -4,6 +4,7 @@
 #![tactic(auto)]
 
 mod additions;
+mod bytes;
 mod looking;
 mod note;
 mod noting;

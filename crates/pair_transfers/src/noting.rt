@@ -7,9 +7,10 @@ ghost use Rattle.pair_transfers.specs.Transfers.{next_number};
 ghost use Rattle.pair_transfers.specs.declared.note.NotePlace.TheVariants.{Failed};
 ghost use Rattle.pair_transfers.specs.declared.save.SaveFault.TheVariants.{Device};
 
+use crate::bytes::next_number;
 use crate::note::{Note, NoteAct, NotePlace};
 use crate::save::SaveFault;
-use crate::transfers::{Standing, Transfer, next_number};
+use crate::transfers::{Standing, Transfer};
 use journal_bytes::{
     HEAD_BYTES, LEAST_ENTRY, Seal, Sum, WORD_BYTES, seal_of, spell_calls, spell_head_of_calls,
 };

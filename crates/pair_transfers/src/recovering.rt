@@ -8,9 +8,10 @@ ghost use Rattle.pair_transfers.specs.declared.recovery.RecoverFault.TheVariants
 ghost use Rattle.pair_transfers.specs.declared.recovery.RecoveryPlace.TheVariants.{Failed};
 
 use crate::additions::{Additions, Came};
+use crate::bytes::put_first;
 use crate::looking::{Look, Looking};
 use crate::recovery::{RecoverFault, Recovery, RecoveryAct, RecoveryPlace};
-use crate::transfers::{MOST_KEPT, MOST_KEPT_OF_CALLS, Standing, Transfer, put_first};
+use crate::transfers::{MOST_KEPT, MOST_KEPT_OF_CALLS, Standing, Transfer};
 use journal_bytes::{IMAGE_BYTES, LEAST_ENTRY, Sum, read_image, spell_end, spell_put_back};
 use safe_device::FoundJournal;
 use safe_device::page_device::Page;

@@ -1,5 +1,5 @@
 //! The transfers of a save, with their places and their bytes.
-ghost use Rattle.std.specs.Prelude.{◌≡◌, ◌≤◌, true, false, IfOk, OnErr, OnOk, length, take};
+ghost use Rattle.std.specs.Prelude.{◌≡◌, true, false, IfOk, OnErr, OnOk, length, take};
 ghost use Rattle.journal_bytes.specs.Bytes.{says};
 ghost use Rattle.pair_transfers.specs.Saving.{Ends, is_over};
 ghost use Rattle.pair_transfers.specs.Transfers.{Asks, Tells, begins_at, begun_with, counted, done_with, first_step, gone_on, image_next, is_long, laid_over, next_number, none_under_way, numbered, transfer_of, transfer_of_act, with_image, written_by, written_of};
@@ -7,12 +7,12 @@ ghost use Rattle.pair_transfers.specs.declared.save.Act.TheVariants.{Guard};
 ghost use Rattle.pair_transfers.specs.declared.save.Place.TheVariants.{Failed};
 ghost use Rattle.pair_transfers.specs.declared.transfers.Step.TheVariants.{ReadPage};
 
+use crate::bytes::{next_number, put_first};
 use crate::room::Room;
 use crate::save::{Act, Save, SaveFault};
 use crate::unsaved::Unsaved;
 use journal_bytes::{
-    HEAD_BYTES, IMAGE_BYTES, Seal, Sum, put_image, read_head, seal_of, spell_end, spell_head,
-    sum_of_image,
+    HEAD_BYTES, IMAGE_BYTES, Seal, Sum, put_image, seal_of, spell_end, spell_head, sum_of_image,
 };
 use safe_device::page_device::Page;
 use std::alloc::{AllocError, Global};
@@ -388,25 +388,4 @@ impl Transfers {
         self.journal.end = HEAD_BYTES as u64;
         self.step = Step::ReadPage(page);
     }
-}
-
-/// One above the number of the last save, where a head tells that.
-pub(crate) fn next_number(read: &Page) -> Option<u64>
-    ensures { result ≡ next_number (says (take 80 read.now)) }
-{
-    let mut head = [0; HEAD_BYTES];
-    head.copy_from_slice(&read[..HEAD_BYTES]);
-    match read_head(&head).number() {
-        Some(last) if last < u64::MAX => Some(last + 1),
-        _ => None,
-    }
-}
-
-/// Writes a part over the first bytes.
-pub(crate) fn put_first(part: &[u8], whole: &mut [u8])
-    requires { length part.now ≤ length whole.old }
-    ensures { whole.new ≡ laid_over part.now whole.old }
-{
-    let (front, _) = whole.split_at_mut(part.len());
-    front.copy_from_slice(part);
 }
