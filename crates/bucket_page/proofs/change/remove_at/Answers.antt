@@ -11,7 +11,14 @@ pub two_at-requires : goal.two_at-requires
 two_at-requires c =
     let says = opened c.args.payload.now c.requires.bucket in
     let there = stands_there c.args.payload.now c.args.place.now.key c.requires.bucket c.requires.there in
-    omega (arith, says.room, there.within, (ap (λ (p : Place). p.at) c.requires.place), c.split_at_mut-front.ensures.back_len, c.told-payload)
+    omega (
+      arith,
+      says.room,
+      there.within,
+      (ap (λ (p : Place). p.at) c.requires.place),
+      c.split_at_mut-front.ensures.back_len,
+      c.told-payload,
+    )
 
 pub take_out-requires-clause-at : goal.take_out-requires-clause-at
 take_out-requires-clause-at c =

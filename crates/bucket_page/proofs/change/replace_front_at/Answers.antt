@@ -29,6 +29,7 @@ pub returns : goal.returns
 returns c =
     let split = c.split_at_mut-body.ensures in
     record {
-      ok = front_makes c.args.payload.now c.args.front.now _ _ _ c.args.place.now.key c.args.place.now.at c.requires.bucket
-          c.requires.there c.requires.long (ap (λ (p : Place). p.at) c.requires.place) split.front split.back c.set_bytes.ensures;
+      ok = front_makes c.args.payload.now c.args.front.now _ _ _ c.args.place.now.key c.args.place.now.at
+          c.requires.bucket c.requires.there c.requires.long (ap (λ (p : Place). p.at) c.requires.place)
+          split.front split.back c.set_bytes.ensures;
     }

@@ -8,14 +8,16 @@ use Rattle.replays.proofs.runs.call_as.Goals as goal
 pub returns-then-is_full : goal.returns-then-is_full
 returns-then-is_full g c =
     subst
-    (λ (b : Bool). TakesCallIf b c.args.caller c.args.call.now (replies.Failed 61) c.args.session.now c.args.session.now)
+    (λ (b : Bool). TakesCallIf b c.args.caller c.args.call.now (replies.Failed 61) c.args.session.now
+    c.args.session.now)
     c.if-is_full.ensures (refl, refl)
 
 -- there is no memory for it
 pub returns-in_default : goal.returns-in_default
 returns-in_default g c =
     subst
-    (λ (b : Bool). TakesCallIf b c.args.caller c.args.call.now (replies.Failed 60) c.args.session.now c.args.session.now)
+    (λ (b : Bool). TakesCallIf b c.args.caller c.args.call.now (replies.Failed 60) c.args.session.now
+    c.args.session.now)
     c.if-is_full.ensures (inr (record { told = refl; same = refl }))
 
 pub returns : goal.returns
