@@ -22,4 +22,4 @@ pub use memory::MemDevice;
 pub use numbers::faults;
 pub use page::{DIGEST_BYTES, MAX_PAGES, PAGE_BYTES, PAYLOAD_BYTES, Page, Payload};
 pub use page_file::{PageFile, SystemFile};
-pub use sealed::{seal, unseal, unseal_into};
+pub use sealed::{page_digest, seal, seal_with, unseal, unseal_into};

@@ -1,5 +1,5 @@
 //! Sealed pages: a payload, and behind it the digest of the page's number and the payload.
-ghost use Rattle.std.specs.Prelude.{◌≡◌, ◌+◌, ◌++◌, ◌↔◌, length, take, IsOk, IfOk, OnOk, OnErr, IsOkUnless};
+ghost use Rattle.std.specs.Prelude.{◌≡◌, ℕ, ◌+◌, ◌++◌, ◌↔◌, length, take, IsOk, IfOk, OnOk, OnErr, IsOkUnless};
 ghost use Rattle.page_device.specs.Sealed.{page_digest, payload_of, IsSealed};
 
 use crate::fault::DeviceFault;
@@ -12,8 +12,16 @@ pub fn seal(n: u32, payload: &Payload) -> Page
     ensures sealed { IsSealed n result }
     ensures payload { payload_of result ≡ payload.now }
 {
+    seal_with(payload, &page_digest(n, payload))
+}
+
+/// A page with this payload and this digest: that page is sealed whose digest it is.
+pub fn seal_with(payload: &Payload, digest: &[u8; DIGEST_BYTES]) -> Page
+    ensures sealed { (n : ℕ) → digest.now ≡ page_digest n payload.now → IsSealed n result }
+    ensures payload { payload_of result ≡ payload.now }
+{
     let mut page = [0; PAGE_BYTES];
-    join(payload, &digest(n, payload), &mut page);
+    join(payload, digest, &mut page);
     page
 }
 
@@ -36,7 +44,7 @@ pub fn unseal_into(n: u32, page: &Page, payload: &mut Payload) -> Result<(), Dev
     ensures err { OnErr result (payload.new ≡ payload.old) }
 {
     let (front, stored) = page.split_at(PAYLOAD_BYTES);
-    if stored == digest(n, front).as_slice() {
+    if stored == page_digest(n, front).as_slice() {
         payload.copy_from_slice(front);
         Ok(())
     } else {
@@ -44,7 +52,8 @@ pub fn unseal_into(n: u32, page: &Page, payload: &mut Payload) -> Result<(), Dev
     }
 }
 
-fn digest(n: u32, payload: &[u8]) -> [u8; DIGEST_BYTES]
+/// The digest that page `n` keeps of its payload.
+pub fn page_digest(n: u32, payload: &[u8]) -> [u8; DIGEST_BYTES]
     ensures { result ≡ page_digest n payload.now }
 {
     let mut number = [0; 4];
