@@ -1,5 +1,5 @@
 -- A call goes on in one go: errands are made, one behind the other.
-use Rattle.std.proofs.Common.{◌≡◌, refl, sym, ap, ◌∙◌, subst, ℕ, ◌+◌, Bool, false, List, [], ◌∷◌, ◌++◌, None, Option, arith}
+use Rattle.std.proofs.Common.{◌≡◌, refl, sym, ap, ◌∙◌, subst, ℕ, ◌+◌, Bool, false, List, [], ◌∷◌, ◌++◌, None, Some, Option, arith}
 use Rattle.file_pages.specs.declared.fault.FileFault.{FileFault}
 use Rattle.step_rules.specs.Runs.{Stop, end_of}
 use Rattle.xsi_calls.specs.CallSteps.{MakesCall}
@@ -133,3 +133,18 @@ module _ (hash : RecordKey → ℕ) (seat : ℕ) (old : At CallView) where
     in_vain m' pool' same same_pool =
         subst (λ (x : CallView). HasGone hash seat moves old (at x pool' locks)) (sym same)
         (subst (λ (p : PoolState). HasGone hash seat moves old (at m p locks)) (sym same_pool) so_far)
+
+-- ---- up to an end
+
+-- a run that met no fault
+pub ran : {V : Type 0} (Makes : Promise V) (searches : V → Bool) (seat moves : ℕ) (fault : Option FileFault)
+    (old new : At V) → fault ≡ None → GoesAtOnce Makes searches seat moves fault old new →
+    RunsAtOnce Makes searches seat moves old new
+ran {V} Makes searches seat moves None old new none gone =
+    subst (λ (s : At V). RunsAtOnce Makes searches seat moves old s) (sym gone.ends) gone.runs
+ran {V} Makes searches seat moves (Some fault) old new none gone = absurd cc
+
+-- and one that goes no further
+pub goes_so_far : {V : Type 0} (Makes : Promise V) (searches : V → Bool) (seat moves : ℕ) (old new : At V) →
+    RunsAtOnce Makes searches seat moves old new → GoesAtOnce Makes searches seat moves None old new
+goes_so_far Makes searches seat moves old new runs = record { before = new; runs = runs; ends = refl }

@@ -176,4 +176,115 @@ impl CallMachine {
         }
         is_move(self.release(locks, seat))
     }
+
+    /// Its questions, what it inserts on trial, and its Decide.
+    pub(crate) fn decide_through<D: PageDevice, K: PseudoKey>(
+        &mut self,
+        pool: &mut Pool<D>,
+        locks: &LockTable,
+        keys: &K,
+        stopped: bool,
+        seat: u8,
+        most: u32,
+    ) -> Gone
+        requires seat { IsSeat locks.now seat }
+        requires ready { IsReady pool.old }
+        requires row { row_of locks.now seat ≡ call_locks self.old }
+        ensures goes { GoesAtOnce (MakesCall (K.of_key keys.now) seat stopped)
+            is_searching seat result.moves result.fault (at self.old pool.old locks.now)
+            (at self.new pool.new locks.now) }
+        ensures few { result.moves ≤ most }
+        ensures ready { result.fault ≡ None → IsReady pool.new }
+        ensures row { result.fault ≡ None → row_of locks.now seat ≡ call_locks self.new }
+    {
+        let asked = self.ask_through(pool, locks, keys, seat, most);
+        let tried = self.write_all_through(pool, locks, keys, seat, most - asked);
+        let moves = asked + tried.moves;
+        if tried.fault.is_some() {
+            return Gone {
+                moves,
+                fault: tried.fault,
+            };
+        }
+        if moves == most {
+            return Gone { moves, fault: None };
+        }
+        match self.decide_at_once(locks, keys, stopped, seat) {
+            Ok(true) => Gone {
+                moves: moves + 1,
+                fault: None,
+            },
+            Ok(false) => Gone { moves, fault: None },
+            Err(fault) => Gone {
+                moves,
+                fault: Some(fault),
+            },
+        }
+    }
+
+    /// What it owes, and a name that is given back behind it.
+    pub(crate) fn pay_through<D: PageDevice, K: PseudoKey>(
+        &mut self,
+        pool: &mut Pool<D>,
+        locks: &mut LockTable,
+        keys: &K,
+        seat: u8,
+        most: u32,
+    ) -> Gone
+        requires seat { IsSeat locks.old seat }
+        requires ready { IsReady pool.old }
+        requires row { row_of locks.old seat ≡ call_locks self.old }
+        ensures goes { (stopped : Bool) → GoesAtOnce (MakesCall (K.of_key keys.now) seat stopped)
+            is_searching seat result.moves result.fault (at self.old pool.old locks.old)
+            (at self.new pool.new locks.new) }
+        ensures few { result.moves ≤ most }
+    {
+        let paid = self.write_all_through(pool, locks, keys, seat, most);
+        if paid.fault.is_some() {
+            return paid;
+        }
+        if paid.moves == most {
+            return paid;
+        }
+        if !self.give_back_at_once(locks, seat) {
+            return paid;
+        }
+        Gone {
+            moves: paid.moves + 1,
+            fault: None,
+        }
+    }
+
+    /// All of these in one go, up to so many steps, and no further than where one of them can't be
+    /// made so. What is left is left to `step`.
+    pub fn go_through<D: PageDevice, K: PseudoKey>(
+        &mut self,
+        pool: &mut Pool<D>,
+        locks: &mut LockTable,
+        keys: &K,
+        stopped: bool,
+        seat: u8,
+        most: u32,
+    ) -> Gone
+        requires seat { IsSeat locks.old seat }
+        requires ready { IsReady pool.old }
+        requires row { row_of locks.old seat ≡ call_locks self.old }
+        ensures goes { GoesAtOnce (MakesCall (K.of_key keys.now) seat stopped)
+            is_searching seat result.moves result.fault (at self.old pool.old locks.old)
+            (at self.new pool.new locks.new) }
+        ensures few { result.moves ≤ most }
+    {
+        let first = self.decide_through(pool, locks, keys, stopped, seat, most);
+        if first.fault.is_some() {
+            return first;
+        }
+        if self.is_undecided() {
+            return first;
+        }
+        let last = self.pay_through(pool, locks, keys, seat, most - first.moves);
+        Gone {
+            moves: first.moves + last.moves,
+            fault: last.fault,
+        }
+    }
 }
