@@ -1,5 +1,5 @@
 -- A call that can decide makes its Decide.
-use Rattle.std.proofs.Common.{◌≡◌, refl, sym, ◌∙◌, subst}
+use Rattle.std.proofs.Common.{refl, sym, ◌∙◌, subst}
 use Rattle.xsi_calls.specs.Machine.{CallView}
 use Rattle.xsi_calls.specs.Parts.{conclusion_under, payment_under, undecided_with}
 use Rattle.xsi_calls.specs.Stages.{stage_at}

@@ -1,5 +1,5 @@
 -- Questions and trials were made in one go, and the Decide behind them.
-use Rattle.std.proofs.Common.{◌≡◌, refl, sym, ap, ◌∙◌, subst, ◌+◌, None}
+use Rattle.std.proofs.Common.{◌≡◌, sym, ◌∙◌, subst, ◌+◌, None}
 use Rattle.step_rules.specs.declared.kind.Kind.TheVariants as kinds
 use Rattle.xsi_calls.specs.CallSteps.{MakesCall}
 use Rattle.xsi_calls.specs.Machine.{CallView, is_searching}

@@ -1,5 +1,5 @@
 -- A name is given back once all is paid.
-use Rattle.std.proofs.Common.{◌≡◌, refl, sym, ap, ◌∙◌, subst}
+use Rattle.std.proofs.Common.{refl, sym, ap, ◌∙◌, subst}
 use Rattle.file_pages.specs.declared.fault.FileFault.{FileFault}
 use Rattle.xsi_calls.specs.CallSteps.{MakesCall, MakesRelease}
 use Rattle.xsi_calls.specs.Machine.{CallView}

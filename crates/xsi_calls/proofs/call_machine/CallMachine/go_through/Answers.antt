@@ -1,5 +1,5 @@
 -- What is owed is paid behind the Decide.
-use Rattle.std.proofs.Common.{◌≡◌, sym, ◌∙◌}
+use Rattle.std.proofs.Common.{sym, ◌∙◌}
 use Rattle.xsi_calls.specs.CallSteps.{MakesCall}
 use Rattle.xsi_calls.specs.Machine.{is_searching}
 use Rattle.xsi_calls.specs.Words.{at}

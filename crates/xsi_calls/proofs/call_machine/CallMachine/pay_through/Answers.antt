@@ -1,5 +1,5 @@
 -- What is owed was written in one go, and a name given back behind it.
-use Rattle.std.proofs.Common.{◌≡◌, sym, ◌∙◌}
+use Rattle.std.proofs.Common.{sym, ◌∙◌}
 use Rattle.xsi_calls.specs.CallSteps.{MakesCall}
 use Rattle.xsi_calls.specs.Machine.{is_searching}
 use Rattle.xsi_calls.specs.OneGo.{GivesBack}
