@@ -5,8 +5,13 @@ use Rattle.page_device.specs.declared.device.PageDevice.{Ghosts}
 use Rattle.buffer_pool.specs.Table.{Held, stored_in}
 use Rattle.buffer_pool.specs.Pool.{PoolState}
 use Rattle.buffer_pool.specs.contracts.file_page.FilePage as page
+use Rattle.buffer_pool.specs.contracts.framed.Framed as framed
 use Rattle.buffer_pool.specs.contracts.table.Table as table
 use Rattle.buffer_pool.specs.contracts.pool.Pool as pool
+
+-- the page in a frame ends as what was last written to it
+abbrev pub LendsFramed : MutBor (List ℕ) → MutBor (List ℕ) → Fml
+LendsFramed f r = Lends framed.the_row page.the_row f r (λ payload. payload)
 
 -- the table ends with what was last written to the payload of a frame
 abbrev pub LendsPayload : MutBor Held → ℕ → MutBor (List ℕ) → Fml

@@ -1,5 +1,6 @@
 //! Pools: the images of a device's pages, in frames.
 ghost use Rattle.std.specs.Prelude.{◌≡◌, ◌↔◌, ◌+◌, ◌-◌, ◌^◌, ◌<◌, ◌≤◌, false, length, is_ok, Some, IsTrue, IfOk, IfErr, IfSome, IsErrAnd, IsErrOf, OnOk, slice_get, slice_set, if◌then◌else◌};
+ghost use Rattle.page_device.specs.Sealed.{IsSealed, payload_of};
 ghost use Rattle.page_device.specs.declared.fault.DeviceFault.TheVariants.{PastEnd};
 ghost use Rattle.buffer_pool.specs.Pool.{pins_at, opened, IsAtRest, payloads_of, IsCrowded, IsOnDevice, KeepsImages, KeepsStored, PoolHasCause, MayNotOpen, MayNotPin, MayNotFlush, TellsChanged};
 ghost use Rattle.std.specs.Borrow.{sem};
@@ -10,7 +11,7 @@ use crate::file_page::FilePage;
 use crate::frame::Frame;
 use crate::table::Table;
 use crate::transfer::{bring_in, write_all};
-use page_device::{DeviceFault, PageDevice};
+use page_device::{DeviceFault, Page, PageDevice};
 use std::alloc::Global;
 use std::marker::Model;
 
@@ -120,6 +121,18 @@ impl<D: PageDevice> Pool<D> {
         ensures { slice_get self.now.images frame.now ≡ Some result.now }
     {
         self.table.payload(self.table.frame_of(frame.page()))
+    }
+
+    /// A pinned page as it is to be written: its image, sealed. Its digest is computed once, until
+    /// the image is lent to be changed.
+    pub fn sealed(&mut self, frame: &Frame) -> Page
+        requires { 0 < pins_at self.old frame.now }
+        ensures same { self.new ≡ self.old }
+        ensures sealed { IsSealed frame.now result }
+        ensures image { slice_get self.old.images frame.now ≡ Some (payload_of result) }
+    {
+        let at = self.table.frame_of(frame.page());
+        self.table.sealed(at, frame.page())
     }
 
     /// The image of a page that is in a frame, pinned or not; none where it is in no frame.

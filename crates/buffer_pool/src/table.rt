@@ -2,9 +2,12 @@
 ghost use Rattle.std.specs.Prelude.{◌≡◌, ◌+◌, ◌-◌, ◌^◌, ◌<◌, length, replicate, ℕ, true, false, Some, None, IsSome, IfOk};
 ghost use Rattle.buffer_pool.specs.Table.{place_of, pins_of, page_of, is_changed, payload_in, count_pinned, no_pages, with_pins, moved_in, cleaned_at, without, IsWhole, IsFree, IsNext, IsTaken};
 ghost use Rattle.std.specs.Borrow.{sem};
+ghost use Rattle.page_device.specs.Sealed.{IsSealed, payload_of};
 ghost use Rattle.buffer_pool.specs.Lending.{LendsPayload};
 
 use crate::file_page::FilePage;
+use crate::framed::Framed;
+use page_device::Page;
 use std::alloc::{AllocError, Global};
 use std::marker::Model;
 
@@ -18,7 +21,7 @@ pub struct Table {
     changed: Vec<bool>,
     /// The payloads of the frames that hold pages, which are the first ones. Room for all is taken
     /// at the opening and touched as they are filled, so that only then the system gives it memory.
-    payloads: Vec<FilePage>,
+    payloads: Vec<Framed>,
     /// Of each frame, whether it was used since the hand went by.
     used: Vec<bool>,
     /// Where the search for a frame goes on.
@@ -110,7 +113,7 @@ impl Table {
         requires { IsSome (page_of self.now frame) }
         ensures { result.now ≡ payload_in self.now frame }
     {
-        &self.payloads[frame]
+        self.payloads[frame].page()
     }
 
     /// How many pages are pinned.
@@ -249,10 +252,11 @@ impl Table {
         self.pages[frame] = Some(page);
         self.changed[frame] = false;
         self.used[frame] = true;
+        let framed = Framed::new(payload);
         if frame == self.payloads.len() {
-            self.payloads.push_reserved(payload);
+            self.payloads.push_reserved(framed);
         } else {
-            self.payloads[frame] = payload;
+            self.payloads[frame] = framed;
         }
     }
 
@@ -277,7 +281,18 @@ impl Table {
         ensures value { result.now ≡ payload_in self.old frame }
     {
         self.changed[frame] = true;
-        &mut self.payloads[frame]
+        self.payloads[frame].page_mut()
+    }
+
+    /// The page of a frame, as it is to be written: sealed. Its digest is computed once, until the
+    /// payload is lent.
+    pub fn sealed(&mut self, frame: usize, page: u32) -> Page
+        requires { IsSome (page_of self.old frame) }
+        ensures same { self.new ≡ self.old }
+        ensures sealed { IsSealed page result }
+        ensures payload { payload_of result ≡ payload_in self.old frame }
+    {
+        self.payloads[frame].sealed(page)
     }
 
     /// Notes that the device has what the frame has.

@@ -8,7 +8,7 @@ ghost use Rattle.buffer_pool.specs.Transfer.{AreWritten, KeepsDevice, KeepsPages
 use crate::fault::PoolFault;
 use crate::file_page::FilePage;
 use crate::table::Table;
-use page_device::{DeviceFault, PAGE_BYTES, PageDevice, seal, unseal};
+use page_device::{DeviceFault, PAGE_BYTES, PageDevice, unseal};
 
 /// Writes the page of a frame to the device where the frame was changed.
 pub fn write_back<D: PageDevice>(
@@ -35,7 +35,7 @@ pub fn write_back<D: PageDevice>(
     if !table.is_changed(frame) {
         return Ok(());
     }
-    let sealed = seal(page, table.payload(frame).payload());
+    let sealed = table.sealed(frame, page);
     device.write(page, &sealed)?;
     table.clean(frame);
     Ok(())

@@ -12,7 +12,7 @@ use crate::places::{are_idle_or_wait, outlast};
 use bucket_page::PseudoKey;
 use buffer_pool::PoolFault;
 use file_pages::FileFault;
-use page_device::{Page, PageDevice, seal};
+use page_device::{Page, PageDevice};
 use queue_model::{Call, Caller, Entry, NoMemory};
 use std::alloc::Global;
 use std::mem;
@@ -142,7 +142,7 @@ impl<D: PageDevice + Drop, K: PseudoKey + Drop> Kernel<D, K> {
     {
         match self.pool.pin(page) {
             Ok(frame) => {
-                let bytes = seal(page, self.pool.image(&frame).payload());
+                let bytes = self.pool.sealed(&frame);
                 self.pool.unpin(frame);
                 Ok(bytes)
             }

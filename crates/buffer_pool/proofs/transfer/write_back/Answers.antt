@@ -1,5 +1,5 @@
 -- The device has what the frame has once the page is written, and the frame stays changed where that fails.
-use Rattle.std.proofs.Common.{◌∙◌, sym, ap, [], slice_index_or}
+use Rattle.std.proofs.Common.{rules, ◌∙◌, refl, sym, ap, [], slice_index_or}
 use Rattle.std.proofs.lemmas.List.{get_or-set_same}
 use Rattle.page_device.specs.Device.{HasCause, MayOnlyFail}
 use Rattle.page_device.specs.Sealed.{payload_of}
@@ -10,14 +10,15 @@ use Rattle.buffer_pool.proofs.transfer.write_back.Goals as goal
 pub returns-in_err-write-clause-sound : goal.returns-in_err-write-clause-sound
 returns-in_err-write-clause-sound g c =
     let here = sym c.page.ensures ∙ c.in-Some.is in
-    rw c.write.ensures.honest
+    rw (c.write.ensures.honest, c.sealed-sealed.ensures.same)
     (IsSoundPool-failed _ _ _ c.requires.sound _ c.args.frame c.in-Some.page here c.write.ensures.others
     (sym c.is_changed.ensures ∙ c.if-not-is_changed.false))
 
 pub returns-in_err-write-clause-images : goal.returns-in_err-write-clause-images
 returns-in_err-write-clause-images g c =
     let here = sym c.page.ensures ∙ c.in-Some.is in
-    images-written _ _ _ c.requires.sound _ c.args.frame c.in-Some.page here c.write.ensures.others
+    rw c.sealed-sealed.ensures.same
+    (images-written _ _ _ c.requires.sound _ c.args.frame c.in-Some.page here c.write.ensures.others)
 
 pub returns-in_err-write-clause-cause : goal.returns-in_err-write-clause-cause
 returns-in_err-write-clause-cause g c =
@@ -39,16 +40,17 @@ pub returns-clause-sound : goal.returns-clause-sound
 returns-clause-sound g c =
     let here = sym c.page.ensures ∙ c.in-Some.is in
     let within = page_within _ _ _ c.requires.sound c.args.frame c.in-Some.page here in
-    rw (c.write.ensures.honest, c.clean.ensures)
+    rw (c.write.ensures.honest, c.clean.ensures, c.sealed-sealed.ensures.same)
     (IsSoundPool-cleaned _ _ _ c.requires.sound _ c.args.frame c.in-Some.page here c.write.ensures.others (λ is.
     ap (λ s. payload_of (slice_index_or s c.in-Some.page [])) (c.in_ok-write.ensures.ok is)
-    ∙ ap payload_of (get_or-set_same _ c.in-Some.page c.seal-sealed.result [] within)
-    ∙ c.seal-sealed.ensures.payload ∙ c.payload-2.ensures ∙ c.payload.ensures))
+    ∙ ap payload_of (get_or-set_same _ c.in-Some.page c.sealed-sealed.result [] within)
+    ∙ c.sealed-sealed.ensures.payload))
 
 pub returns-clause-images : goal.returns-clause-images
 returns-clause-images g c =
     let here = sym c.page.ensures ∙ c.in-Some.is in
-    rw c.clean.ensures (images-written _ _ _ c.requires.sound _ c.args.frame c.in-Some.page here c.write.ensures.others)
+    rw (c.clean.ensures, c.sealed-sealed.ensures.same)
+    (images-written _ _ _ c.requires.sound _ c.args.frame c.in-Some.page here c.write.ensures.others)
 
 pub returns-clause-device : goal.returns-clause-device
 returns-clause-device g c = record {
@@ -56,6 +58,15 @@ returns-clause-device g c = record {
   seals = λ is _.
       let here = sym c.page.ensures ∙ c.in-Some.is in
       let within = page_within _ _ _ c.requires.sound c.args.frame c.in-Some.page here in
-      rw (c.in_ok-write.ensures.ok is) (seals_written _ c.in-Some.page _ within c.seal-sealed.ensures.sealed);
+      rw (c.in_ok-write.ensures.ok is) (seals_written _ c.in-Some.page _ within c.sealed-sealed.ensures.sealed);
   spared = λ none. let here = sym c.page.ensures ∙ c.in-Some.is in absurd cc;
 }
+
+pub returns-clause-pages : goal.returns-clause-pages
+returns-clause-pages g c = rw (c.clean.ensures, c.sealed-sealed.ensures.same) (record {
+  places = refl;
+  pins = refl;
+  pages = refl;
+  payloads = refl;
+  clean = λ frame was. search rules;
+})

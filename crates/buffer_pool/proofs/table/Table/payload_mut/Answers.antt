@@ -23,7 +23,7 @@ returns c =
       record {
         writes_back = tt;
         value = rw (← c.self.view_is)
-            (c.index_mut-2.ensures.value
+            (c.page_mut.ensures.value ∙ c.index_mut-2.ensures.value
             ∙ sym (get_or_default c.self.inside.payloads.items c.args.frame [] c.index_mut-2.result.now within)
             ∙ sym (filled_up-at (length c.self.inside.pages.items) c.self.inside.payloads.items c.args.frame []
             within));

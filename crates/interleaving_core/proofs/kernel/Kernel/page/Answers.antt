@@ -1,5 +1,6 @@
 -- It is pinned, sealed, and its pin given back; or it did not come to a frame.
-use Rattle.std.proofs.Common.{◌∙◌, ◌<◌, sym, subst, length, vec_capacity}
+use Rattle.std.proofs.Common.{◌<◌, refl, sym, subst, length, vec_capacity}
+use Rattle.page_device.specs.Sealed.{payload_of}
 use Rattle.std.specs.Option.{is_some}
 use Rattle.interleaving_core.specs.Kernel.{KernelState}
 use Rattle.interleaving_core.specs.Renewing.{FailsToRead, IsRead}
@@ -22,7 +23,8 @@ invariant_of-self g c =
       searches = c.self.inside.searches;
     } in
     read_whole old c.self.invariant c.args.page c.in-Ok.frame c.pin.new.self c.unpin.new.self c.in-Ok.ensures.ok.0
-    c.in-Ok.ensures.ok.1 c.in-Ok.ensures.pins c.in-Ok.ensures.keeps c.in-Ok.ensures.cause.later c.unpin.ensures
+    c.in-Ok.ensures.ok.1 c.in-Ok.ensures.pins c.in-Ok.ensures.keeps c.in-Ok.ensures.cause.later
+    (rw c.sealed-bytes.ensures.same at c.unpin.ensures)
 
 pub returns-in-Ok : goal.returns-in-Ok
 returns-in-Ok g c =
@@ -39,12 +41,12 @@ returns-in-Ok g c =
       failure = c.self.inside.failure;
       searches = c.self.inside.searches;
     } in
-    subst (λ (k : KernelState g.row.K.Denot). IsRead c.args.page c.seal-bytes.result k
+    subst (λ (k : KernelState g.row.K.Denot). IsRead c.args.page c.sealed-bytes.result k
     (record old { pool = c.unpin.new.self })) c.self.view_is
     (page_read old c.self.invariant c.args.page c.in-Ok.frame c.pin.new.self c.unpin.new.self c.in-Ok.ensures.ok.0
-    c.in-Ok.ensures.ok.1 c.in-Ok.ensures.pins c.in-Ok.ensures.keeps c.in-Ok.ensures.cause.later c.unpin.ensures
-    c.seal-bytes.result c.image.result.now c.image.ensures (c.seal-bytes.ensures.payload ∙ c.payload.ensures)
-    c.seal-bytes.ensures.sealed)
+    c.in-Ok.ensures.ok.1 c.in-Ok.ensures.pins c.in-Ok.ensures.keeps c.in-Ok.ensures.cause.later
+    (rw c.sealed-bytes.ensures.same at c.unpin.ensures) c.sealed-bytes.result (payload_of c.sealed-bytes.result)
+    c.sealed-bytes.ensures.image refl c.sealed-bytes.ensures.sealed)
 
 pub returns-in-Err : goal.returns-in-Err
 returns-in-Err g c =
