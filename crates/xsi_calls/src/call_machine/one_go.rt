@@ -48,7 +48,7 @@ impl CallMachine {
         requires ready { IsReady pool.old }
         requires row { row_of locks.now seat ≡ call_locks self.old }
         ensures runs { (stopped : Bool) → RunsAtOnce (MakesCall (K.of_key keys.now) seat stopped)
-            is_searching seat result (at self.old pool.old locks.now)
+            is_searching seat result 0 (at self.old pool.old locks.now)
             (at self.new pool.new locks.now) }
         ensures few { result ≤ most }
         ensures ready { IsReady pool.new }
@@ -77,7 +77,7 @@ impl CallMachine {
         requires ready { IsReady pool.old }
         requires row { row_of locks.now seat ≡ call_locks self.old }
         ensures goes { (stopped : Bool) → GoesAtOnce (MakesCall (K.of_key keys.now) seat stopped)
-            is_searching seat result.moves result.fault (at self.old pool.old locks.now)
+            is_searching seat result.moves 0 result.fault (at self.old pool.old locks.now)
             (at self.new pool.new locks.now) }
         ensures few { result.moves ≤ most }
         ensures ready { result.fault ≡ None → IsReady pool.new }
@@ -191,7 +191,7 @@ impl CallMachine {
         requires ready { IsReady pool.old }
         requires row { row_of locks.now seat ≡ call_locks self.old }
         ensures goes { GoesAtOnce (MakesCall (K.of_key keys.now) seat stopped)
-            is_searching seat result.moves result.fault (at self.old pool.old locks.now)
+            is_searching seat result.moves 1 result.fault (at self.old pool.old locks.now)
             (at self.new pool.new locks.now) }
         ensures few { result.moves ≤ most }
         ensures ready { result.fault ≡ None → IsReady pool.new }
@@ -235,7 +235,7 @@ impl CallMachine {
         requires ready { IsReady pool.old }
         requires row { row_of locks.old seat ≡ call_locks self.old }
         ensures goes { (stopped : Bool) → GoesAtOnce (MakesCall (K.of_key keys.now) seat stopped)
-            is_searching seat result.moves result.fault (at self.old pool.old locks.old)
+            is_searching seat result.moves 1 result.fault (at self.old pool.old locks.old)
             (at self.new pool.new locks.new) }
         ensures few { result.moves ≤ most }
     {
@@ -270,7 +270,7 @@ impl CallMachine {
         requires ready { IsReady pool.old }
         requires row { row_of locks.old seat ≡ call_locks self.old }
         ensures goes { GoesAtOnce (MakesCall (K.of_key keys.now) seat stopped)
-            is_searching seat result.moves result.fault (at self.old pool.old locks.old)
+            is_searching seat result.moves 2 result.fault (at self.old pool.old locks.old)
             (at self.new pool.new locks.new) }
         ensures few { result.moves ≤ most }
     {

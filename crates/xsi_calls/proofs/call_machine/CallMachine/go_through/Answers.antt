@@ -13,8 +13,8 @@ returns-clause-goes g c =
     let s0 = at c.args.self.now c.args.pool.now c.args.locks.now in
     let s1 = at c.decide_through-first.new.self c.decide_through-first.new.pool c.args.locks.now in
     goes_behind makes is_searching c.args.seat s0 c.decide_through-first.result.moves c.pay_through-last.result.moves
-    c.pay_through-last.result.fault s1
+    1 1 c.pay_through-last.result.fault s1
     (at c.pay_through-last.new.self c.pay_through-last.new.pool c.pay_through-last.new.locks)
-    (ran makes is_searching c.args.seat c.decide_through-first.result.moves c.decide_through-first.result.fault s0 s1
+    (ran makes is_searching c.args.seat c.decide_through-first.result.moves 1 c.decide_through-first.result.fault s0 s1
     (none_of _ (sym c.is_some.ensures ∙ c.if-is_some.false)) c.decide_through-first.ensures.goes)
     (c.pay_through-last.ensures.goes c.args.stopped)

@@ -15,10 +15,10 @@ returns-clause-goes g c = λ stopped.
     let none = none_of _ (sym c.is_some.ensures ∙ c.if-is_some.false) in
     let s0 = at c.args.self.now c.args.pool.now c.args.locks.now in
     let s1 = at c.write_all_through-paid.new.self c.write_all_through-paid.new.pool c.args.locks.now in
-    goes_so_far makes is_searching c.args.seat _ _ _
-    (one_more makes is_searching c.args.seat s0 GivesBack c.write_all_through-paid.result.moves s1
+    goes_so_far makes is_searching c.args.seat _ 1 _ _
+    (one_more makes is_searching c.args.seat s0 GivesBack c.write_all_through-paid.result.moves 0 s1
     (at c.give_back_at_once.new.self c.write_all_through-paid.new.pool c.give_back_at_once.new.locks)
-    (ran makes is_searching c.args.seat c.write_all_through-paid.result.moves c.write_all_through-paid.result.fault s0
-    s1 none (c.write_all_through-paid.ensures.goes stopped))
+    (ran makes is_searching c.args.seat c.write_all_through-paid.result.moves 0 c.write_all_through-paid.result.fault
+    s0 s1 none (c.write_all_through-paid.ensures.goes stopped))
     (c.give_back_at_once.ensures.made c.if-not-give_back_at_once.false hash stopped c.write_all_through-paid.new.pool
     (c.write_all_through-paid.ensures.ready none)))
