@@ -328,7 +328,7 @@ module _ (seat : ℕ) (kind : Kind) (s : CountsState) (sound : AreSoundCounts s)
       (second_fails (may_lengthen kind) (begins_change kind) touches_none)
       (second_fails (touches_all kind) (ends_change kind) quiet)
 
-  other_stays : (other : ℕ) → count_at s.counts other ≡ count_behind kind s.under_way (count_at s.counts other)
+  pub other_stays : (other : ℕ) → count_at s.counts other ≡ count_behind kind s.under_way (count_at s.counts other)
   other_stays other =
       ap (λ (xs : List SearchCount). count_at xs other) (sym (none_touched kind s sound touches_none))
       ∙ count_behind_at kind (change_after kind s.under_way) s.counts other

@@ -1,10 +1,11 @@
 -- A seat is driven.
-use Rattle.std.proofs.Common.{◌≡◌, refl, sym, ◌∙◌, subst, inl, inr, ℕ, zero, suc, ◌+◌, ◌<◌, true, None, arith}
+use Rattle.std.proofs.Common.{◌≡◌, refl, sym, ◌∙◌, subst, inl, inr, ℕ, zero, suc, ◌+◌, ◌<◌, true, Option, None, Some, arith}
+use Rattle.file_pages.specs.declared.fault.FileFault.{FileFault}
 use Rattle.step_rules.specs.declared.kind.Kind.{Kind}
 use Rattle.interleaving_core.specs.Words.{IsSeat, RecordKey}
-use Rattle.interleaving_core.specs.Driving.{IsDriven, IsStep, Moves, MovesFrom}
+use Rattle.interleaving_core.specs.Driving.{EndsBy, GoesThrough, IsDriven, IsStep, Moves, MovesFrom}
 use Rattle.interleaving_core.specs.Kernel.{IsWhole, KernelState}
-use Rattle.interleaving_core.specs.Owing.{IsMove, IsRun, answer_told, failed, failure_by}
+use Rattle.interleaving_core.specs.Owing.{IsMove, IsRun, answer_told, failed, failure_by, fault_told}
 use Rattle.interleaving_core.specs.declared.kernel.TheConstants.{MOST_STEPS}
 use Rattle.interleaving_core.specs.declared.step.Step.{Step}
 use Rattle.interleaving_core.specs.declared.step.Step.TheVariants as steps
@@ -88,3 +89,33 @@ moves_after {K} of seat moves old now so_far zero new is =
     more = omega arith
 moves_after of seat moves old now so_far (suc n) new m =
     one_after of seat moves n old now so_far new m (moves_after of seat moves old now so_far n m.before m.stands)
+
+-- ---- what is made in one go behind those
+
+module _ {K : Type 0} (of : K → RecordKey → ℕ) (seat moves : ℕ) (old now : KernelState K)
+    (so_far : HasMoved of seat moves old now) (n : ℕ) (fault : Option FileFault) (new : KernelState K)
+    (goes : GoesThrough (of now.keys) seat n fault now new) where
+  behind : HasMoved of seat (moves + n) old goes.before
+  behind = moves_after of seat moves old now so_far n goes.before goes.moved
+
+  ends_there : (o : Option FileFault) → o ≡ None → EndsBy (of now.keys) seat o goes.before new → new ≡ goes.before
+  ends_there None none ends = ends
+  ends_there (Some met) none ends = absurd cc
+
+  -- no fault was met
+  pub goes_on : fault ≡ None → HasMoved of seat (moves + n) old new
+  goes_on none =
+      subst (λ (k : KernelState K). HasMoved of seat (moves + n) old k) (sym (ends_there fault none goes.ends)) behind
+
+  module _ (met : FileFault) (is : fault ≡ Some met) where
+    last : IsStep (of goes.before.keys) seat (fault_told met) goes.before new
+    last = subst (λ (keys : K). IsStep (of keys) seat (fault_told met) goes.before new)
+        (so_far.run.rest.keys ∙ sym behind.run.rest.keys)
+        (subst (λ (o : Option FileFault). EndsBy (of now.keys) seat o goes.before new) is goes.ends)
+
+    pub runs_there : IsRun seat None old new
+    runs_there = runs_on seat (fault_told met) old goes.before new behind.run last.turn
+
+    pub fails_there : moves + n < MOST_STEPS → IsDriven (of old.keys) seat (fault_told met) old new
+    fails_there few =
+        rests_at of seat (moves + n) old goes.before behind (fault_told met) new last few (λ moves. moves)

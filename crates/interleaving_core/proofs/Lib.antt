@@ -10,8 +10,9 @@ pub mod BetweenLemmas
 pub mod FailureLemmas
 pub mod KernelLemmas
 pub mod AtOnceLemmas
-pub mod SkipLemmas
-pub mod FaultLemmas
+pub mod ErrandLemmas
+pub mod OneGoLemmas
+pub mod GoneLemmas
 pub mod SparedLemmas
 pub mod BeginLemmas
 pub mod RunLemmas

@@ -1,10 +1,11 @@
 -- What is counted of a seat's last search, and of what was done meanwhile. docs/STEPS.md, "Search".
-use Rattle.std.specs.Prelude.{ℕ, zero, suc, ◌≡◌, ◌≢◌, ◌≤◌, ◌+◌, min, Bool, true, false, ◌&&◌, ◌||◌, if◌then◌else◌, List, length, replicate, slice_index_or}
+use Rattle.std.specs.Prelude.{ℕ, zero, suc, ◌≡◌, ◌≢◌, ◌≤◌, ◌<◌, ◌+◌, min, Bool, true, false, ◌&&◌, ◌||◌, if◌then◌else◌, List, length, replicate, slice_index_or}
 use Rattle.std.specs.List.{All}
 use Rattle.step_rules.specs.Kinds.{may_lengthen}
 use Rattle.step_rules.specs.Ways.{hops_added}
 use Rattle.step_rules.specs.declared.kind.Kind.{Kind}
 use Rattle.step_rules.specs.declared.kind.Kind.TheVariants as kinds
+use Rattle.xsi_calls.specs.declared.call_machine.one_go.TheConstants.{QUESTION_STEPS}
 use Rattle.interleaving_core.specs.declared.count.SearchCount.{SearchCount}
 use Rattle.interleaving_core.specs.declared.under_way.UnderWay.{UnderWay}
 use Rattle.interleaving_core.specs.declared.under_way.UnderWay.TheVariants.{Nothing, Split, Merge}
@@ -132,3 +133,8 @@ pub record NotesSearch (seat : ℕ) (old new : CountsState) : Type 0 where
   pub sound : AreSoundCounts begun
   pub begins : Notes seat kinds.Grant true false false old begun
   pub ends : Notes seat kinds.Look false false true begun new
+
+-- so many moves are made of a seat in one go. Where they are fewer than those of a question no search is among them
+pub record NotesGo (seat moves : ℕ) (old new : CountsState) : Type 0 where
+  pub searched : QUESTION_STEPS ≤ moves → NotesSearch seat old new
+  pub none : moves < QUESTION_STEPS → new ≡ old

@@ -37,6 +37,8 @@ pub mod OpenLemmas
 pub mod QuestionFewLemmas
 pub mod QuestionRunLemmas
 pub mod WriteRunLemmas
+pub mod OneGoLemmas
+pub mod DecideAtOnceLemmas
 pub mod WriteAtOnceLemmas
 pub mod QuestionAtOnceLemmas
 pub mod QuestionNames

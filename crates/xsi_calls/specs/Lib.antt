@@ -17,6 +17,7 @@ pub mod Questions
 pub mod QuestionSteps
 pub mod QuestionLaws
 pub mod QuestionRuns
+pub mod OneGo
 pub mod PaymentWords
 pub mod PaymentStages
 pub mod Payments

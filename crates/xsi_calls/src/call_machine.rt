@@ -9,7 +9,9 @@ ghost use Rattle.xsi_calls.specs.Parts.{IsToPay, conclusion_under, payment_under
 ghost use Rattle.xsi_calls.specs.Machine.{Begins, IsOver, answer_of_call, call_locks, conclusion_of, finds_of, is_paying, is_searching, is_undecided};
 ghost use Rattle.xsi_calls.specs.CallSteps.{ComesTo, HasNoSystem, MakesCall, MakesRelease, is_end};
 ghost use Rattle.xsi_calls.specs.QuestionSteps.{is_blocked};
+ghost use Rattle.xsi_calls.specs.NameSteps.{GivesBack};
 
+pub(crate) mod one_go;
 mod skipping;
 
 use crate::conclusion::Conclusion;
@@ -341,7 +343,9 @@ impl CallMachine {
         requires row { row_of locks.old seat ≡ call_locks self.old }
         requires undecided { is_undecided self.old.stage ≡ false }
         requires paid { is_paying self.old.stage ≡ false }
-        ensures { MakesRelease seat result self.old self.new locks.old locks.new }
+        ensures steps { MakesRelease seat result self.old self.new locks.old locks.new }
+        ensures gives { GivesBack result self.old.undecided.questions.names
+            self.new.undecided.questions.names }
     {
         self.questions.give_back(locks, seat)
     }

@@ -30,6 +30,7 @@ mod write_laws;
 mod writes;
 
 pub use call_machine::CallMachine;
+pub use call_machine::one_go::{Gone, QUESTION_STEPS, WRITE_STEPS};
 pub use conclusion::Conclusion;
 pub use decided::Decided;
 pub use deed::Deed;

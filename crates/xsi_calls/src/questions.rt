@@ -1,6 +1,6 @@
 //! The call that asks.
 
-ghost use Rattle.std.specs.Prelude.{◌≡◌, ◌≤◌, None, false, true, IfNone, IfSome, IsSome};
+ghost use Rattle.std.specs.Prelude.{◌≡◌, ◌≤◌, ◌↔◌, [], None, false, true, IfNone, IfSome, IsSome, IsTrue};
 ghost use Rattle.xsi_calls.specs.NameSteps.{GivesBack, MakesNameStep};
 ghost use Rattle.xsi_inquiry.specs.Rooms.{HasRoom};
 ghost use Rattle.xsi_inquiry.specs.Telling.{most_asked};
@@ -173,6 +173,13 @@ impl Questions {
             None => false,
             Some(_) => true,
         }
+    }
+
+    /// Whether no name is held.
+    pub(crate) fn holds_none(&self) -> bool
+        ensures { IsTrue result ↔ (self.now.names ≡ []) }
+    {
+        self.names.is_empty()
     }
 
     /// One step after the call's last write: the name that was taken last is given back.

@@ -1,5 +1,7 @@
--- The steps of a question are so many moves.
+-- Where nothing is due nothing is made.
+use Rattle.std.proofs.Common.{refl}
+use Rattle.interleaving_core.proofs.GoneLemmas.{goes_nowhere}
 use Rattle.interleaving_core.proofs.kernel.Kernel.go_ahead.Goals as goal
 
-pub returns-then-skip-clause-made : goal.returns-then-skip-clause-made
-returns-then-skip-clause-made g c = c.skip.ensures.made c.if-skip.true
+pub returns-then-not-is_due-clause-goes : goal.returns-then-not-is_due-clause-goes
+returns-then-not-is_due-clause-goes g c = goes_nowhere _ _ _ _ refl

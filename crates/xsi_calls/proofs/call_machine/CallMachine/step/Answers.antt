@@ -390,10 +390,10 @@ returns-then-is_paying g c =
     (releases_there hash c.args.seat c.args.stopped i.caller i.call i.questions i.part i.phase c.args.self.now
     c.self.view_is (sym c.is_paying.ensures ∙ c.if-is_paying.true) c.self.invariant part2 gone (ap conclusion_under
     c.in-Writes-part-3.is) c.release.result c.release.new.self
-    c.step-did-in-Writes-part-3.new.locks c.release.new.locks c.release.ensures) c.args.stopped
+    c.step-did-in-Writes-part-3.new.locks c.release.new.locks c.release.ensures.steps) c.args.stopped
 
 -- ---- it gives a name back
 
 pub returns : goal.returns
 returns g c =
-    c.release-2.ensures.makes (g.K.PseudoKey.of_key c.args.keys.now) c.args.stopped c.args.pool.now c.requires.ready
+    c.release-2.ensures.steps.makes (g.K.PseudoKey.of_key c.args.keys.now) c.args.stopped c.args.pool.now c.requires.ready
