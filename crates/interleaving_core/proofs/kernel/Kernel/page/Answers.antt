@@ -1,6 +1,6 @@
 -- It is pinned, sealed, and its pin given back; or it did not come to a frame.
-use Rattle.std.proofs.Common.{◌<◌, refl, sym, subst, length, vec_capacity}
-use Rattle.page_device.specs.Sealed.{payload_of}
+use Rattle.std.proofs.Common.{◌<◌, ℕ, refl, sym, subst, length, vec_capacity}
+use Rattle.page_device.specs.Sealed.{IsSealed, payload_of}
 use Rattle.std.specs.Option.{is_some}
 use Rattle.interleaving_core.specs.Kernel.{KernelState}
 use Rattle.interleaving_core.specs.Renewing.{FailsToRead, IsRead}
@@ -46,7 +46,8 @@ returns-in-Ok g c =
     (page_read old c.self.invariant c.args.page c.in-Ok.frame c.pin.new.self c.unpin.new.self c.in-Ok.ensures.ok.0
     c.in-Ok.ensures.ok.1 c.in-Ok.ensures.pins c.in-Ok.ensures.keeps c.in-Ok.ensures.cause.later
     (rw c.sealed-bytes.ensures.same at c.unpin.ensures) c.sealed-bytes.result (payload_of c.sealed-bytes.result)
-    c.sealed-bytes.ensures.image refl c.sealed-bytes.ensures.sealed)
+    c.sealed-bytes.ensures.image refl
+    (subst (λ (n : ℕ). IsSealed n c.sealed-bytes.result) c.in-Ok.ensures.ok.0 c.sealed-bytes.ensures.sealed))
 
 pub returns-in-Err : goal.returns-in-Err
 returns-in-Err g c =
