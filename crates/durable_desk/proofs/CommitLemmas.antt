@@ -1,8 +1,8 @@
 -- A commit, step by step: the pages are written, the device is synced, and it is noted.
-use Rattle.std.proofs.Common.{arith, ℕ, ◌≡◌, ◌≤◌, ◌<◌, ◌+◌, inl, inr, ⊎_elim, IsTrue, refl, sym, ap, ◌∙◌, subst, Bool, true, false, List, [], Option, Some, None, Result, Err, length}
-use Rattle.std.specs.Prelude.{IsErrOf, nat_lt, slice_set}
-use Rattle.std.proofs.lemmas.Bool.Decides.{nat_tests}
-use Rattle.page_device.specs.Device.{DiffersAtMostAt, HasCause, HasRisen, MayMeetTheEnd}
+use Rattle.std.proofs.Common.{arith, ℕ, ◌≡◌, ◌≤◌, ◌<◌, ◌+◌, inl, inr, ⊎_elim, IsTrue, refl, sym, ap, ◌∙◌, subst, Bool, true, false, List, [], Option, Some, None, Err, length}
+use Rattle.std.specs.Prelude.{slice_set}
+use Rattle.page_device.proofs.CopyLemmas.{risen-since}
+use Rattle.page_device.specs.Device.{DiffersAtMostAt, HasCause, MayMeetTheEnd}
 use Rattle.page_device.specs.declared.fault.DeviceFault.{DeviceFault}
 use Rattle.page_device.specs.declared.fault.DeviceFault.TheVariants as devices
 use Rattle.safe_device.specs.Crash.{Keeps, LeavesOnly}
@@ -13,6 +13,7 @@ use Rattle.safe_device.specs.declared.journal.Journal.{Journal}
 use Rattle.bucket_page.specs.Pseudokeys.{sha_key}
 use Rattle.interleavings.specs.LoneKernelWords.{IsFileOf, State, restarted}
 use Rattle.session.specs.Session.{AreItsPages, AreSaved, GivesPage, NotesSave, PagesAreTheFile, TellsChanges, pages_of, saved_of}
+use Rattle.session.proofs.WriteLemmas.{AreWrittenTo, Pages, all_written, none_written, one_more, same_pages, still_its, told_as, up_to, write_failed}
 use Rattle.call_entries.specs.Log.{LogState, empty}
 use Rattle.desk.specs.Desk.{DeskState, KeepsServing, Serves}
 use Rattle.durable_desk.specs.Durable.{FailsToCommit, HasCommitted, IsCommitted, IsCutShortOn, IsLastOrComes}
@@ -21,7 +22,6 @@ use Rattle.durable_desk.specs.Commit.{HasWritten, LeavesTheLast}
 use Rattle.durable_desk.specs.declared.commit.Uncommitted.TheVariants.{Device}
 use Rattle.durable_desk.proofs.MomentLemmas.{joined, started, weaker}
 use Rattle.durable_desk.proofs.SavedLemmas.{none_more, noted_more, of_pages}
-use Rattle.durable_desk.proofs.WriteLemmas.{AreWrittenTo, Pages, all_written, none_written, one_more, same_pages, still_its, up_to}
 
 -- ---- words
 
@@ -34,27 +34,6 @@ on old mid new first then = record {
   waiting = then.waiting ∙ first.waiting;
   most = then.most ∙ first.most;
 }
-
--- the fault that a call tells
-pub told_as : (fault other : DeviceFault) → fault ≡ other → IsErrOf {T = Unit {0}} (Err fault) other
-told_as fault other same = let told : DeviceFault → Result (Unit {0}) DeviceFault = λ f. Err f in ap told same
-
--- no page was written
-pub zero_of : (n : ℕ) → nat_lt 0 n ≡ false → n ≡ 0
-zero_of n none = grind (arith, nat_tests)
-
-risen_since : (a b c : ℕ) → a ≤ b → HasRisen b c → HasRisen a c
-risen_since a b c le risen = ⊎_elim (λ more. inl (omega arith)) (λ most. inr most) risen
-
--- a write of a page that is there fails only as a transfer does
-write_failed : (fault : DeviceFault) (page many a b : ℕ) → page < many → MayMeetTheEnd fault →
-    (fault ≡ devices.PastEnd → many ≤ page) → (fault ≡ devices.Device → HasRisen a b) → HasRisen a b
-write_failed devices.Device page many a b within may past failed = failed refl
-write_failed devices.BadDigest page many a b within may past failed = absurd may
-write_failed devices.PastEnd page many a b within may past failed =
-    let le = past refl in absurd (omega (arith, le))
-write_failed devices.DeviceFull page many a b within may past failed = absurd may
-write_failed devices.NoMemory page many a b within may past failed = absurd may
 
 module _ {P : Type 0} (honest : Bool) (file : P → Pages) (journal : P → Option Journal) (moment : P → ℕ)
     (left_since : P → ℕ → Left → Type 0) (may_leave : P → Left → Type 0) where
@@ -158,7 +137,7 @@ module _ {P : Type 0} (honest : Bool) (file : P → Pages) (journal : P → Opti
           (fault ≡ devices.PastEnd → length then.content ≤ page) → FailsToCommit Device desk after device next
       not_written fault cause past = (
         on desk now after so_far.keeps kept,
-        risen_since device.failed then.failed next.failed so_far.later
+        risen-since device.failed then.failed next.failed so_far.later
             (write_failed fault page (length then.content) then.failed next.failed ((is_there page count told).1)
             cause.told past (λ is. cause.failed (told_as fault devices.Device is))),
       )

@@ -1,6 +1,5 @@
 pub mod MomentLemmas
 pub mod SavedLemmas
-pub mod WriteLemmas
 pub mod CommitLemmas
 pub mod ServingLemmas
 pub mod OpeningLemmas

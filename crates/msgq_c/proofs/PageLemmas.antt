@@ -1,14 +1,11 @@
 -- The pages of a session, as a save sees them.
-use Rattle.std.proofs.Common.{arith, ℕ, ◌≡◌, ◌<◌, refl, sym, ap, ◌∙◌, subst, Bool, true, false, IsTrue, List, [], ◌++◌, length, take, drop, slice_get, Option, Some, None}
+use Rattle.std.proofs.Common.{arith, ℕ, ◌≡◌, ◌<◌, refl, sym, ap, ◌∙◌, subst, Bool, true, false, IsTrue, List, [], length, slice_get, Option, Some, None}
 use Rattle.std.specs.Prelude.{IfSome, slice_index_or}
-use Rattle.std.proofs.lemmas.List.{ext_get_or, take-append-drop}
 use Rattle.std.proofs.lemmas.Option.{slice_get-get_or}
-use Rattle.page_device.specs.declared.page.TheConstants.{PAYLOAD_BYTES}
-use Rattle.page_device.specs.Sealed.{page_digest, payload_of}
-use Rattle.buffer_pool.specs.Pool.{PoolState}
 use Rattle.interleaving_core.specs.Renewing.{IsPage}
 use Rattle.queue_model.specs.State.{State}
 use Rattle.session.specs.Session.{AreItsPages, GivesPage, Holds, SessionState, TellsChanges, pages_of, saved_of}
+use Rattle.session.proofs.WriteLemmas.{page_stays, same_page, same_pages, still_its}
 use Rattle.pair_transfers.specs.Saving.{IsToldOf, NotesPages}
 use Rattle.msgq_c.specs.Keeping.{IsSaved}
 use Rattle.msgq_c.specs.Saving.{Turns, Wants, saved_by}
@@ -16,38 +13,6 @@ use Rattle.msgq_c.specs.declared.kept.Kept.{Kept}
 
 abbrev Pages : Type 0
 Pages = List (List ℕ)
-
--- ---- a page as it is to be written
-
-both_parts : (n : ℕ) (a b : List ℕ) → take n a ≡ take n b → drop n a ≡ drop n b → a ≡ b
-both_parts n a b first rest =
-    sym (take-append-drop n a) ∙ ap (λ (xs : List ℕ). xs ++ drop n a) first
-    ∙ ap (λ (xs : List ℕ). take n b ++ xs) rest ∙ take-append-drop n b
-
--- there is one
-same_page : (page : ℕ) (a b : List ℕ) (pool : PoolState) → IsPage page a pool → IsPage page b pool → a ≡ b
-same_page page a b pool is too =
-    let same : payload_of a ≡ payload_of b = is.payload ∙ sym too.payload in
-    both_parts PAYLOAD_BYTES a b same (is.sealed ∙ ap (page_digest page) same ∙ sym too.sealed)
-
-page_stays : (page : ℕ) (bytes : List ℕ) (old new : PoolState) → new.images ≡ old.images → IsPage page bytes old →
-    IsPage page bytes new
-page_stays page bytes old new same is = record {
-  payload = is.payload ∙ ap (λ (images : Pages). slice_index_or images page []) (sym same);
-  sealed = is.sealed;
-}
-
-still_its : (content : Pages) (old new : SessionState) → new.pool.images ≡ old.pool.images →
-    pages_of new ≡ pages_of old → AreItsPages content old → AreItsPages content new
-still_its content old new same many its = record {
-  many = its.many ∙ sym many;
-  each = λ page within. page_stays page (slice_index_or content page []) old.pool new.pool same (its.each page within);
-}
-
-same_pages : (a b : Pages) (k : SessionState) → AreItsPages a k → AreItsPages b k → a ≡ b
-same_pages a b k its too = ext_get_or [] a b (its.many ∙ sym too.many) (λ page within.
-    same_page page (slice_index_or a page []) (slice_index_or b page []) k.pool (its.each page within)
-    (too.each page (subst (λ (n : ℕ). page < n) (its.many ∙ sym too.many) within)))
 
 -- ---- which of them have changed
 

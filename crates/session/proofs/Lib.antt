@@ -8,3 +8,5 @@ pub mod SeatLemmas
 pub mod PageLemmas
 pub mod SaveLemmas
 pub mod CloseLemmas
+pub mod WriteLemmas
+pub mod ChangedLemmas

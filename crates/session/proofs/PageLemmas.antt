@@ -186,6 +186,7 @@ is_given page r old new within is read = record {
   caller = same_caller old new (page_kept page r old new read);
   many = (page_kept page r old new read).pages;
   saved = same_saved old new (page_kept page r old new read) is;
+  later = (page_kept page r old new read).later;
 }
 
 -- a session that is not between calls holds no system
@@ -195,6 +196,7 @@ none_given page k busy = record {
   caller = refl;
   many = refl;
   saved = refl;
+  later = omega arith;
 }
 
 -- ---- all of its pages

@@ -1,6 +1,6 @@
 -- Which pages of a session have changed, and that they are saved.
-use Rattle.std.proofs.Common.{arith, ℕ, ◌≡◌, ◌<◌, IsTrue, refl, sym, ap, ◌∙◌, subst, false, List, [], Option, Some, None, Result, Ok, Err, length, slice_index_or}
-use Rattle.std.specs.Prelude.{is_ok}
+use Rattle.std.proofs.Common.{arith, ℕ, ◌≡◌, ◌<◌, ◌≤◌, IsTrue, refl, sym, ap, ◌∙◌, subst, false, List, [], Option, Some, None, Result, Ok, Err, length, slice_index_or}
+use Rattle.std.specs.Prelude.{IfSome, is_ok}
 use Rattle.std.proofs.lemmas.Bool.{true≢false}
 use Rattle.std.proofs.lemmas.List.{get_or-map, length-map}
 use Rattle.page_device.specs.Sealed.{payload_of}
@@ -32,6 +32,11 @@ changes_told from (Some next) k told s holds = record {
       let within = told.within in
       as_saved s k page holds (omega (arith, before, within)) (told.others page behind before);
 }
+
+pub next_there : (from : ℕ) (told : Option ℕ) (k : SessionState) → TellsChanged from told k.pool →
+    IfSome told (λ page. (from ≤ page) × (page < pages_of k))
+next_there from None k told = tt
+next_there from (Some next) k told = (told.behind, told.within)
 
 -- ---- they are saved
 

@@ -1,3 +1,4 @@
 pub mod Words
 pub mod Making
 pub mod Session
+pub mod Writing

@@ -235,6 +235,7 @@ pub record GivesPage (page : ℕ) (given : Option (List ℕ)) (old new : Session
   pub caller : caller_of new ≡ caller_of old
   pub many : pages_of new ≡ pages_of old
   pub saved : saved_of new ≡ saved_of old
+  pub later : old.pool.faults ≤ new.pool.faults
 
 -- these are all of them
 pub record AreItsPages (content : List (List ℕ)) (k : SessionState) : Type 0 where

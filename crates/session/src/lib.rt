@@ -7,6 +7,7 @@ mod loading;
 mod memory;
 mod session;
 mod unanswered;
+mod writing;
 
 pub use bucket_page::directory::LEAST_PAGES;
 pub use interleaving_core::{CloseFault, Failure, OpenFault};
@@ -15,3 +16,4 @@ pub use page_device::{MAX_PAGES, PAGE_BYTES, Page};
 pub use queue_model;
 pub use session::{FileKeys, Session};
 pub use unanswered::Unanswered;
+pub use writing::Unwritten;

@@ -1,6 +1,6 @@
 //! A session, and what is asked of it.
 
-ghost use Rattle.std.specs.Prelude.{◌≡◌, ◌≢◌, ◌<◌, IfErr, IfOk, IsTrue, length};
+ghost use Rattle.std.specs.Prelude.{◌≡◌, ◌≢◌, ◌<◌, ◌≤◌, IfErr, IfOk, IfSome, IsTrue, length};
 ghost use Rattle.bucket_page.specs.Pseudokeys.{sha_key};
 ghost use Rattle.page_device.specs.Device.{HasRisen};
 ghost use Rattle.interleaving_core.specs.Beginning.{MayRefuseUnchecked};
@@ -146,7 +146,8 @@ impl<D: PageDevice + Drop> Session<D> {
     /// The next page from this one on that may have changed since the pages were saved; none where
     /// there is none. Each page that is passed by is as it was saved.
     pub fn next_changed(&self, from: u32) -> Option<u32>
-        ensures { TellsChanges from result self.now }
+        ensures told { TellsChanges from result self.now }
+        ensures there { IfSome result (λ page. (from ≤ page) × (page < pages_of self.now)) }
     {
         self.kernel.next_changed(from)
     }

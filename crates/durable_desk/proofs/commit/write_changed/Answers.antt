@@ -2,7 +2,8 @@ use Rattle.std.proofs.Common.{◌≤◌, ◌∙◌, arith, sym, refl}
 use Rattle.std.specs.Prelude.{nat_lt}
 use Rattle.page_device.specs.declared.fault.DeviceFault.TheVariants as devices
 use Rattle.session.specs.Session.{pages_of}
-use Rattle.durable_desk.proofs.CommitLemmas.{begun, none_behind, none_left, not_written, one_written, told_as, unseen_still, zero_of}
+use Rattle.session.proofs.WriteLemmas.{told_as, zero_of}
+use Rattle.durable_desk.proofs.CommitLemmas.{begun, none_behind, none_left, not_written, one_written, unseen_still}
 use Rattle.durable_desk.proofs.commit.write_changed.Goals as goal
 
 pub loop-from-init : goal.loop-from-init

@@ -1,8 +1,12 @@
--- The pages of a desk that have changed are written, one after another.
-use Rattle.std.proofs.Common.{arith, ℕ, ◌≡◌, ◌≢◌, ◌≤◌, ◌<◌, ◌+◌, ⊎_elim, sym, ap, ◌∙◌, subst, List, [], ◌++◌, length, slice_index_or, take, drop}
-use Rattle.std.specs.Prelude.{slice_set}
+-- A page as it is to be written, and pages that are written one after another.
+use Rattle.std.proofs.Common.{arith, ℕ, ◌≡◌, ◌≢◌, ◌≤◌, ◌<◌, ◌+◌, ⊎_elim, refl, sym, ap, ◌∙◌, subst, false, List, [], ◌++◌, Result, Err, length, slice_index_or, take, drop}
+use Rattle.std.specs.Prelude.{IsErrOf, nat_lt, slice_set}
 use Rattle.std.proofs.lemmas.Bool.{cases_eq, cases_lt}
+use Rattle.std.proofs.lemmas.Bool.Decides.{nat_tests}
 use Rattle.std.proofs.lemmas.List.{ext_get_or, get_or-set_other, get_or-set_same, take-append-drop}
+use Rattle.page_device.specs.Device.{HasRisen, MayMeetTheEnd}
+use Rattle.page_device.specs.declared.fault.DeviceFault.{DeviceFault}
+use Rattle.page_device.specs.declared.fault.DeviceFault.TheVariants as devices
 use Rattle.page_device.specs.declared.page.TheConstants.{PAYLOAD_BYTES}
 use Rattle.page_device.specs.Sealed.{page_digest, payload_of}
 use Rattle.buffer_pool.specs.Pool.{PoolState}
@@ -20,12 +24,12 @@ both_parts n a b first rest =
     ∙ ap (λ (xs : List ℕ). take n b ++ xs) rest ∙ take-append-drop n b
 
 -- there is one
-same_page : (page : ℕ) (a b : List ℕ) (pool : PoolState) → IsPage page a pool → IsPage page b pool → a ≡ b
+pub same_page : (page : ℕ) (a b : List ℕ) (pool : PoolState) → IsPage page a pool → IsPage page b pool → a ≡ b
 same_page page a b pool is too =
     let same : payload_of a ≡ payload_of b = is.payload ∙ sym too.payload in
     both_parts PAYLOAD_BYTES a b same (is.sealed ∙ ap (page_digest page) same ∙ sym too.sealed)
 
-page_stays : (page : ℕ) (bytes : List ℕ) (old new : PoolState) → new.images ≡ old.images → IsPage page bytes old →
+pub page_stays : (page : ℕ) (bytes : List ℕ) (old new : PoolState) → new.images ≡ old.images → IsPage page bytes old →
     IsPage page bytes new
 page_stays page bytes old new same is = record {
   payload = is.payload ∙ ap (λ (images : Pages). slice_index_or images page []) (sym same);
@@ -104,3 +108,23 @@ still_its content old new same many its = record {
   many = its.many ∙ sym many;
   each = λ page within. page_stays page (slice_index_or content page []) old.pool new.pool same (its.each page within);
 }
+
+-- ---- a write fails
+
+-- the fault that a call tells
+pub told_as : (fault other : DeviceFault) → fault ≡ other → IsErrOf {T = Unit {0}} (Err fault) other
+told_as fault other same = let told : DeviceFault → Result (Unit {0}) DeviceFault = λ f. Err f in ap told same
+
+-- that of a page that is there fails only as a transfer does
+pub write_failed : (fault : DeviceFault) (page many a b : ℕ) → page < many → MayMeetTheEnd fault →
+    (fault ≡ devices.PastEnd → many ≤ page) → (fault ≡ devices.Device → HasRisen a b) → HasRisen a b
+write_failed devices.Device page many a b within may past failed = failed refl
+write_failed devices.BadDigest page many a b within may past failed = absurd may
+write_failed devices.PastEnd page many a b within may past failed =
+    let le = past refl in absurd (omega (arith, le))
+write_failed devices.DeviceFull page many a b within may past failed = absurd may
+write_failed devices.NoMemory page many a b within may past failed = absurd may
+
+-- no page was written
+pub zero_of : (n : ℕ) → nat_lt 0 n ≡ false → n ≡ 0
+zero_of n none = grind (arith, nat_tests)
