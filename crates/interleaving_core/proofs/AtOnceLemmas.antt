@@ -1,11 +1,11 @@
 -- A step of a seat's call by which it is not over is one of a kernel; and what two of them leave of the call's entry.
-use Rattle.std.proofs.Common.{◌≡◌, ◌≢◌, refl, sym, ap, ◌∙◌, subst, ℕ, ◌-◌, ◌≤◌, Bool, true, false, true≢false, IsSome, inl, List, ◌∷◌, ◌++◌, Option, Some, None, length}
+use Rattle.std.proofs.Common.{◌≡◌, ◌≢◌, refl, sym, ap, ◌∙◌, subst, ℕ, ◌≤◌, true, false, true≢false, IsSome, inl, ◌∷◌, ◌++◌, Option, Some, None, length}
 use Rattle.std.specs.Option.{is_some}
 use Rattle.file_pages.specs.declared.fault.FileFault.{FileFault}
 use Rattle.queue_model.specs.declared.entry.Entry.TheVariants.{Decided}
 use Rattle.xsi_calls.specs.CallSteps.{KeepsCall, MakesCall}
 use Rattle.xsi_calls.specs.declared.conclusion.Conclusion.{Conclusion}
-use Rattle.interleaving_core.specs.Words.{Answer, CallView, Entry, IsSeat, Progress, RecordKey, answer_of_call, conclusion_of}
+use Rattle.interleaving_core.specs.Words.{Answer, CallView, IsSeat, Progress, RecordKey, answer_of_call, conclusion_of}
 use Rattle.interleaving_core.specs.Active.{ActiveView, IsDrafted, IsMarked, draft_by, entries_by}
 use Rattle.interleaving_core.specs.Driving.{IsStep}
 use Rattle.interleaving_core.specs.Kernel.{IsWhole, KernelState, call_at, with_call}

@@ -21,7 +21,7 @@ use Rattle.interleaving_core.proofs.AtOnceLemmas.{none_is}
 use Rattle.interleaving_core.proofs.ErrandLemmas.{counts_of, counts_with, counts_without, few_moves, many_moves, none_made, searches_in}
 use Rattle.interleaving_core.proofs.KernelLemmas.{is_counted}
 use Rattle.interleaving_core.proofs.LentLemmas.{is_its, slot_is}
-use Rattle.interleaving_core.proofs.OneGoLemmas.{HasLed, Stands, come_on, led_by, stands_behind}
+use Rattle.interleaving_core.proofs.OneGoLemmas.{HasLed, come_on, led_by, stands_behind}
 use Rattle.interleaving_core.proofs.PlaceLemmas.{Seats, with_own, with_place}
 use Rattle.interleaving_core.proofs.SearchLemmas.{search_noted, search_sound}
 
@@ -41,18 +41,34 @@ unmade seat slot old now view whole seated at_slot left same =
     ∙ with_own old.seats seat)
     ∙ view
 
-module _ {K : Type 0} (of : K → RecordKey → ℕ) (seat : ℕ) (slot : Option ActiveView) (old now : KernelState K)
-    (view : old ≡ now) (whole : IsWhole old) (seated : IsSeat now.locks seat)
-    (at_slot : slot ≡ slice_index_or old.seats (seat - 1) slot) (sound : old.failed ≡ false) (a : ActiveView)
-    (at_a : slot ≡ Some a) (awake : is_some a.wait ≡ false) (kept : IsDrafted a.machine a.draft)
-    (calm : AreSoundCounts old.searches) (moves : ℕ) (fault : Option FileFault) (m : CallView) (pool : PoolState)
-    (locks : Table) (gone : GoesAtOnce (MakesCall (of old.keys) seat old.stopped) is_searching seat moves 2 fault
-    (at a.machine old.pool old.locks) (at m pool locks)) where
+-- a call that a kernel has lent, of which its seat was not told that it waits, has gone so far in one go
+pub record HasGone {K : Type 0} (of : K → RecordKey → ℕ) (seat : ℕ) (slot : Option ActiveView) (old now : KernelState K)
+    (a : ActiveView) (moves : ℕ) (fault : Option FileFault) (m : CallView) (pool : PoolState) (locks : Table)
+    : Type 0 where
+  pub view : old ≡ now
+  pub whole : IsWhole old
+  pub seated : IsSeat now.locks seat
+  pub at_slot : slot ≡ slice_index_or old.seats (seat - 1) slot
+  pub sound : old.failed ≡ false
+  pub at_a : slot ≡ Some a
+  pub awake : is_some a.wait ≡ false
+  pub kept : IsDrafted a.machine a.draft
+  pub calm : AreSoundCounts old.searches
+  pub gone : GoesAtOnce (MakesCall (of old.keys) seat old.stopped) is_searching seat moves 2 fault
+      (at a.machine old.pool old.locks) (at m pool locks)
+
+module _ {K : Type 0} {of : K → RecordKey → ℕ} {seat : ℕ} {slot : Option ActiveView} {old now : KernelState K}
+    {a : ActiveView} {moves : ℕ} {fault : Option FileFault} {m : CallView} {pool : PoolState} {locks : Table}
+    (had : HasGone of seat slot old now a moves fault m pool locks) where
   is : IsSeat old.locks seat
-  is = is_its seat slot old now view whole seated at_slot
+  is = is_its seat slot old now had.view had.whole had.seated had.at_slot
 
   there : call_at old.seats seat ≡ Some a
-  there = sym (slot_is seat slot old now view whole seated at_slot) ∙ at_a
+  there = sym (slot_is seat slot old now had.view had.whole had.seated had.at_slot) ∙ had.at_a
+
+  -- it does not wait
+  goes_on : a.wait ≡ None
+  goes_on = none_is a.wait had.awake
 
   -- ---- where nothing was made
 
@@ -70,8 +86,8 @@ module _ {K : Type 0} (of : K → RecordKey → ℕ) (seat : ℕ) (slot : Option
 
   pub stays : HasGoneNowhere moves fault → at m pool locks ≡ at a.machine old.pool old.locks
   stays none =
-      ends_there fault none.1 gone.before gone.ends
-      ∙ stays_by gone.runs.errands gone.runs.many none.0 gone.before gone.runs.runs
+      ends_there fault none.1 had.gone.before had.gone.ends
+      ∙ stays_by had.gone.runs.errands had.gone.runs.many none.0 had.gone.before had.gone.runs.runs
 
   -- the kernel is left as it was
   abbrev unmade_left : KernelState K
@@ -93,7 +109,7 @@ module _ {K : Type 0} (of : K → RecordKey → ℕ) (seat : ℕ) (slot : Option
       ∙ ap (with_call old.seats seat) (sym there) ∙ with_own old.seats seat)
 
   pub whole_still : HasGoneNowhere moves fault → IsWhole unmade_left
-  whole_still none = subst IsWhole (sym (nowhere_is none)) whole
+  whole_still none = subst IsWhole (sym (nowhere_is none)) had.whole
 
   pub kept_still : HasGoneNowhere moves fault → IsKept a.machine a.draft a.wait → IsKept m a.draft a.wait
   kept_still none is_kept =
@@ -103,7 +119,7 @@ module _ {K : Type 0} (of : K → RecordKey → ℕ) (seat : ℕ) (slot : Option
   goes_still none =
       subst (λ (n : ℕ). GoesThrough (of now.keys) seat n fault now unmade_left) (sym none.0)
       (subst (λ (f : Option FileFault). GoesThrough (of now.keys) seat 0 f now unmade_left) (sym none.1)
-      (goes_nowhere (of now.keys) seat now unmade_left (nowhere_is none ∙ view)))
+      (goes_nowhere (of now.keys) seat now unmade_left (nowhere_is none ∙ had.view)))
 
   -- ---- where something was
 
@@ -147,11 +163,11 @@ module _ {K : Type 0} (of : K → RecordKey → ℕ) (seat : ℕ) (slot : Option
         (HasGoneNowhere moves f → ⊥) → HasGoneTo (counts_of old.searches ended errands) room f
     went None [] many s runs ends some = absurd (some (many, refl))
     went None (errand ∷ before) many s runs ends some =
-        let led = subst (λ (x : At CallView). HasLed of seat old whole is sound a there (none_is a.wait awake) kept calm
-        ended still notes room more (all_moves (errand ∷ before))
+        let led = subst (λ (x : At CallView). HasLed of seat old had.whole is had.sound a there goes_on had.kept
+        had.calm ended still notes room more (all_moves (errand ∷ before))
         (counts_of old.searches ended (errand ∷ before)) x) (sym ends)
-        (led_by of seat old whole is sound a there (none_is a.wait awake) kept calm ended still notes room more errand
-        before s runs) in
+        (led_by of seat old had.whole is had.sound a there goes_on had.kept had.calm ended still notes room more
+        errand before s runs) in
         record {
           is_whole = led.is_whole;
           goes = record {
@@ -164,12 +180,12 @@ module _ {K : Type 0} (of : K → RecordKey → ℕ) (seat : ℕ) (slot : Option
           most = led.come.most;
         }
     went (Some f) errands many s runs ends some =
-        let stands = stands_behind of seat old whole is sound a there (none_is a.wait awake) kept calm ended still notes
-        room more errands s runs in
+        let stands = stands_behind of seat old had.whole is had.sound a there goes_on had.kept had.calm ended still
+        notes room more errands s runs in
         let led = stands.leads (progress.Fault f) (fault_told f) refl (counts_of old.searches ended errands)
         (Some (record { seat = seat; fault = f })) (at m pool locks) refl ends (sym stands.counts) in
-        let come = come_on of seat old whole is sound a there (none_is a.wait awake) kept calm ended still notes room
-        more (progress.Fault f) s (at m pool locks) ends stands.come in
+        let come = come_on of seat old had.whole is had.sound a there goes_on had.kept had.calm ended still notes
+        room more (progress.Fault f) s (at m pool locks) ends stands.come in
         record {
           is_whole = led.is_whole;
           goes = record {
@@ -181,8 +197,10 @@ module _ {K : Type 0} (of : K → RecordKey → ℕ) (seat : ℕ) (slot : Option
           most = come.most;
         }
 
-    gone_to : (HasGoneNowhere moves fault → ⊥) → HasGoneTo (counts_of old.searches ended gone.runs.errands) room fault
-    gone_to some = went fault gone.runs.errands gone.runs.many gone.before gone.runs.runs gone.ends some
+    gone_to : (HasGoneNowhere moves fault → ⊥) →
+        HasGoneTo (counts_of old.searches ended had.gone.runs.errands) room fault
+    gone_to some =
+        went fault had.gone.runs.errands had.gone.runs.many had.gone.before had.gone.runs.runs had.gone.ends some
 
   -- what one search would leave
   abbrev own : SearchCount
@@ -195,18 +213,18 @@ module _ {K : Type 0} (of : K → RecordKey → ℕ) (seat : ℕ) (slot : Option
   }
 
   searched : NotesSearch seat old.searches answered
-  searched = search_noted seat old.searches calm (is_counted old whole seat is) own refl
+  searched = search_noted seat old.searches had.calm (is_counted old had.whole seat is) own refl
 
   searched_sound : AreSoundCounts answered
-  searched_sound = search_sound seat old.searches calm (is_counted old whole seat is) own refl
+  searched_sound = search_sound seat old.searches had.calm (is_counted old had.whole seat is) own refl
 
   unsearched : (some : HasGoneNowhere moves fault → ⊥) (room : ℕ) (more : old.room ≤ room) →
-      HasGoneTo (counts_of old.searches answered gone.runs.errands) room fault
+      HasGoneTo (counts_of old.searches answered had.gone.runs.errands) room fault
   unsearched some room more = gone_to answered searched_sound searched room more some
 
   -- the room that is kept for the bytes of its answer fits
   pub fits : (HasGoneNowhere moves fault → ⊥) → IfSome a.draft (λ (d : Draft). HasRoomAs d.room m)
-  fits some = by a.draft kept
+  fits some = by a.draft had.kept
     where
       by : (d : Option Draft) → IsDrafted a.machine d → IfSome d (λ (d : Draft). HasRoomAs d.room m)
       by None had = tt
@@ -224,28 +242,29 @@ module _ {K : Type 0} (of : K → RecordKey → ℕ) (seat : ℕ) (slot : Option
       where
         none_waits : IsSome a.wait → ⊥
         none_waits some_wait =
-            let none = subst IsSome (none_is a.wait awake) some_wait in
+            let none = subst IsSome goes_on some_wait in
             absurd cc
 
     module _ (n : CountsState) (counts : NotesGo seat moves old.searches n) (still : AreSoundCounts n) (room : ℕ)
         (more : old.room ≤ room) where
       counted : HasGoneTo n room fault
-      counted = by (searches_in gone.runs.errands) refl
+      counted = by (searches_in had.gone.runs.errands) refl
         where
-          by : (b : Bool) → searches_in gone.runs.errands ≡ b → HasGoneTo n room fault
+          by : (b : Bool) → searches_in had.gone.runs.errands ≡ b → HasGoneTo n room fault
           by true is_in =
-              let least = many_moves gone.runs.errands is_in in
-              let many = gone.runs.many in
+              let least = many_moves had.gone.runs.errands is_in in
+              let many = had.gone.runs.many in
               let long : QUESTION_STEPS ≤ moves = omega (arith, least, many) in
               subst (λ (x : CountsState). HasGoneTo x room fault)
-              (counts_with old.searches n gone.runs.errands is_in) (gone_to n still (counts.searched long) room more some)
+              (counts_with old.searches n had.gone.runs.errands is_in)
+              (gone_to n still (counts.searched long) room more some)
           by false is_in =
-              let same = few_moves gone.runs.errands is_in in
-              let many = gone.runs.many in
-              let few = gone.runs.few in
+              let same = few_moves had.gone.runs.errands is_in in
+              let many = had.gone.runs.many in
+              let few = had.gone.runs.few in
               let short : moves < QUESTION_STEPS = omega (arith, same, many, few) in
               subst (λ (x : CountsState). HasGoneTo x room fault)
-              (counts_without old.searches answered gone.runs.errands is_in ∙ sym (counts.none short))
+              (counts_without old.searches answered had.gone.runs.errands is_in ∙ sym (counts.none short))
               (unsearched some room more)
 
       -- ---- the kernel as it is left
@@ -271,7 +290,7 @@ module _ {K : Type 0} (of : K → RecordKey → ℕ) (seat : ℕ) (slot : Option
             ap (λ (d : Option Draft). record a { machine = m; draft = d; decided = decided }) draft_is
             ∙ ap (λ (k : ℕ). record come { decided = k; wait = a.wait })
             (marked ∙ ap (λ (k : ℕ). decided_by (conclusion_of a.machine) k a.decided) as_many)
-            ∙ ap (λ (w : Option ℕ). record come { wait = w }) (none_is a.wait awake)
+            ∙ ap (λ (w : Option ℕ). record come { wait = w }) goes_on
 
         left_is : left ≡ left_at n room fault
         left_is =
@@ -286,5 +305,5 @@ module _ {K : Type 0} (of : K → RecordKey → ℕ) (seat : ℕ) (slot : Option
 
         pub goes_then : GoesThrough (of now.keys) seat moves fault now left
         goes_then =
-            subst (λ (k : KernelState K). GoesThrough (of k.keys) seat moves fault k left) view
+            subst (λ (k : KernelState K). GoesThrough (of k.keys) seat moves fault k left) had.view
             (subst (λ (k : KernelState K). GoesThrough (of old.keys) seat moves fault old k) (sym left_is) counted.goes)

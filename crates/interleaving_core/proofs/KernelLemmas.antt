@@ -167,7 +167,7 @@ module _ {K : Type 0} (seat : ℕ) (did : Step) (left : Option ActiveView) (old 
     pub same_here : call_at new.seats seat ≡ left
     same_here = ap (λ (x : Seats). call_at x seat) seats ∙ at_same old.seats seat left is.0 within
 
-    pub row : new.locks ≡ with_row old.locks seat (locks_of left)
+    row : new.locks ≡ with_row old.locks seat (locks_of left)
     row = does.row (its_row old whole seat)
 
     entries : lapsed did + entries_of new ≡ entries_of old

@@ -1,5 +1,5 @@
 -- What a seat's call makes in one go are steps of a kernel, one behind the other.
-use Rattle.std.proofs.Common.{◌≡◌, refl, sym, ap, ◌∙◌, subst, ℕ, suc, ◌+◌, ◌≤◌, Bool, true, false, not, List, [], ◌∷◌, ◌++◌, Option, Some, None, length, append-nil, append_assoc, arith}
+use Rattle.std.proofs.Common.{◌≡◌, refl, sym, ap, ◌∙◌, subst, ℕ, suc, ◌+◌, ◌≤◌, Bool, false, not, List, [], ◌∷◌, ◌++◌, Option, Some, None, length, append-nil, append_assoc, arith}
 use Rattle.std.specs.Option.{is_some}
 use Rattle.file_pages.specs.declared.fault.FileFault.{FileFault}
 use Rattle.step_rules.specs.Runs.{MovesAlong, Stop, stop}
@@ -12,7 +12,7 @@ use Rattle.xsi_calls.specs.OneGo.{Asks, Decides, Errand, GivesBack, MakesErrand,
 use Rattle.xsi_calls.specs.Words.{AskStep, AsksAtOnce, At, SearchesOnce, Way, WritesAtOnce, at}
 use Rattle.xsi_calls.specs.declared.conclusion.Conclusion.{Conclusion}
 use Rattle.interleaving_core.specs.Words.{Answer, CallView, Entry, IsSeat, PoolState, Progress, RecordKey, Table, answer_of_call, conclusion_of}
-use Rattle.interleaving_core.specs.Active.{ActiveView, IsDrafted, IsMarked, decided_by, draft_by, entries_by}
+use Rattle.interleaving_core.specs.Active.{ActiveView, IsDrafted, decided_by, draft_by, entries_by}
 use Rattle.interleaving_core.specs.Counting.{AreSoundCounts, CountsState, IsCountedSeat, Notes, NotesSearch, changes_counts}
 use Rattle.interleaving_core.specs.Driving.{Moves}
 use Rattle.interleaving_core.specs.Kernel.{IsWhole, KernelState, call_at, with_call}

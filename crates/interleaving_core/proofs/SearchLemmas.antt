@@ -76,7 +76,8 @@ search_again seat s ended still is notes = record {
     own = notes.begins.own;
     others = λ other apart.
         other_stays seat kinds.Look notes.begun notes.sound is_begun refl other
-        ∙ ap (λ (u : UnderWay). count_behind kinds.Look u (count_at notes.begun.counts other)) (sym notes.ends.under_way)
+        ∙ ap (λ (u : UnderWay). count_behind kinds.Look u (count_at notes.begun.counts other))
+        (sym notes.ends.under_way)
         ∙ sym (notes.ends.others other apart)
         ∙ other_stays seat kinds.Grant ended still is_ended refl other
         ∙ ap (λ (u : UnderWay). count_behind kinds.Grant u (count_at ended.counts other)) notes.ends.under_way;

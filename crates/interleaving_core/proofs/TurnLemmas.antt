@@ -65,7 +65,7 @@ stays_at did m m' keeps (Some c) is some =
     ∙ ap (λ (r : Roomful). answer_by (conclusion_of m) r.bytes) room
 
 -- an answer comes at a Decide
-pub comes_at : (did : Progress FileFault) (m m' : CallView) → KeepsCall did m m' → (c c' : Option Conclusion) →
+comes_at : (did : Progress FileFault) (m m' : CallView) → KeepsCall did m m' → (c c' : Option Conclusion) →
     conclusion_of m ≡ c → conclusion_of m' ≡ c' → answer_of_call m ≡ None → did ≢ progress.Moved Decide →
     answer_of_call m' ≡ None
 comes_at did m m' keeps None None is is' none other =
@@ -104,7 +104,7 @@ owed_by seat did m m' keeps (Some d) kept =
     kept.unanswered
     ∙ joins seat m'.call d (kept.call ∙ sym keeps.call) (answer_of_call m')
 
-pub added_by : (seat : ℕ) (did : Progress FileFault) (m m' : CallView) → KeepsCall did m m' → (draft : Option Draft) →
+added_by : (seat : ℕ) (did : Progress FileFault) (m m' : CallView) → KeepsCall did m m' → (draft : Option Draft) →
     IsDrafted m draft → did ≢ progress.Moved Decide → entries_by seat (answer_of_call m') draft ≡ []
 added_by seat did m m' keeps None kept other = none_kept seat (answer_of_call m')
 added_by seat did m m' keeps (Some d) kept other =

@@ -25,8 +25,8 @@ const NOWHERE: Gone = Gone {
 
 impl<D: PageDevice + Drop, K: PseudoKey + Drop> Kernel<D, K> {
     /// Steps a seat until its call does not move: it is answered, waits, is blocked, meets a fault,
-    /// or there is none. A call that still moves after `MOST_STEPS` fails the kernel. Steps in whose
-    /// way nothing stands are made in one go.
+    /// or there is none. A call that still moves after `MOST_STEPS` fails the kernel. Steps in
+    /// whose way nothing stands are made in one go.
     pub fn drive(&mut self, seat: u8) -> Step
         requires { IsSeat self.old.locks seat }
         ensures run { IsRun seat (answer_told result) self.old self.new }
@@ -59,7 +59,7 @@ impl<D: PageDevice + Drop, K: PseudoKey + Drop> Kernel<D, K> {
         Step::Fault(StepFault::File(FileFault::Failed))
     }
 
-    /// What can be made in one go of the seat's call (`go_through`), where something of it may be due.
+    /// What can be made of the seat's call in one go (`go_through`), where something may be due.
     fn go_ahead(&mut self, seat: u8, is_due: bool, most: u32) -> Gone
         requires { IsSeat self.old.locks seat }
         ensures goes { GoesThrough (K.of_key self.old.keys) seat result.moves result.fault
@@ -72,9 +72,9 @@ impl<D: PageDevice + Drop, K: PseudoKey + Drop> Kernel<D, K> {
         self.go_through(seat, most)
     }
 
-    /// So many steps of the seat's call at most in one go, where it was not told that it waits, as far
-    /// as they can be made so (`CallMachine::go_through`). What is left is left to `step`. By a fault
-    /// the kernel has failed, as by that of a step.
+    /// So many steps of the seat's call at most in one go, where it was not told that it waits, as
+    /// far as they can be made so (`CallMachine::go_through`). What is left is left to `step`. By a
+    /// fault the kernel has failed, as by that of a step.
     fn go_through(&mut self, seat: u8, most: u32) -> Gone
         requires { IsSeat self.old.locks seat }
         ensures goes { GoesThrough (K.of_key self.old.keys) seat result.moves result.fault
@@ -112,10 +112,11 @@ impl<D: PageDevice + Drop, K: PseudoKey + Drop> Kernel<D, K> {
     }
 }
 
-/// Whether something of a call may be due that can be made in one go after a step of this kind, where
-/// it was thought so before it. Only time hangs on it: `step` makes whatever is not made so. Names
-/// come by Grants, and what a call pays begins after its Decide. A question and a write end by a
-/// Release; but one that follows a vain try gives a name back, and nothing is due after it.
+/// Whether something of a call may be due that can be made in one go after a step of this kind,
+/// where that was thought so before the step or not. Only time hangs on it: `step` makes whatever
+/// is not made so. Names come by Grants, and what a call pays begins after its Decide. A question
+/// and a write end by a Release; but one that follows a try gives a name back, and nothing is due
+/// after it.
 fn may_be_due(kind: Kind, is_due: bool) -> bool {
     match kind {
         Kind::Grant | Kind::Decide => true,
@@ -131,8 +132,8 @@ fn has_gone_nowhere(gone: &Gone) -> bool
     gone.moves == 0 && gone.fault.is_none()
 }
 
-/// So many moves of a seat in one go are counted. A search that began by one of them was answered by
-/// one, and with none of them others searched.
+/// So many moves of a seat in one go are counted. A search that began by one of them was answered
+/// by one, with no step of another seat between.
 fn note_go(searches: &mut SearchCounts, seat: u8, moves: u32)
     requires { IsCountedSeat searches.old.counts seat }
     ensures notes { NotesGo seat moves searches.old searches.new }
