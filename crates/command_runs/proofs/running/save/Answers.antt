@@ -1,4 +1,4 @@
-use Rattle.std.proofs.Common.{◌∙◌, IsTrue, ap, length, subst, sym}
+use Rattle.std.proofs.Common.{subst, sym}
 use Rattle.command_runs.specs.Asking.{Pages}
 use Rattle.command_runs.specs.Running.{HasFileOf}
 use Rattle.command_runs.proofs.RunLemmas.{has_file, not_synced, not_written}
