@@ -35,6 +35,7 @@ module _ (content : Pages) (c : Caller) (call : Call) (s : State) (old new : Ask
             answered = suc stands.answered;
             has = record { old = old.session; stood = stands.has; call = call; answer = answer; calls = calls };
             pages = calls.calls.keeps.many ∙ stands.pages;
+            saved = calls.calls.keeps.saved ∙ stands.saved;
           },
         )
 

@@ -1,9 +1,10 @@
 -- A command asked of a file in memory, and its end on the device.
-use Rattle.std.proofs.Common.{◌≡◌, ◌∙◌, ℕ, ◌≤◌, inl, inr, Bool, List, length, Option, Some, None, unwrap_or, Result, Ok, Err, IfOk, refl, sym, ap, subst}
+use Rattle.std.proofs.Common.{◌≡◌, ℕ, ◌≤◌, inl, inr, List, length, Option, None, unwrap_or, Result, Ok, Err, IfOk, refl, sym, ap, subst}
 use Rattle.page_device.proofs.CopyLemmas.{risen-since}
-use Rattle.bucket_page.specs.Pseudokeys.{sha_key}
-use Rattle.interleavings.specs.LoneKernelWords.{Caller, IsFileOf, State, restarted}
-use Rattle.interleavings.specs.interleaving_core.declared.fault.CloseFault.{CloseFault}
+use Rattle.page_device.specs.Device.{HasCause, HasRisen, MayOnlyFail}
+use Rattle.page_device.specs.declared.fault.DeviceFault.{DeviceFault}
+use Rattle.page_device.specs.declared.fault.DeviceFault.TheVariants as devices
+use Rattle.interleavings.specs.LoneKernelWords.{Caller, State}
 use Rattle.interleavings.specs.interleaving_core.declared.fault.CloseFault.TheVariants as closes
 use Rattle.queue_commands.specs.Asking.{Asking}
 use Rattle.queue_commands.specs.Coming.{Comes}
@@ -11,13 +12,16 @@ use Rattle.queue_commands.specs.Commands.{AsksAs}
 use Rattle.queue_commands.specs.declared.error.AskError.{AskError}
 use Rattle.queue_commands.specs.declared.error.AskError.TheVariants as asking
 use Rattle.queue_commands.specs.declared.request.Request.{Request}
-use Rattle.session.specs.Session.{ClosesOn, IsClosed, Opens, SessionState}
+use Rattle.session.specs.Session.{Holds, Opens, PagesAreTheFile, SessionState, pages_of, saved_of}
+use Rattle.session.specs.Writing.{FailsToWrite, HasWritten}
+use Rattle.session.specs.declared.writing.Unwritten.{Unwritten}
+use Rattle.session.specs.declared.writing.Unwritten.TheVariants as unwritten
 use Rattle.session.specs.declared.unanswered.Unanswered.{Unanswered}
 use Rattle.session.specs.declared.unanswered.Unanswered.TheVariants.{Failed}
 use Rattle.command_runs.specs.Asking.{Lacks, Pages, Stands}
 use Rattle.command_runs.specs.Faults.{of_asking}
 use Rattle.command_runs.specs.Memory.{AsksFile, AsksFrom, ComesTo, IsAsked, MayNotDo}
-use Rattle.command_runs.specs.Running.{EndsAs, EndsWith, IfUnprinted, RunsOn, seen}
+use Rattle.command_runs.specs.Running.{EndsAs, EndsWith, HasFileOf, IfUnprinted, RunsOn, seen}
 use Rattle.command_runs.specs.declared.asker.Asker.{Asker}
 use Rattle.command_runs.specs.declared.error.CommandError.{CommandError}
 use Rattle.command_runs.specs.declared.error.CommandError.TheVariants as errors
@@ -35,13 +39,8 @@ stands_opened c content k opens = record {
   answered = 0;
   has = opens;
   pages = opens.many;
+  saved = opens.saved;
 }
-
--- one in memory that holds a system is closed well
-never_unclosed : (s : State) (k : SessionState) (fault : CloseFault) (file : Pages) →
-    ClosesOn s k (Some fault) file 0 → ⊥
-never_unclosed s k closes.Device file ends = risen k.pool.faults 0 ends refl
-never_unclosed s k closes.Failed file ends = ends
 
 module _ (c : Caller) (r : Request) (content : Pages) (k : SessionState) (opens : Opens c content k) (x : Asker) where
   abbrev Is : Asking (List ℕ)
@@ -53,24 +52,16 @@ module _ (c : Caller) (r : Request) (content : Pages) (k : SessionState) (opens 
   from : (came : Result Asked CommandError) → ComesTo c Is content came → AsksFrom c r content came
   from came comes = record { system = opens.system; file = opens.file; comes = comes }
 
-  -- there is a text, and a file
-  pub comes_to : (text : List ℕ) (file : Pages) (honest synced : Bool) → Came (Ok text) →
-      IsClosed x.session None file honest synced 0 → AsksFrom c r content (Ok (record { text = text; file = file }))
-  comes_to text file honest synced comes closed =
-      let ends = closed.ends comes.system comes.stands.holds in
-      from _ (record {
-        system = comes.system;
-        is = comes.is;
-        holds = ends.0;
-        pages = ends.1 ∙ comes.stands.pages;
-      })
-
-  -- it is always closed
-  pub comes_to_close : (text : List ℕ) (fault : CloseFault) (file : Pages) (honest synced : Bool) →
-      (error : CommandError) → Came (Ok text) → IsClosed x.session (Some fault) file honest synced 0 →
-      AsksFrom c r content (Err error)
-  comes_to_close text fault file honest synced error comes closed =
-      absurd (never_unclosed comes.system x.session fault file (closed.ends comes.system comes.stands.holds))
+  -- there is a text
+  pub comes_to : (text : List ℕ) → Came (Ok text) →
+      AsksFrom c r content (Ok (record { text = text; session = x.session }))
+  comes_to text comes = from _ (record {
+    system = comes.system;
+    is = comes.is;
+    holds = comes.stands.holds;
+    pages = comes.stands.pages;
+    saved = comes.stands.saved;
+  })
 
   -- there is no text
   comes_none : (error : AskError) → x.session.pool.faults ≡ 0 → Came (Err error) →
@@ -86,9 +77,9 @@ module _ (c : Caller) (r : Request) (content : Pages) (k : SessionState) (opens 
       AsksFrom c r content (Err (of_asking error x.fault))
   comes_to_none error none comes = from _ (comes_none error none comes)
 
--- the file that it leaves has as many pages
+-- its session has as many pages as the file
 pub asked_pages : (c : Caller) (r : Request) (content : Pages) (came : Result Asked CommandError) →
-    AsksFile c r content came → IfOk came (λ asked. length asked.file ≡ length content)
+    AsksFile c r content came → IfOk came (λ asked. pages_of asked.session ≡ length content)
 asked_pages c r content (Ok asked) (inl from) = from.comes.pages
 asked_pages c r content (Ok asked) (inr refused) = absurd (let told = refused.told in cc)
 asked_pages c r content (Err error) asks = tt
@@ -106,19 +97,34 @@ never_unprinted c r content (errors.Unclosed fault) P asks = tt
 
 -- ---- it ends on the device
 
+-- no transfer of a session in memory fails
+pub not_written : (fault : Unwritten) (s : State) (old new : SessionState) (was faults : ℕ) → Holds s old →
+    FailsToWrite fault old new was faults → new.pool.faults ≡ 0 → HasRisen was faults
+not_written unwritten.Device s old new was faults holds fails none = fails
+not_written unwritten.Session s old new was faults holds fails none =
+    absurd (risen old.pool.faults new.pool.faults (fails s holds).cause none)
+
+pub not_synced : (fault : DeviceFault) (was mid now : ℕ) → was ≤ mid →
+    HasCause {T = Unit {0}} MayOnlyFail mid now (Err fault) → HasRisen was now
+not_synced devices.Device was mid now before cause = risen-since was mid now before (cause.failed refl)
+not_synced devices.BadDigest was mid now before cause = absurd cause.told
+not_synced devices.PastEnd was mid now before cause = absurd cause.told
+not_synced devices.DeviceFull was mid now before cause = absurd cause.told
+not_synced devices.NoMemory was mid now before cause = absurd cause.told
+
+-- what is written is the file of the system
+pub has_file : PagesAreTheFile → (s : State) (old new : SessionState) (content left : Pages) →
+    HasWritten s left old new → length left ≡ length content → HasFileOf s content left
+has_file law s old new content left has many =
+    record { file = law s new left has.holds has.its; pages = many }
+
 module _ (c : Caller) (content left : Pages) (old new : Option (List ℕ)) (was mid now : ℕ) where
-  ended : was ≤ mid → (Is : Asking (List ℕ)) (asked : Asked) (came : Result Unit CommandError) → IsAsked Is content
-      asked →
-      EndsWith asked left (seen old new mid now) came → EndsAs c Is content left (seen old new was now) came
+  ended : was ≤ mid → (Is : Asking (List ℕ)) (asked : Asked) (came : Result Unit CommandError) →
+      (is : IsAsked Is content asked) → EndsWith asked.text is.system content left (seen old new mid now) came →
+      EndsAs c Is content left (seen old new was now) came
   ended before Is asked (Ok done) is ends = (
-    record {
-      text = asked.text;
-      system = is.system;
-      is = is.is;
-      printed = ends.0;
-      held = subst (λ (ps : Pages). IsFileOf sha_key ps (restarted is.system)) (sym ends.1) is.holds;
-    },
-    ap length ends.1 ∙ is.pages,
+    record { text = asked.text; system = is.system; is = is.is; printed = ends.0; held = ends.1.file },
+    ends.1.pages,
   )
   ended before Is asked (Err (errors.Unprinted error)) is ends = (asked.text, is.system, is.is)
   ended before Is asked (Err (errors.Unclosed closes.Device)) is ends = (
@@ -143,12 +149,15 @@ module _ (c : Caller) (content left : Pages) (old new : Option (List ℕ)) (was 
 
   -- it was asked
   pub ends_as : (r : Request) → was ≤ mid → (asked : Asked) (came : Result Unit CommandError) →
-      AsksFile c r content (Ok asked) → EndsWith asked left (seen old new mid now) came →
+      AsksFile c r content (Ok asked) →
+      (content ≡ saved_of asked.session → (s : State) → Holds s asked.session →
+      EndsWith asked.text s content left (seen old new mid now) came) →
       RunsOn c r content left (seen old new was now) came
   ends_as r before asked came (inl from) ends = inl (record {
     system = from.system;
     file = from.file;
-    ends = ended before (AsksAs c r from.system) asked came from.comes ends;
+    ends = ended before (AsksAs c r from.system) asked came from.comes
+        (ends (sym from.comes.saved) from.comes.system from.comes.holds);
   })
   ends_as r before asked came (inr refused) ends = absurd (let told = refused.told in cc)
 

@@ -1,7 +1,7 @@
 -- The calls of a command, one after the other, in a session on a file in memory. docs/SHELL.md, "What a command asks".
 use Rattle.std.specs.Prelude.{ℕ, zero, suc, ◌≡◌, List, Some, Ok, length, ⊤}
 use Rattle.interleavings.specs.LoneKernelWords.{Answer, Call, Caller, State}
-use Rattle.session.specs.Session.{Calls, Holds, Opens, SessionState, caller_of, pages_of}
+use Rattle.session.specs.Session.{Calls, Holds, Opens, SessionState, caller_of, pages_of, saved_of}
 use Rattle.session.specs.Session as sessions
 use Rattle.session.specs.declared.unanswered.Unanswered.{Unanswered}
 use Rattle.session.specs.declared.unanswered.Unanswered.TheVariants.{Waits, NoRoom, NoMemory, Failed}
@@ -32,8 +32,9 @@ pub record Stands (content : Pages) (c : Caller) (s : State) (x : Asker) : Type 
   pub sits : caller_of x.session ≡ Some c
   pub answered : ℕ
   pub has : HasAnswered c content answered x.session
-  -- it has as many pages as the file
+  -- it has as many pages as the file, and counts those of the file as saved
   pub pages : pages_of x.session ≡ length content
+  pub saved : saved_of x.session ≡ content
 
 -- ---- why a call is not answered
 

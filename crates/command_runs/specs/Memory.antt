@@ -1,9 +1,9 @@
 -- A command that is asked of a file in memory. docs/SHELL.md, "What a command asks".
 use Rattle.std.specs.Prelude.{◌≡◌, ◌⊎◌, ℕ, List, ⊤, Result, Ok, Err, length}
 use Rattle.bucket_page.specs.Pseudokeys.{sha_key}
-use Rattle.interleavings.specs.LoneKernelWords.{Caller, IsFileOf, State, restarted}
+use Rattle.interleavings.specs.LoneKernelWords.{Caller, IsFileOf, State}
 use Rattle.interleavings.specs.interleaving_core.declared.fault.OpenFault.{OpenFault}
-use Rattle.session.specs.Session.{MayNotOpen}
+use Rattle.session.specs.Session.{Holds, MayNotOpen, pages_of, saved_of}
 use Rattle.queue_commands.specs.Asking.{Asking, Refuses}
 use Rattle.queue_commands.specs.Coming.{IsUnanswered}
 use Rattle.queue_commands.specs.Commands.{AsksAs}
@@ -26,12 +26,14 @@ MayNotDo c Is content (Unclosed fault) = ⊥
 
 -- ---- what comes of it
 
--- the text of the command, and the file of the system that it leaves, which has as many pages as it had
+-- the text of the command, and a session that holds the system that it leaves, on as many pages as the file has, which
+-- are those that it counts as saved
 pub record IsAsked (Is : Asking (List ℕ)) (content : Pages) (asked : Asked) : Type 0 where
   pub system : State
   pub is : Is (Ok asked.text) system
-  pub holds : IsFileOf sha_key asked.file (restarted system)
-  pub pages : length asked.file ≡ length content
+  pub holds : Holds system asked.session
+  pub pages : pages_of asked.session ≡ length content
+  pub saved : saved_of asked.session ≡ content
 
 abbrev pub ComesTo : Caller → Asking (List ℕ) → Pages → Result Asked CommandError → Type 0
 ComesTo c Is content (Ok asked) = IsAsked Is content asked

@@ -16,7 +16,6 @@ use Rattle.command_runs.specs.Memory.{MayNotDo}
 use Rattle.command_runs.specs.Asking.{Pages}
 use Rattle.command_runs.specs.declared.error.CommandError.{CommandError}
 use Rattle.command_runs.specs.declared.error.CommandError.TheVariants.{Unclosed, Unopened, Unprinted}
-use Rattle.command_runs.specs.declared.running.Asked.{Asked}
 
 -- what the output holds before and after, and how often the device had failed, and has
 pub record Seen : Type 0 where
@@ -62,13 +61,19 @@ IfUnprinted Is came = ⊤
 
 -- ---- the end of a command that was asked
 
--- its text is printed, and then its file is on the device; unless the output refused it, or the device failed
-abbrev pub EndsWith : Asked → (left : Pages) → Seen → Result Unit CommandError → Type 0
-EndsWith asked left seen (Ok done) = Appends seen.old seen.new asked.text × (left ≡ asked.file)
-EndsWith asked left seen (Err (Unprinted error)) = ⊤
-EndsWith asked left seen (Err (Unclosed closes.Device)) =
-    HasRisen seen.was seen.faults × Appends seen.old seen.new asked.text
-EndsWith asked left seen (Err error) = ⊥
+-- these pages are the file of a system, and as many as there were
+pub record HasFileOf (s : State) (content left : Pages) : Type 0 where
+  pub file : IsFileOf sha_key left (restarted s)
+  pub pages : length left ≡ length content
+
+-- its text is printed, and then the file of the system is on the device; unless the output refused it, or the device
+-- failed
+abbrev pub EndsWith : List ℕ → State → (content left : Pages) → Seen → Result Unit CommandError → Type 0
+EndsWith text s content left seen (Ok done) = Appends seen.old seen.new text × HasFileOf s content left
+EndsWith text s content left seen (Err (Unprinted error)) = ⊤
+EndsWith text s content left seen (Err (Unclosed closes.Device)) =
+    HasRisen seen.was seen.faults × Appends seen.old seen.new text
+EndsWith text s content left seen (Err error) = ⊥
 
 -- ---- a command on a file
 
