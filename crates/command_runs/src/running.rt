@@ -45,9 +45,9 @@ struct Asked {
 ///
 /// The file is read into memory and checked. Where the device is honest it is that of one system,
 /// of which the calls of the command are asked (docs/SHELL.md, "What a command asks"). The text is
-/// handed to the output, and only then the pages that have changed are written to the device; it then
-/// has the file of the system that the calls left. Where the file is refused, a call is refused or not answered, or the output
-/// refuses the text, the device has what it had.
+/// handed to the output, and only then the pages that have changed are written to the device, which
+/// then has the file of the system that the calls left. Where the file is refused, a call is refused
+/// or not answered, or the output refuses the text, the device has what it had.
 pub fn run_on<D: PageDevice + Drop, W: Write + Drop>(
     alloc: Global,
     device: D,
@@ -172,6 +172,7 @@ fn save<D: PageDevice>(session: Session, device: &mut D) -> Result<(), Unwritten
     the_pages_are_the_file();
     let mut session = session;
     let written = session.write_changed(device);
+    // its device is in memory, and so tells that no transfer of the session failed
     session.abandon();
     if let Err(fault) = written {
         return Err(fault);
