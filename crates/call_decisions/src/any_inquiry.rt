@@ -34,7 +34,9 @@ const _: () = prove!(size_of::<AnyInquiry>() <= 400);
 
 impl AnyInquiry {
     /// The next slot from this one on that is not empty, with its write; none where no write is
-    /// left. The kind of the call is told once, and not for each slot.
+    /// left. The kind of the call is told once, and not for each slot. It stands in whoever asks, since
+    /// a write is large, and would else be moved through memory.
+    #[inline(always)]
     pub fn next_write(&self, call: &Call, from: usize) -> Option<(usize, Write)>
         ensures { MatchOption result
             (writes_left (plan_of call.now self.now) from ≡ [])
@@ -109,6 +111,8 @@ impl Inquiry for AnyInquiry {
 
     ghost inserts = { λ call i. any_inserts call i };
 
+    // It stands in whoever begins, and so does `trial`: what they make is large, and would else be moved.
+    #[inline(always)]
     fn begin(by: Caller, call: &Call) -> AnyInquiry {
         match call {
             Call::Get(arguments) => AnyInquiry::Get(GetInquiry::begin(by, arguments)),
@@ -189,6 +193,7 @@ impl Inquiry for AnyInquiry {
         }
     }
 
+    #[inline(always)]
     fn trial<'a>(&self, call: &'a Call, place: usize) -> Option<Record<'a>> {
         match (self, call) {
             (AnyInquiry::Get(inquiry), Call::Get(arguments)) => inquiry.trial(arguments, place),

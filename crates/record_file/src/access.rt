@@ -100,7 +100,9 @@ impl Access {
         self.begin_again(key, RecordOperation::find(key, pseudokey), None);
     }
 
-    /// Becomes an insert of a record whose key has this pseudokey, in place.
+    /// Becomes an insert of a record whose key has this pseudokey, in place. It stands in whoever begins
+    /// one, as `begin_write` does: else its operation would be moved through memory.
+    #[inline(always)]
     pub fn begin_insert(&mut self, entry: &Record<'_>, pseudokey: u32)
         requires { IsInRange entry.now }
         ensures value { self.new ≡ begun (ToInsert entry.now) pseudokey }
@@ -112,6 +114,7 @@ impl Access {
     }
 
     /// Becomes a write at a key that has this pseudokey, in place.
+    #[inline(always)]
     pub fn begin_write(&mut self, write: &Write, pseudokey: u32)
         requires { HasRange write.now }
         ensures value { self.new ≡ begun (ToWrite write.now) pseudokey }
