@@ -111,7 +111,8 @@ impl Inquiry for AnyInquiry {
 
     ghost inserts = { λ call i. any_inserts call i };
 
-    // It stands in whoever begins, and so does `trial`: what they make is large, and would else be moved.
+    // It stands in whoever begins, and so do `wants` and `trial`: what they tell would else be moved
+    // through memory.
     #[inline(always)]
     fn begin(by: Caller, call: &Call) -> AnyInquiry {
         match call {
@@ -124,6 +125,7 @@ impl Inquiry for AnyInquiry {
         }
     }
 
+    #[inline(always)]
     fn wants(&self, call: &Call) -> Option<Wanted> {
         match (self, call) {
             (AnyInquiry::Get(inquiry), Call::Get(arguments)) => inquiry.wants(arguments),

@@ -78,7 +78,9 @@ impl QueueEntry {
         }
     }
 
-    /// The Queue that a key and a value spell; it is refused exactly where they spell none.
+    /// The Queue that a key and a value spell; it is refused exactly where they spell none. It stands in
+    /// whoever reads one, as `Record::decode` does.
+    #[inline(always)]
     pub fn decode(key: &RecordKey, value: &[u8]) -> Result<QueueEntry, BadRecord>
         ensures ok { IfOk result (λ queue. SpellsRecord (records.Queue queue) key.now value.now) }
         ensures only { (queue : QueueEntry) →

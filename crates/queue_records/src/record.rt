@@ -70,7 +70,9 @@ impl<'a> Record<'a> {
         }
     }
 
-    /// The record that a key and a value spell; 43 exactly where they spell none.
+    /// The record that a key and a value spell; 43 exactly where they spell none. It stands in whoever
+    /// reads one, and `encode` in whoever writes one, since a record is moved through memory else.
+    #[inline(always)]
     pub fn decode(key: &RecordKey, value: &'a [u8]) -> Result<Record<'a>, BadRecord>
         ensures ok { IfOk result (λ entry. SpellsRecord entry key.now value.now) }
         ensures only { (entry : Record) → SpellsRecord entry key.now value.now → result ≡ Ok entry }
@@ -86,6 +88,7 @@ impl<'a> Record<'a> {
     }
 
     /// Makes the value that of this record. Its key and this value decode to it.
+    #[inline(always)]
     pub fn encode(&self, value: &mut Value)
         requires { IsInRange self.now }
         ensures value { value.new ≡ value_of self.now }

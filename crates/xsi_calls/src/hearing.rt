@@ -12,7 +12,9 @@ use queue_records::Record;
 use xsi_inquiry::{Inquiry, NotASystem, Room, Wanted, counter_in, tell, tell_given};
 
 /// Tells an inquiry, which wants this, what was found at the key that it asked for, or by the
-/// Counter that was found whether the id was given out. After an error both stand where they stood.
+/// Counter that was found whether the id was given out. After an error both stand where they stood. It
+/// stands in whoever asks, so that the record is not moved through memory to be heard.
+#[inline(always)]
 pub(crate) fn hear(
     inquiry: &mut AnyInquiry,
     room: &mut Room,

@@ -64,7 +64,9 @@ impl Stage {
         }
     }
 
-    /// Where it goes on by what is known of the queue.
+    /// Where it goes on by what is known of the queue. It stands in whoever goes on, as `of_head` does: a
+    /// stage is large, and would else be moved through memory.
+    #[inline(always)]
     pub fn of_sought(caller: Caller, arguments: &ReceiveArguments, sought: &Sought) -> Stage
         ensures knows { (room : Roomful) (s : State) → IsFiled s → HasRoomFor arguments.now room →
             Tells arguments.now.id sought.now s → KnowsAt caller arguments.now result room s }
@@ -158,6 +160,7 @@ impl Stage {
 
     /// Where it goes on once the message is read: where it is the last of its type, its
     /// Type is needed too.
+    #[inline(always)]
     fn of_head(
         pid: u32,
         arguments: &ReceiveArguments,
