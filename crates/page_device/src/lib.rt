@@ -1,5 +1,5 @@
 //! Devices of numbered, sealed pages: a read gives what was last written there. And the pages of a
-//! device in memory, and back on the device.
+//! device in memory.
 
 #![tactic(auto)]
 
@@ -13,7 +13,7 @@ mod page;
 mod page_file;
 mod sealed;
 
-pub use copies::{copied, write_back};
+pub use copies::copied;
 pub use device::PageDevice;
 pub use fault::DeviceFault;
 pub use faulty::FaultyDevice;
