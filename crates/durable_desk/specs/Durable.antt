@@ -1,6 +1,6 @@
 -- A desk that is brought to a file which a crash leaves as at a commit: what is so between two commits, and what its
 -- functions promise beside a desk's. docs/QUEUES.md, "Calls"; docs/FORMAT.md, "Pages" and "Calls".
-use Rattle.std.specs.Prelude.{ℕ, ◌≡◌, ◌⊎◌, ◌||◌, Bool, true, false, List, Result, Ok, Err, IsTrue, length}
+use Rattle.std.specs.Prelude.{ℕ, ◌≡◌, ◌⊎◌, ◌||◌, Bool, true, false, Result, Ok, Err, IsTrue, length}
 use Rattle.page_device.specs.Device.{HasRisen}
 use Rattle.safe_device.specs.Crash.{Keeps, LeavesOnly}
 use Rattle.safe_device.specs.Device.{DeviceState, held}

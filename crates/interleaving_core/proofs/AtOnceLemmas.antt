@@ -1,5 +1,5 @@
 -- A step of a seat's call by which it is not over is one of a kernel; and what two of them leave of the call's entry.
-use Rattle.std.proofs.Common.{◌≡◌, ◌≢◌, refl, sym, ap, ◌∙◌, subst, ℕ, ◌≤◌, true, false, true≢false, IsSome, inl, ◌∷◌, ◌++◌, Option, Some, None, length}
+use Rattle.std.proofs.Common.{◌≡◌, ◌≢◌, refl, sym, ap, ◌∙◌, subst, ℕ, ◌≤◌, false, true≢false, IsSome, inl, ◌∷◌, ◌++◌, Option, Some, None, length}
 use Rattle.std.specs.Option.{is_some}
 use Rattle.file_pages.specs.declared.fault.FileFault.{FileFault}
 use Rattle.queue_model.specs.declared.entry.Entry.TheVariants.{Decided}

@@ -1,5 +1,5 @@
 -- A seat without a call gets another caller.
-use Rattle.std.proofs.Common.{ℕ, zero, suc, ◌≡◌, ◌≢◌, ◌≤◌, ◌<◌, ◌-◌, refl, sym, ap, ◌∙◌, subst, inl, inr, Bool, true, false, true≢false, IsTrue, List, [], Option, Some, None, length, slice_get, slice_index_or, slice_set, length-set, get_or-set_same, get_or-set_other, map, option_map, arith}
+use Rattle.std.proofs.Common.{ℕ, zero, suc, ◌≡◌, ◌≢◌, ◌≤◌, ◌<◌, ◌-◌, refl, sym, ap, ◌∙◌, subst, inl, inr, true, false, true≢false, IsTrue, List, [], Option, Some, None, length, slice_get, slice_index_or, slice_set, length-set, get_or-set_same, get_or-set_other, map, option_map, arith}
 use Rattle.std.specs.List.{All}
 use Rattle.std.proofs.lemmas.Bool.{cases_eq, cases_lt}
 use Rattle.std.proofs.lemmas.List.Elements.{All-set}

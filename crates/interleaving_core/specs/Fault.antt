@@ -4,7 +4,6 @@ use Rattle.numbers.specs.declared.faults.TheConstants.{BUSY, DEVICE, FAILED, NO_
 use Rattle.file_check.specs.Fault as check
 use Rattle.file_check.specs.declared.fault.CheckFault.TheVariants as checks
 use Rattle.file_pages.specs.Fault as file
-use Rattle.file_pages.specs.declared.fault.FileFault.{FileFault}
 use Rattle.file_walk.specs.declared.fault.StructureFault.TheVariants as structure
 use Rattle.interleaving_core.specs.declared.fault.BeginFault.{BeginFault}
 use Rattle.interleaving_core.specs.declared.fault.BeginFault.TheVariants as begins

@@ -4,7 +4,6 @@ use Rattle.std.proofs.lemmas.Bool.{true≢false}
 use Rattle.page_locks.specs.Locks.{kind_of}
 use Rattle.page_locks.specs.Table.{Table, row_of}
 use Rattle.step_rules.specs.Words.{LockKind, LockName, Exclusive, Key, Counter, Queue, Directory, Page}
-use Rattle.step_rules.specs.declared.progress.Progress.{Progress}
 use Rattle.step_rules.specs.World.{World, with_locks, IsHeld}
 use Rattle.step_rules.specs.Known.{Known, AllKnown, AllAnchored}
 use Rattle.step_rules.specs.LockSteps.{Grants}

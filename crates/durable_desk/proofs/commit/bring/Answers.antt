@@ -1,6 +1,6 @@
 use Rattle.std.proofs.Common.{◌≡◌, ◌∙◌, refl, rules, sym, true, false}
 use Rattle.std.proofs.lemmas.List.{nil_from_length}
-use Rattle.durable_desk.proofs.CommitLemmas.{cut_short, cut_unseen, is_committed, stays_committed}
+use Rattle.durable_desk.proofs.CommitLemmas.{cut_short, is_committed, stays_committed}
 use Rattle.durable_desk.proofs.commit.bring.Goals as goal
 
 pub returns-clause-becomes : goal.returns-clause-becomes

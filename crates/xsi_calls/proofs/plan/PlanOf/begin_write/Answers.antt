@@ -1,5 +1,5 @@
 -- The access of the write that comes next begins.
-use Rattle.std.proofs.Common.{◌∙◌, ◌+◌, List, Some, ap, refl, subst, sym, zero}
+use Rattle.std.proofs.Common.{◌∙◌, ◌+◌, List, ap, refl, subst, sym, zero}
 use Rattle.std.specs.Prelude.{slice_get, option_map, drop}
 use Rattle.xsi_inquiry.specs.Slots.{IsNextWrite}
 use Rattle.xsi_inquiry.specs.declared.write.Write.{Write}
