@@ -1,6 +1,6 @@
 -- A command asked of a file in memory, and its end on the device.
 use Rattle.std.proofs.Common.{◌≡◌, ℕ, ◌≤◌, inl, inr, List, length, Option, None, unwrap_or, Result, Ok, Err, IfOk, refl, sym, ap, subst}
-use Rattle.page_device.proofs.CopyLemmas.{risen-since}
+use Rattle.session.proofs.ChangedLemmas.{risen-since}
 use Rattle.page_device.specs.Device.{HasCause, HasRisen, MayOnlyFail}
 use Rattle.page_device.specs.declared.fault.DeviceFault.{DeviceFault}
 use Rattle.page_device.specs.declared.fault.DeviceFault.TheVariants as devices

@@ -1,7 +1,7 @@
 -- A commit, step by step: the pages are written, the device is synced, and it is noted.
 use Rattle.std.proofs.Common.{arith, ℕ, ◌≡◌, ◌≤◌, ◌<◌, ◌+◌, inl, inr, ⊎_elim, IsTrue, refl, sym, ap, ◌∙◌, subst, Bool, true, false, List, [], Option, Some, None, Err, length}
 use Rattle.std.specs.Prelude.{slice_set}
-use Rattle.page_device.proofs.CopyLemmas.{risen-since}
+use Rattle.session.proofs.ChangedLemmas.{risen-since}
 use Rattle.page_device.specs.Device.{DiffersAtMostAt, HasCause, MayMeetTheEnd}
 use Rattle.page_device.specs.declared.fault.DeviceFault.{DeviceFault}
 use Rattle.page_device.specs.declared.fault.DeviceFault.TheVariants as devices

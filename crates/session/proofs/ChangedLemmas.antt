@@ -1,15 +1,19 @@
 -- The pages of a session that have changed are written to another device, one after another.
-use Rattle.std.proofs.Common.{arith, ℕ, ◌≡◌, ◌≤◌, ◌<◌, ◌+◌, IsTrue, refl, sym, ◌∙◌, subst, Bool, List, Some, None, Ok, Err, length}
+use Rattle.std.proofs.Common.{arith, inl, inr, ℕ, ◌≡◌, ◌≤◌, ◌<◌, ◌+◌, IsTrue, refl, sym, ◌∙◌, subst, Bool, List, Some, None, Ok, Err, length}
 use Rattle.std.specs.Prelude.{nat_lt, slice_set}
-use Rattle.page_device.specs.Device.{DiffersAtMostAt, HasCause, MayMeetTheEnd}
+use Rattle.page_device.specs.Device.{DiffersAtMostAt, HasCause, HasRisen, MayMeetTheEnd}
 use Rattle.page_device.specs.declared.fault.DeviceFault.{DeviceFault}
 use Rattle.page_device.specs.declared.fault.DeviceFault.TheVariants as devices
-use Rattle.page_device.proofs.CopyLemmas.{risen-since}
 use Rattle.interleavings.specs.LoneKernelWords.{State}
 use Rattle.session.specs.Session.{AreAsSaved, GivesPage, HasFailed, Holds, SessionState, TellsChanges, caller_of, pages_of, saved_of}
 use Rattle.session.specs.Writing.{WritesChanged}
 use Rattle.session.specs.declared.writing.Unwritten.TheVariants.{Device, Session}
 use Rattle.session.proofs.WriteLemmas.{AreWrittenTo, Pages, all_written, none_written, one_more, told_as, up_to, write_failed, zero_of}
+
+-- a count that rose since later rose since earlier
+pub risen-since : (first old new : ℕ) → first ≤ old → HasRisen old new → HasRisen first new
+risen-since first old new before (inl more) = inl (omega (arith, before, more))
+risen-since first old new before (inr most) = inr most
 
 module _ {E : Type 0} (content : E → Pages) (is_honest : E → Bool) (fault_count : E → ℕ) where
   -- what is so while the pages are written: those before this one are
