@@ -46,8 +46,8 @@ invariant_of-self-else-frame-len c =
     ∙ sym c.index.ensures in
     let last = c.len.ensures ∙ c.self.inside.payloads.ok.0 in
     rw (c.forget.ensures, ← read)
-    (IsKept-again c.self.inside.payloads.items _ refl c.args.frame c.new-framed.result _ _ _ c.self.invariant c.args.page
-    in_range free on_device outside next (λ same. c.if-frame-len.false (same ∙ sym last)))
+    (IsKept-again c.self.inside.payloads.items _ refl c.args.frame c.new-framed.result _ _ _ c.self.invariant
+    c.args.page in_range free on_device outside next (λ same. c.if-frame-len.false (same ∙ sym last)))
 
 pub index_mut-requires-else-frame-len : goal.index_mut-requires-else-frame-len
 index_mut-requires-else-frame-len c =
