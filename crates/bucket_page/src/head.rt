@@ -9,7 +9,7 @@ use directory::HEAD_BYTES;
 use directory::fields::{blank, four_at, two_at, write_four, write_two};
 
 /// The numbers at the head of a bucket.
-#[derive(Clone, Copy, Debug)]
+#[derive(Clone, Copy)]
 pub struct Head {
     pub depth: u8,
     /// How many records there are.

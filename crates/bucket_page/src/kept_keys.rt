@@ -90,6 +90,8 @@ impl<K: Alike> KeptKeys<K> {
     }
 
     /// The pseudokey of a key. Those of the numbers behind it are computed beside it, and kept.
+    // Its locals would be zeroed in each call of `of`, of which one in four comes here.
+    #[inline(never)]
     fn of_run(&self, key: &RecordKey) -> u32
         requires { key.now.number + RUN ≤ 2 ^ 64 }
         ensures { result ≡ K.of_key self.now key.now }

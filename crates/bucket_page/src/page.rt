@@ -51,7 +51,7 @@ impl Malformed {
 }
 
 /// A page that isn't the header.
-#[derive(Debug, Drop)]
+#[derive(Drop)]
 pub enum PageKind<'a> {
     /// A bucket of records.
     Bucket(BucketView<'a>),

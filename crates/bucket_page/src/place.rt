@@ -3,7 +3,7 @@
 use crate::record_key::RecordKey;
 
 /// Where the record of a key stands in a bucket, or would stand.
-#[derive(Clone, Copy, Debug)]
+#[derive(Clone, Copy)]
 pub struct Place {
     pub key: RecordKey,
     /// The bytes of the records below it.
@@ -11,7 +11,7 @@ pub struct Place {
 }
 
 /// What a walk for a key came to: its place, and its value where it has one.
-#[derive(Clone, Copy, Debug)]
+#[derive(Clone, Copy)]
 pub struct Sought<'a> {
     pub place: Place,
     pub value: Option<&'a [u8]>,

@@ -34,7 +34,7 @@ impl<K: PseudoKey> PseudoKey for &K {
 }
 
 /// The first four bytes, the highest first, of the SHA-256 of the key's bytes.
-#[derive(Clone, Copy, Debug)]
+#[derive(Clone, Copy)]
 pub struct ShaKey;
 
 impl PseudoKey for ShaKey {
@@ -52,7 +52,7 @@ impl PseudoKey for ShaKey {
 }
 
 /// The low 32 bits of the key's number, for tests.
-#[derive(Clone, Copy, Debug)]
+#[derive(Clone, Copy)]
 pub struct NumberKey;
 
 impl PseudoKey for NumberKey {
@@ -69,7 +69,7 @@ impl PseudoKey for NumberKey {
 }
 
 /// The same number for every key, for tests.
-#[derive(Clone, Copy, Debug)]
+#[derive(Clone, Copy)]
 pub struct ConstantKey(pub u32);
 
 impl PseudoKey for ConstantKey {

@@ -10,7 +10,7 @@ use directory::fields::{eight_at, four_at, write_eight, write_four};
 pub const KEY_BYTES: usize = 13;
 
 /// What names a record: its kind, the id of its queue, and a number whose meaning the kind decides.
-#[derive(Clone, Copy, Debug, PartialEq, Eq)]
+#[derive(Clone, Copy, PartialEq, Eq)]
 pub struct RecordKey {
     pub kind: u8,
     pub queue: u32,

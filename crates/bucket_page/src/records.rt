@@ -13,14 +13,14 @@ use directory::fields::two_at;
 use std::marker::Model;
 
 /// A record: its key, and its value as the page holds it.
-#[derive(Clone, Copy, Debug)]
+#[derive(Clone, Copy)]
 pub struct Record<'a> {
     pub key: RecordKey,
     pub value: &'a [u8],
 }
 
 /// The records of a bucket, from the lowest key on.
-#[derive(Debug, Drop)]
+#[derive(Drop)]
 pub struct Records<'a> {
     count: u16,
     bytes: &'a [u8],

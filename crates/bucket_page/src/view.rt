@@ -10,7 +10,7 @@ use crate::records::Records;
 use std::marker::Model;
 
 /// A bucket.
-#[derive(Debug, Drop)]
+#[derive(Drop)]
 pub struct BucketView<'a> {
     pub(crate) depth: u8,
     pub(crate) pattern: u32,

@@ -14,7 +14,7 @@ use xsi_send::SendInquiry;
 
 /// The inquiry of a call, by the call's kind. It is lent the call that it began with. Of a call of
 /// another kind it asks nothing, and decides nothing.
-#[derive(Clone, Copy, Debug)]
+#[derive(Clone, Copy)]
 pub enum AnyInquiry {
     /// Of a Get.
     Get(GetInquiry),

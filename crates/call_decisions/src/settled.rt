@@ -12,7 +12,7 @@ use queue_model::Errno;
 use xsi_inquiry::{Decision, Sweep, Verdict};
 
 /// What a call comes to at its Decide, where each record that it inserted on trial had room.
-#[derive(Clone, Copy, Debug)]
+#[derive(Clone, Copy)]
 pub enum Settled {
     /// It is answered.
     Answers(Verdict),

@@ -72,7 +72,7 @@ impl<'a> CallReader<'a> {
 }
 
 /// The parts of an entry, and what stands behind it.
-#[derive(Debug, Drop)]
+#[derive(Drop)]
 struct Parts<'a> {
     moment: u64,
     request: &'a [u8],

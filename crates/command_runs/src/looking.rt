@@ -22,7 +22,7 @@ use std::alloc::Global;
 use std::io::Write;
 
 /// In which form it is shown.
-#[derive(Clone, Copy, Debug, PartialEq, Eq)]
+#[derive(Clone, Copy, PartialEq, Eq)]
 pub enum Form {
     /// A table with headings.
     Table,
@@ -31,7 +31,7 @@ pub enum Form {
 }
 
 /// What is looked at.
-#[derive(Debug, Drop)]
+#[derive(Drop)]
 pub enum Look {
     /// The queues.
     Queues(Form),

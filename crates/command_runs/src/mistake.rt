@@ -5,7 +5,7 @@ use msgq_cli::{CommandRow, wrong_word};
 use std::alloc::{AllocError, Global};
 
 /// A word that its place does not take.
-#[derive(Clone, Copy, Debug)]
+#[derive(Clone, Copy)]
 pub struct Mistake<'a> {
     word: &'a str,
     wanted: &'static str,

@@ -11,7 +11,7 @@ use std::rt::{Clock, Files};
 
 /// What a replay is made of, by their names, and whether it is traced. A script or a schedule of
 /// the name `-` is that of standard input.
-#[derive(Clone, Copy, Debug)]
+#[derive(Clone, Copy)]
 pub struct Sources<'a> {
     /// The file.
     pub file: Opening<'a>,

@@ -8,7 +8,7 @@ ghost use Rattle.directory.specs.Spelling.{FitsBytes};
 use crate::layout::LOCAL_DEPTHS;
 
 /// The header of a file.
-#[derive(Clone, Copy, Debug, PartialEq, Eq)]
+#[derive(Clone, Copy, PartialEq, Eq)]
 pub struct Header {
     /// The depth of the directory: how many low bits of a pseudokey choose its entry.
     pub depth: u8,

@@ -5,7 +5,7 @@ ghost use Rattle.directory.specs.declared.layout.TheConstants.{LAYOUT, OLDER_LAY
 ghost use Rattle.directory.specs.Layouts.{IsLayout, header_size, least_pages};
 
 /// The numbers in which the layouts of files differ.
-#[derive(Clone, Copy, Debug, PartialEq, Eq)]
+#[derive(Clone, Copy, PartialEq, Eq)]
 pub struct Layout {
     /// The second byte of the header: the version of the format.
     pub version: u8,

@@ -11,7 +11,7 @@ use std::marker::Model;
 
 /// The entries of a page of the directory, lent by its payload: the buckets' pages
 /// that its slots name.
-#[derive(Debug, Drop)]
+#[derive(Drop)]
 pub struct DirectoryView<'a> {
     entries: &'a [u8],
 }

@@ -7,7 +7,7 @@ ghost use Rattle.directory.specs.Tiles.{IsTileAt};
 use crate::pseudokey::{PSEUDOKEY_BITS, index, position};
 
 /// The pseudokeys whose low `depth` bits are `pattern`: what a bucket of that local depth may hold.
-#[derive(Clone, Copy, Debug, PartialEq, Eq)]
+#[derive(Clone, Copy, PartialEq, Eq)]
 pub struct Range {
     /// How many low bits count, at most `PSEUDOKEY_BITS`.
     pub depth: u8,

@@ -14,7 +14,7 @@ use std::marker::Model;
 /// What is kept of a file while it is walked: its header, the entries of its directory and
 /// its pages without their records. A clause sees it as a file. It takes 16 bytes a page,
 /// and four an entry.
-#[derive(Debug, Drop)]
+#[derive(Drop)]
 pub struct Outline {
     pub(crate) layout: Layout,
     pub(crate) header: Header,

@@ -16,7 +16,7 @@ use page_device::PageDevice;
 use std::alloc::Global;
 
 /// A file of which the structure is right: its outline, and the pages of its chain in their order.
-#[derive(Debug, Drop)]
+#[derive(Drop)]
 pub struct Structure {
     pub outline: Outline,
     pub chain: Vec<u32>,

@@ -10,7 +10,7 @@ use crate::little::{four_at, two_at};
 pub const FRAME_BYTES: usize = 12;
 
 /// A frame whose operation is not read yet.
-#[derive(Debug, Drop)]
+#[derive(Drop)]
 pub struct Frame<'a> {
     /// The client's own number of it.
     pub number: u32,

@@ -13,7 +13,7 @@ use queue_model::Caller;
 pub const HEAD_BYTES: usize = 24;
 
 /// A record whose kind is not read yet.
-#[derive(Debug, Drop)]
+#[derive(Drop)]
 pub struct Head<'a> {
     /// The relay's number of the connection.
     pub connection: u32,

@@ -3,7 +3,7 @@
 use queue_model::{Answer, Message};
 
 /// What a server tells of itself.
-#[derive(Clone, Copy, Debug, PartialEq, Eq)]
+#[derive(Clone, Copy, PartialEq, Eq)]
 pub struct Counts {
     /// Calls answered.
     pub calls: u64,
@@ -22,7 +22,7 @@ pub struct Counts {
 }
 
 /// What a request is answered.
-#[derive(Debug, Drop)]
+#[derive(Drop)]
 pub enum Reply<'a> {
     /// To a call, what it was answered.
     Answer(&'a Answer),

@@ -13,7 +13,7 @@ use std::marker::Model;
 use step_rules::Kind;
 
 /// The counts of all seats, and the structure change that is under way. Seats count from 1.
-#[derive(Debug, Drop)]
+#[derive(Drop)]
 pub struct SearchCounts {
     counts: Vec<SearchCount>,
     under_way: UnderWay,

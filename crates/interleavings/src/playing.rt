@@ -38,7 +38,7 @@ pub struct Played<D> {
 }
 
 /// Why a file was not closed well after the last event.
-#[derive(Clone, Copy, Debug, PartialEq, Eq)]
+#[derive(Clone, Copy, PartialEq, Eq)]
 pub enum EndFault {
     /// A seat has a call under way.
     Busy,

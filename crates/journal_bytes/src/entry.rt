@@ -23,7 +23,7 @@ const CALLS: u32 = 0x8000_0000;
 const PUT_BACK: u32 = 0x4000_0000;
 
 /// Which entry stands there, by its word, where calls may stand.
-#[derive(Clone, Copy, Debug, PartialEq, Eq)]
+#[derive(Clone, Copy, PartialEq, Eq)]
 pub enum Entry {
     /// The image of a page, if any.
     Image,

@@ -18,14 +18,14 @@ use record_walk::{TestedBucket, read_tested};
 use std::alloc::Global;
 
 /// A message that was found, and the id of its queue.
-#[derive(Debug, Drop)]
+#[derive(Drop)]
 pub(crate) struct FoundMessage {
     pub(crate) id: u32,
     pub(crate) message: Message,
 }
 
 /// What was found on pages, of each the lowest first.
-#[derive(Debug, Drop)]
+#[derive(Drop)]
 pub(crate) struct Found {
     /// The greatest next id of a Counter, 0 where there is none.
     pub(crate) next_id: u32,

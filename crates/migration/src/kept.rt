@@ -29,7 +29,7 @@ struct Part {
 }
 
 /// What becomes of a message.
-#[derive(Clone, Copy, Debug, PartialEq, Eq)]
+#[derive(Clone, Copy, PartialEq, Eq)]
 enum Taking {
     Taken,
     Twice,

@@ -6,14 +6,14 @@ use queue_model::NoMemory;
 use std::alloc::Global;
 
 /// Pages that stand one behind the other.
-#[derive(Clone, Copy, Debug, PartialEq, Eq)]
+#[derive(Clone, Copy, PartialEq, Eq)]
 pub struct Pages {
     pub first: u32,
     pub last: u32,
 }
 
 /// What was left out of a new file, or put in the place of what is lost.
-#[derive(Debug, Drop)]
+#[derive(Drop)]
 pub struct Losses {
     /// Pages that can't be read, in ascending order: a transfer failed, they have not their digest,
     /// they are none of such a file, or the file ends before them.

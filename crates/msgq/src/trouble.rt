@@ -25,7 +25,7 @@ pub struct Errand<'a> {
 }
 
 /// What is not there, and may come.
-#[derive(Clone, Copy, Debug, PartialEq, Eq)]
+#[derive(Clone, Copy, PartialEq, Eq)]
 pub enum Awaited {
     /// The file.
     File,

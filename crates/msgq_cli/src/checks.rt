@@ -159,7 +159,7 @@ where
 }
 
 /// What each change of a file changes: where it stands, its length, and when it was written last.
-#[derive(Clone, Copy, Debug, PartialEq, Eq)]
+#[derive(Clone, Copy, PartialEq, Eq)]
 struct Trace {
     inode: u64,
     bytes: u64,

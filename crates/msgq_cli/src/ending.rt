@@ -7,7 +7,7 @@ use crate::reply::Reply;
 use file_check::CheckFault;
 
 /// How a run ends.
-#[derive(Clone, Copy, Debug, PartialEq, Eq)]
+#[derive(Clone, Copy, PartialEq, Eq)]
 pub enum Ending {
     /// No fault was printed.
     Done,
@@ -25,7 +25,7 @@ pub enum Ending {
 }
 
 /// A fault that no line met.
-#[derive(Clone, Copy, Debug, PartialEq, Eq)]
+#[derive(Clone, Copy, PartialEq, Eq)]
 pub struct Failure {
     /// What was being done.
     pub stage: Stage,
@@ -34,7 +34,7 @@ pub struct Failure {
 }
 
 /// What is done around the lines of a script.
-#[derive(Clone, Copy, Debug, PartialEq, Eq)]
+#[derive(Clone, Copy, PartialEq, Eq)]
 pub enum Stage {
     /// The script is read.
     Reading,

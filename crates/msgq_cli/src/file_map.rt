@@ -7,7 +7,7 @@ use queue_model::System;
 use std::alloc::Global;
 
 /// A bucket on the map of a file.
-#[derive(Clone, Copy, Debug, PartialEq, Eq)]
+#[derive(Clone, Copy, PartialEq, Eq)]
 pub struct MappedBucket {
     /// The page on which it stands.
     pub page: u32,
@@ -24,7 +24,7 @@ pub struct MappedBucket {
 }
 
 /// The map of a file that is right.
-#[derive(Debug, Drop)]
+#[derive(Drop)]
 pub struct FileMap {
     /// Its pages.
     pub pages: u32,

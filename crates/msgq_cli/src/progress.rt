@@ -59,7 +59,7 @@ impl<E: Write> Progress<'_, E> {
 }
 
 /// What the pages of a device are gone through for.
-#[derive(Clone, Copy, Debug, PartialEq, Eq)]
+#[derive(Clone, Copy, PartialEq, Eq)]
 enum Phase {
     /// They are read, each once, and then those of records again.
     Read,

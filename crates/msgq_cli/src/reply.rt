@@ -14,7 +14,7 @@ use queue_model::{Answer, Message, QueueInfo};
 use std::io::Write;
 
 /// What became of a line's command.
-#[derive(Debug, Drop, PartialEq)]
+#[derive(Drop, PartialEq)]
 pub enum Reply {
     /// Its call was answered.
     Answered(Answer),

@@ -33,7 +33,7 @@ pub enum ScriptError {
 }
 
 /// What a script says, which contracts see as its `ids` lines and its lines with commands.
-#[derive(Debug, Drop)]
+#[derive(Drop)]
 pub struct Script {
     ids: Vec<SeatIds>,
     lines: Vec<Line>,

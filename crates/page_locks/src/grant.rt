@@ -1,7 +1,7 @@
 //! What a seat is told that asks for a lock.
 
 /// The answer to a seat that asks for a lock.
-#[derive(Clone, Copy, Debug, PartialEq, Eq)]
+#[derive(Clone, Copy, PartialEq, Eq)]
 pub enum Grant {
     /// The seat holds the lock now.
     Granted,
@@ -10,7 +10,7 @@ pub enum Grant {
 }
 
 /// The answer, and how many slots were looked at for it.
-#[derive(Clone, Copy, Debug, PartialEq, Eq)]
+#[derive(Clone, Copy, PartialEq, Eq)]
 pub struct Attempt {
     /// What the seat is told.
     pub grant: Grant,

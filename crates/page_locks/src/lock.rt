@@ -4,7 +4,7 @@ ghost use Rattle.std.specs.Prelude.{◌≡◌};
 ghost use Rattle.page_locks.specs.Locks.{is_on, in_kind};
 
 /// What a lock is on. Callers take locks in the order of the variants; a table asks for none.
-#[derive(Clone, Copy, Debug, PartialEq, Eq, Default)]
+#[derive(Clone, Copy, PartialEq, Eq, Default)]
 pub enum LockName {
     /// A key that queues are found by.
     Key(u32),
@@ -20,7 +20,7 @@ pub enum LockName {
 }
 
 /// How a name is locked: the ρ, α and ξ locks of Ellis (1983).
-#[derive(Clone, Copy, Debug, PartialEq, Eq, Default)]
+#[derive(Clone, Copy, PartialEq, Eq, Default)]
 pub enum LockKind {
     /// Beside any number of readers and one selective holder.
     #[default]
@@ -32,7 +32,7 @@ pub enum LockKind {
 }
 
 /// A name, and the kind in which it is held.
-#[derive(Clone, Copy, Debug, PartialEq, Eq, Default)]
+#[derive(Clone, Copy, PartialEq, Eq, Default)]
 pub struct Lock {
     /// What is locked.
     pub name: LockName,

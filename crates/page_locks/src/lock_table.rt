@@ -19,7 +19,7 @@ pub const MAX_SEATS: u8 = 64;
 
 /// What each seat holds. Seats count from 1. Each seat has a row of the names that it holds, and
 /// each name that is held a slot with its holders, so that one slot answers who stands in the way.
-#[derive(Debug, Drop)]
+#[derive(Drop)]
 pub struct LockTable {
     rows: Vec<Row>,
     slots: Slots,

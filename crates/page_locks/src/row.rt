@@ -12,7 +12,7 @@ use std::marker::Model;
 pub const MAX_LOCKS: usize = 8;
 
 /// The locks of one seat, in the order in which they were granted.
-#[derive(Debug, Drop)]
+#[derive(Drop)]
 pub struct Row {
     locks: ArrayVec<Lock, MAX_LOCKS>,
 }

@@ -15,7 +15,7 @@ use std::alloc::Global;
 use std::marker::Model;
 
 /// Where a name stands or may be put, how many slots were looked at to find that, and who holds it.
-#[derive(Clone, Copy, Debug)]
+#[derive(Clone, Copy)]
 pub struct Spot {
     pub place: usize,
     pub looked: u32,
@@ -23,7 +23,7 @@ pub struct Spot {
 }
 
 /// A map from names to those who hold them.
-#[derive(Debug, Drop)]
+#[derive(Drop)]
 pub struct Slots {
     slots: Vec<Slot>,
 }

@@ -27,7 +27,7 @@ pub enum Act {
 }
 
 /// Where a save has come to.
-#[derive(Clone, Copy, Debug, PartialEq, Eq)]
+#[derive(Clone, Copy, PartialEq, Eq)]
 pub enum Place {
     /// Each page before this one that has changed has its image in the journal.
     Guarding(u32),

@@ -13,7 +13,7 @@ use std::rt::Files;
 use std::test::Fail;
 
 /// Numbers that are drawn.
-#[derive(Clone, Copy, Debug)]
+#[derive(Clone, Copy)]
 struct Dice {
     state: u32,
 }

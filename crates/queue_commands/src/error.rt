@@ -33,7 +33,7 @@ impl From<NoMemory> for AskError {
 }
 
 /// The exit status of a command (docs/SHELL.md, "Exit status").
-#[derive(Clone, Copy, Debug, PartialEq, Eq)]
+#[derive(Clone, Copy, PartialEq, Eq)]
 pub enum ExitStatus {
     /// It was done.
     Done,

@@ -6,7 +6,7 @@ ghost use Rattle.queue_commands.specs.Naming.{is_named};
 use queue_model::{Queue, System};
 
 /// How a queue is named.
-#[derive(Clone, Copy, Debug, PartialEq, Eq)]
+#[derive(Clone, Copy, PartialEq, Eq)]
 pub enum QueueName {
     /// By its key.
     Key(u32),

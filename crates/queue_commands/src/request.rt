@@ -4,7 +4,7 @@ use crate::queue_name::QueueName;
 use queue_model::Body;
 
 /// A command, and when it is asked for.
-#[derive(Debug, Drop)]
+#[derive(Drop)]
 pub struct Request {
     /// The moment of each of its calls, in seconds.
     pub moment: u64,
@@ -13,7 +13,7 @@ pub struct Request {
 }
 
 /// What is asked for.
-#[derive(Debug, Drop)]
+#[derive(Drop)]
 pub enum Command {
     /// Messages are sent.
     Send(Sending),
@@ -36,7 +36,7 @@ pub enum Command {
 }
 
 /// Messages that are sent to a queue, all or none.
-#[derive(Debug, Drop)]
+#[derive(Drop)]
 pub struct Sending {
     /// The queue.
     pub queue: QueueName,
@@ -51,7 +51,7 @@ pub struct Sending {
 }
 
 /// Messages that are received from a queue, one after the other.
-#[derive(Clone, Copy, Debug, PartialEq, Eq)]
+#[derive(Clone, Copy, PartialEq, Eq)]
 pub struct Receiving {
     /// The queue.
     pub queue: QueueName,
@@ -70,7 +70,7 @@ pub struct Receiving {
 }
 
 /// How a queue is made.
-#[derive(Clone, Copy, Debug, PartialEq, Eq)]
+#[derive(Clone, Copy, PartialEq, Eq)]
 pub struct NewQueue {
     /// Its mode, of which the low nine bits count.
     pub mode: u16,
@@ -79,7 +79,7 @@ pub struct NewQueue {
 }
 
 /// A queue is set.
-#[derive(Clone, Copy, Debug, PartialEq, Eq)]
+#[derive(Clone, Copy, PartialEq, Eq)]
 pub struct Setting {
     /// The queue.
     pub queue: QueueName,
@@ -88,7 +88,7 @@ pub struct Setting {
 }
 
 /// What is set of a queue; none keeps what it has.
-#[derive(Clone, Copy, Debug, PartialEq, Eq)]
+#[derive(Clone, Copy, PartialEq, Eq)]
 pub struct Settings {
     /// As many bytes may its messages have together.
     pub qbytes: Option<u32>,

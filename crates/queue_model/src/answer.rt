@@ -8,7 +8,7 @@ use crate::permissions::Permissions;
 use numbers::faults::NoMemory;
 
 /// What Stat tells of a queue (`msqid_ds` of POSIX.1-2017, `<sys/msg.h>`).
-#[derive(Clone, Copy, Debug, PartialEq)]
+#[derive(Clone, Copy, PartialEq)]
 pub struct QueueInfo {
     /// The queue's id.
     pub id: u32,
@@ -35,7 +35,7 @@ pub struct QueueInfo {
 }
 
 /// An answer.
-#[derive(Debug, Drop, PartialEq)]
+#[derive(Drop, PartialEq)]
 pub enum Answer {
     /// To Get: the queue's id.
     Id(u32),

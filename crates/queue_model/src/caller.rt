@@ -1,7 +1,7 @@
 //! Who makes a call.
 
 /// The process that makes a call, with its effective user and group.
-#[derive(Clone, Copy, Debug, PartialEq, Eq)]
+#[derive(Clone, Copy, PartialEq, Eq)]
 pub struct Caller {
     /// Process id: a queue's `lspid` after a send, its `lrpid` after a receive.
     pub pid: u32,

@@ -7,7 +7,7 @@ use crate::call::Call;
 use numbers::faults::NoMemory;
 
 /// What a journal tells of one moment: a call was answered, or the system was stopped.
-#[derive(Debug, Drop, PartialEq)]
+#[derive(Drop, PartialEq)]
 pub enum Entry {
     /// The call of a seat, and its answer. Seats count from 1.
     Decided {

@@ -14,7 +14,7 @@ use std::alloc::Global;
 use std::marker::Model;
 
 /// A message (POSIX.1-2017, `msgsnd`).
-#[derive(Debug, Drop, PartialEq)]
+#[derive(Drop, PartialEq)]
 pub struct Message {
     /// Its number on its queue, from 1 on, in order of acceptance.
     pub serial: u64,
@@ -55,7 +55,7 @@ impl Message {
 }
 
 /// Messages in order of acceptance, which contracts see as a list.
-#[derive(Debug, Drop)]
+#[derive(Drop)]
 pub struct Messages {
     items: Vec<Message>,
 }

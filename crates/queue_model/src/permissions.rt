@@ -14,7 +14,7 @@ pub const READ: u16 = 4;
 pub const WRITE: u16 = 2;
 
 /// What a call needs of a queue's mode.
-#[derive(Clone, Copy, Debug, PartialEq, Eq)]
+#[derive(Clone, Copy, PartialEq, Eq)]
 pub enum Access {
     /// Receive and Stat read.
     Read,
@@ -23,7 +23,7 @@ pub enum Access {
 }
 
 /// Owner, creator and mode of a queue (`ipc_perm` of POSIX.1-2017, `<sys/ipc.h>`).
-#[derive(Clone, Copy, Debug, PartialEq, Eq)]
+#[derive(Clone, Copy, PartialEq, Eq)]
 pub struct Permissions {
     /// User id of the owner.
     pub uid: u32,

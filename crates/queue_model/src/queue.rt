@@ -16,7 +16,7 @@ use std::alloc::Global;
 
 /// A queue. Its `qnum` is the number of its messages, its `cbytes` the bytes that
 /// they have together.
-#[derive(Debug, Drop)]
+#[derive(Drop)]
 pub struct Queue {
     /// Its id, never given to another queue.
     pub id: u32,

@@ -21,7 +21,7 @@ use std::alloc::Global;
 use std::marker::Model;
 
 /// What became of a call.
-#[derive(Debug, Drop, PartialEq)]
+#[derive(Drop, PartialEq)]
 pub enum Applied {
     /// It is answered.
     Answer(Answer),
@@ -34,7 +34,7 @@ pub enum Applied {
 /// The queues that are alive in ascending order of id, the next id, and whether the
 /// system was stopped. Every system is lawful: it keeps the limits, and its ids, keys and
 /// serials are told apart.
-#[derive(Debug, Drop)]
+#[derive(Drop)]
 pub struct System {
     queues: Vec<Queue>,
     next_id: u32,

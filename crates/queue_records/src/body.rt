@@ -5,7 +5,7 @@ ghost use Rattle.std.specs.Prelude.{◌≡◌, length};
 use std::marker::Model;
 
 /// The bytes of a message, which contracts see as a list.
-#[derive(Debug, Drop)]
+#[derive(Drop)]
 pub struct Body<'a> {
     bytes: &'a [u8],
 }

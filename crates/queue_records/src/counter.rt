@@ -16,7 +16,7 @@ use bucket_page::fields::four_at;
 use numbers::limits::MAX_QUEUES;
 
 /// Which ids were given out, and how many queues are alive. A file has one such record.
-#[derive(Clone, Copy, Debug, PartialEq, Eq)]
+#[derive(Clone, Copy, PartialEq, Eq)]
 pub struct Counter {
     /// The id that the next new queue gets, at least 1; `END_OF_IDS` where none is left.
     pub next_id: u32,

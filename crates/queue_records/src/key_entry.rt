@@ -15,7 +15,7 @@ use bucket_page::RecordKey;
 use bucket_page::fields::four_at;
 
 /// Which queue a key has. A private queue has no such record.
-#[derive(Clone, Copy, Debug, PartialEq, Eq)]
+#[derive(Clone, Copy, PartialEq, Eq)]
 pub struct KeyEntry {
     /// The key.
     pub key: u32,

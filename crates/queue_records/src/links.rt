@@ -1,7 +1,7 @@
 //! Links of records, set where the record stands (docs/STEPS.md, "What a call writes").
 
 /// What becomes of a link.
-#[derive(Clone, Copy, Debug, PartialEq, Default)]
+#[derive(Clone, Copy, PartialEq, Default)]
 pub enum Link<T> {
     /// It stays as it is.
     #[default]
@@ -13,7 +13,7 @@ pub enum Link<T> {
 }
 
 /// What becomes of the links of a Message.
-#[derive(Clone, Copy, Debug, PartialEq, Default)]
+#[derive(Clone, Copy, PartialEq, Default)]
 pub struct MessageLinks {
     /// To the message before it on the queue.
     pub previous: Link<u64>,
@@ -24,7 +24,7 @@ pub struct MessageLinks {
 }
 
 /// What becomes of the links of a Type.
-#[derive(Clone, Copy, Debug, PartialEq, Default)]
+#[derive(Clone, Copy, PartialEq, Default)]
 pub struct TypeLinks {
     /// The first message of it, where it is another now.
     pub first: Option<u64>,
@@ -37,7 +37,7 @@ pub struct TypeLinks {
 }
 
 /// New links of a record. The rest of it stays.
-#[derive(Clone, Copy, Debug, PartialEq)]
+#[derive(Clone, Copy, PartialEq)]
 pub enum Links {
     /// Of a Message.
     Message(MessageLinks),

@@ -20,7 +20,7 @@ use bucket_page::fields::{eight_at, four_at};
 use numbers::limits::MAX_BODY;
 
 /// A message on a queue. The messages of a queue are a list, and so are those of each of its types.
-#[derive(Debug, Drop, PartialEq)]
+#[derive(Drop, PartialEq)]
 pub struct MessageEntry<'a> {
     /// The id of its queue.
     pub id: u32,

@@ -24,7 +24,7 @@ use numbers::limits::{MAX_MESSAGES, MAX_QBYTES, MODES};
 
 /// A queue, without its messages. What it has in common with the model's `Queue` and `QueueInfo`
 /// goes by the same names, since all three are named as POSIX names them.
-#[derive(Clone, Copy, Debug, PartialEq, Eq)]
+#[derive(Clone, Copy, PartialEq, Eq)]
 pub struct QueueEntry {
     /// Its id.
     pub id: u32,

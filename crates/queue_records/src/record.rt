@@ -16,7 +16,7 @@ use crate::value::Value;
 use bucket_page::RecordKey;
 
 /// A record: what its key and its value say together.
-#[derive(Debug, Drop, PartialEq)]
+#[derive(Drop, PartialEq)]
 pub enum Record<'a> {
     /// Counts queues.
     Counter(Counter),

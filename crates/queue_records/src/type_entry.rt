@@ -19,7 +19,7 @@ use bucket_page::fields::eight_at;
 
 /// A type of which a message stands on a queue. The messages of a type are a list, and so are the
 /// types of a queue, in ascending order.
-#[derive(Clone, Copy, Debug, PartialEq, Eq)]
+#[derive(Clone, Copy, PartialEq, Eq)]
 pub struct TypeEntry {
     /// The id of the queue.
     pub id: u32,

@@ -9,7 +9,7 @@ use bucket_page::fields::{write_eight, write_four, write_two};
 use std::marker::Model;
 
 /// The bytes of a record's value, which contracts see as a list. It takes no memory beside itself.
-#[derive(Debug, Drop)]
+#[derive(Drop)]
 pub struct Value {
     bytes: ArrayVec<u8, MAX_VALUE_BYTES>,
 }

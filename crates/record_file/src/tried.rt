@@ -1,7 +1,7 @@
 //! What an insert comes to.
 
 /// What an insert has come to.
-#[derive(Clone, Copy, Debug, PartialEq, Eq)]
+#[derive(Clone, Copy, PartialEq, Eq)]
 pub enum Tried {
     /// The record was put.
     IsPut,

@@ -11,7 +11,7 @@ use queue_model::Messages;
 use std::alloc::Global;
 
 /// The serials of the first and the last message of a type.
-#[derive(Clone, Copy, Debug)]
+#[derive(Clone, Copy)]
 pub(crate) struct Ends {
     pub(crate) first: Option<u64>,
     pub(crate) last: Option<u64>,

@@ -15,7 +15,7 @@ use queue_records::{Body, MessageEntry, QueueEntry, TypeEntry};
 use std::alloc::Global;
 
 /// The serials of the first and the last message of a type.
-#[derive(Clone, Copy, Debug)]
+#[derive(Clone, Copy)]
 pub(crate) struct TypeEnds {
     pub(crate) first: u64,
     pub(crate) last: u64,

@@ -12,7 +12,7 @@ use queue_records::{Counter, QueueEntry, Record};
 use std::alloc::Global;
 
 /// The serials that the record of a message names.
-#[derive(Clone, Copy, Debug, PartialEq)]
+#[derive(Clone, Copy, PartialEq)]
 pub struct MessageLinks {
     /// Of the message before it on the queue.
     pub previous: Option<u64>,
@@ -23,7 +23,7 @@ pub struct MessageLinks {
 }
 
 /// A message as it stands on a queue, and its links.
-#[derive(Debug, Drop)]
+#[derive(Drop)]
 pub struct Linked {
     pub message: Message,
     pub links: MessageLinks,

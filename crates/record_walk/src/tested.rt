@@ -16,7 +16,7 @@ use page_device::{PAYLOAD_BYTES, Page};
 use std::marker::Model;
 
 /// A bucket. Its keys need not ascend, since nothing tests that of a page that has changed.
-#[derive(Debug, Drop)]
+#[derive(Drop)]
 pub struct TestedBucket<'p> {
     depth: u8,
     pattern: u32,

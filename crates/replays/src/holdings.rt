@@ -7,14 +7,14 @@ use page_locks::{Lock, LockKind, LockName, LockTable, MAX_LOCKS, MAX_SEATS};
 use std::alloc::{AllocError, Global};
 
 /// A lock, and the seat that holds it.
-#[derive(Clone, Copy, Debug, PartialEq, Eq)]
+#[derive(Clone, Copy, PartialEq, Eq)]
 pub(crate) struct Holding {
     pub(crate) seat: u8,
     pub(crate) lock: Lock,
 }
 
 /// What became of the locks of a seat by an event.
-#[derive(Clone, Copy, Debug, PartialEq, Eq)]
+#[derive(Clone, Copy, PartialEq, Eq)]
 pub(crate) struct LockChange {
     /// The lock that it no longer holds in that kind.
     pub(crate) lost: Option<Lock>,

@@ -9,7 +9,7 @@ use std::alloc::{AllocError, Global};
 use std::marker::Model;
 
 /// Where a seat is in a script.
-#[derive(Clone, Copy, Debug, PartialEq, Eq)]
+#[derive(Clone, Copy, PartialEq, Eq)]
 pub struct Place {
     /// The place of its next line, where one is left.
     pub next: Option<usize>,
@@ -24,7 +24,7 @@ const NOWHERE: Place = Place {
 };
 
 /// Where each seat is in a script, and what the lines were replied.
-#[derive(Debug, Drop)]
+#[derive(Drop)]
 pub struct Progress<'a> {
     lines: &'a [Line],
     places: Vec<Place>,

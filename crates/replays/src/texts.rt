@@ -15,7 +15,7 @@ use std::alloc::Global;
 use std::io::Write;
 
 /// The texts of a replay, and whether it is traced.
-#[derive(Clone, Copy, Debug)]
+#[derive(Clone, Copy)]
 pub struct Texts<'a> {
     /// The script.
     pub script: &'a [u8],

@@ -13,7 +13,7 @@ use std::io::{self, ErrorKind};
 use std::os::unix::fs::FileExt;
 
 /// What stands in a journal: additions of calls, and images behind them.
-#[derive(Clone, Copy, Debug, Drop)]
+#[derive(Clone, Copy, Drop)]
 pub struct Chain {
     /// Whether calls may stand in it.
     pub takes_calls: bool,
@@ -77,7 +77,7 @@ impl Chain {
 }
 
 /// An entry that was read.
-#[derive(Clone, Copy, Debug, Drop)]
+#[derive(Clone, Copy, Drop)]
 struct Read {
     entry: Entry,
     sum: Sum,

@@ -63,7 +63,7 @@ const SEAL_BYTES: usize = 24;
 pub type Seal = [u8; SEAL_BYTES];
 
 /// How a head knows page 0 as it was when the journal began.
-#[derive(Clone, Copy, Debug, PartialEq, Eq)]
+#[derive(Clone, Copy, PartialEq, Eq)]
 pub enum PageZero {
     /// By its seal.
     Seal(Seal),
@@ -82,7 +82,7 @@ impl PageZero {
 }
 
 /// What a head says.
-#[derive(Clone, Copy, Debug, PartialEq, Eq)]
+#[derive(Clone, Copy, PartialEq, Eq)]
 pub struct Head {
     /// How many pages the file had.
     pub count: u32,
@@ -95,7 +95,7 @@ pub struct Head {
 }
 
 /// What stands where a head is looked for.
-#[derive(Clone, Copy, Debug, PartialEq, Eq)]
+#[derive(Clone, Copy, PartialEq, Eq)]
 pub enum FoundHead {
     /// No whole head, as where a kill or a crash has cut off its writing.
     Torn,
@@ -241,7 +241,7 @@ pub fn begin_sum(before: &Sum, word: &Word) -> Sha256 {
 pub type Word = [u8; 4];
 
 /// What a word says that follows.
-#[derive(Clone, Copy, Debug, PartialEq, Eq)]
+#[derive(Clone, Copy, PartialEq, Eq)]
 pub enum Entry {
     /// The image of a page.
     Image,

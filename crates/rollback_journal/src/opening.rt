@@ -28,7 +28,7 @@ const TRIES: u32 = 16;
 const NAP: u64 = 10;
 
 /// A file that is to be opened to change it.
-#[derive(Clone, Copy, Debug, PartialEq, Eq)]
+#[derive(Clone, Copy, PartialEq, Eq)]
 pub struct Opening<'a> {
     /// Its name.
     pub path: &'a str,
@@ -103,7 +103,7 @@ impl OpenError {
 }
 
 /// Who makes the calls that stand in a journal.
-#[derive(Clone, Copy, Debug, PartialEq, Eq)]
+#[derive(Clone, Copy, PartialEq, Eq)]
 enum Calls {
     /// Who opens the file.
     AreMade,

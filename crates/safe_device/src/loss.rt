@@ -9,7 +9,7 @@ use std::alloc::Global;
 use std::io;
 
 /// What a crash takes of the changes of a file that were not synced.
-#[derive(Clone, Copy, Debug, PartialEq, Eq)]
+#[derive(Clone, Copy, PartialEq, Eq)]
 pub enum Loss {
     /// None of them, as when a program is killed.
     Nothing,

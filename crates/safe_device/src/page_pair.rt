@@ -10,7 +10,7 @@ use std::io;
 use thiserror::Error;
 
 /// What a journal says of itself, where a whole one is found.
-#[derive(Clone, Copy, Debug, PartialEq, Eq)]
+#[derive(Clone, Copy, PartialEq, Eq)]
 pub struct FoundJournal {
     /// How many pages the file had.
     pub count: u32,

@@ -1,7 +1,7 @@
 //! What an answer that is told outlasts.
 
 /// When the calls that were decided are saved.
-#[derive(Clone, Copy, Debug, PartialEq, Eq)]
+#[derive(Clone, Copy, PartialEq, Eq)]
 pub enum Durability {
     /// Before anybody is told what came of them.
     EachGroup,

@@ -16,7 +16,7 @@ use frames::{
 };
 
 /// Whether the relay says more.
-#[derive(Clone, Copy, Debug, PartialEq, Eq)]
+#[derive(Clone, Copy, PartialEq, Eq)]
 pub enum Heard {
     /// It does.
     Going,

@@ -3,7 +3,7 @@
 use bucket_page::RecordKey;
 
 /// A record that is to be put, and for which its bucket has no room.
-#[derive(Clone, Copy, Debug, PartialEq, Eq)]
+#[derive(Clone, Copy, PartialEq, Eq)]
 pub struct Wanted {
     /// Its key.
     pub key: RecordKey,

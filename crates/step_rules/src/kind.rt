@@ -9,7 +9,7 @@ pub const MERGED_BYTES: usize = 2024;
 /// What one step does (docs/STEPS.md, "The kinds of step"). The first eight leave the structure
 /// of the file, the next seven are those of a split and a doubling, the last six those of a
 /// merge and a halving.
-#[derive(Clone, Copy, Debug, PartialEq, Eq)]
+#[derive(Clone, Copy, PartialEq, Eq)]
 pub enum Kind {
     /// One lock is granted.
     Grant,

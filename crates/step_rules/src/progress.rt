@@ -3,7 +3,7 @@
 use crate::kind::Kind;
 
 /// The answer to a seat that steps. `F` is the faults that its machine can meet.
-#[derive(Clone, Copy, Debug, PartialEq, Eq)]
+#[derive(Clone, Copy, PartialEq, Eq)]
 pub enum Progress<F> {
     /// A step of this kind was made.
     Moved(Kind),

@@ -25,7 +25,7 @@ pub trait Gate {
 }
 
 /// A gate that stands open.
-#[derive(Clone, Copy, Debug, Drop, PartialEq, Eq)]
+#[derive(Clone, Copy, Drop, PartialEq, Eq)]
 pub struct Open;
 
 impl Gate for Open {

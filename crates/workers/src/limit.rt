@@ -4,7 +4,7 @@ use std::time::{Clock, Duration, Instant};
 
 /// A limit of time for a call, from the moment at which it was begun; none is known where the clock
 /// can't be read.
-#[derive(Clone, Copy, Debug, Drop)]
+#[derive(Clone, Copy, Drop)]
 pub(crate) struct Limit {
     start: Option<Instant>,
     most: Duration,

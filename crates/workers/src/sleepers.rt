@@ -54,7 +54,7 @@ impl Signals {
 }
 
 /// Some of those that may sleep.
-#[derive(Clone, Copy, Debug, Drop, PartialEq, Eq)]
+#[derive(Clone, Copy, Drop, PartialEq, Eq)]
 pub(crate) struct Sleepers {
     /// A bit for each seat by whose names one was blocked. That sleeps until this seat gives a name
     /// back.

@@ -23,7 +23,7 @@ const LONGEST: u32 = 4;
 
 /// What is left of the patience of a thread: in each pause it lets others go on, for longer than
 /// in the one before.
-#[derive(Clone, Copy, Debug, Drop)]
+#[derive(Clone, Copy, Drop)]
 pub(crate) struct Patience {
     pauses: u32,
 }

@@ -8,7 +8,7 @@ use queue_model::Answer;
 use xsi_inquiry::{Room, Verdict};
 
 /// What a call has come to at its Decide.
-#[derive(Clone, Copy, Debug)]
+#[derive(Clone, Copy)]
 pub enum Conclusion {
     /// It is answered. The bytes of a message that was received are in its room.
     Answers(Verdict),

@@ -11,7 +11,7 @@ use record_file::Access;
 use xsi_inquiry::Write;
 
 /// One deed of a plan: it is one access.
-#[derive(Debug, Drop)]
+#[derive(Drop)]
 pub enum Deed<'a> {
     /// This record is inserted on trial.
     Trial(Record<'a>),

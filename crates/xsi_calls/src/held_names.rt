@@ -18,7 +18,7 @@ use std::marker::Model;
 use step_rules::{Kind, Progress};
 
 /// The names that a call holds, in the order in which it took them, each with its kind.
-#[derive(Debug, Drop)]
+#[derive(Drop)]
 pub struct HeldNames {
     locks: ArrayVec<Lock, MAX_NAMES>,
 }

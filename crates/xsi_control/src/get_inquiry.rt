@@ -15,7 +15,7 @@ use xsi_inquiry::{
 };
 
 /// How far a Get has come.
-#[derive(Clone, Copy, Debug)]
+#[derive(Clone, Copy)]
 pub enum Getting {
     /// The Key of its key is to be read.
     AtKey,
@@ -32,7 +32,7 @@ pub enum Getting {
 /// A Get (POSIX.1-2017, `msgget()`). It reads the Key, where it has a key, and the Counter
 /// where a queue is to be made. It holds its key, and to make a queue the Counter and the queue
 /// of the next id too.
-#[derive(Clone, Copy, Debug)]
+#[derive(Clone, Copy)]
 pub struct GetInquiry {
     caller: Caller,
     getting: Getting,

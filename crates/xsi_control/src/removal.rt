@@ -7,7 +7,7 @@ use queue_records::{Counter, Record, key_key, queue_key};
 use xsi_inquiry::Write;
 
 /// A queue that goes once its messages are swept.
-#[derive(Clone, Copy, Debug)]
+#[derive(Clone, Copy)]
 pub struct Removal {
     /// Its key, which has a Key; none where it is private.
     pub key: Option<u32>,

@@ -17,7 +17,7 @@ use xsi_inquiry::{Decision, Inquiry, NotASystem, Room, Sweep, Wanted, Write};
 /// A Remove (POSIX.1-2017, `msgctl()` with `IPC_RMID`). It is given an id. It has two phases, since
 /// the names that it needs depend on the queue's key: it reads the Queue; then, under the names,
 /// the Queue again and the Counter.
-#[derive(Clone, Copy, Debug)]
+#[derive(Clone, Copy)]
 pub struct RemoveInquiry {
     caller: Caller,
     stage: Stage,

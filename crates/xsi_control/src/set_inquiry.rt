@@ -11,7 +11,7 @@ use xsi_inquiry::{Decision, Inquiry, NotASystem, Room, Sought, Verdict, Wanted, 
 /// A Set (POSIX.1-2017, `msgctl()` with `IPC_SET`). Where `qbytes` is over the limit of all
 /// queues it reads nothing; else it reads the Queue; where there is none, it asks whether the
 /// id was given out.
-#[derive(Clone, Copy, Debug)]
+#[derive(Clone, Copy)]
 pub struct SetInquiry {
     caller: Caller,
     sought: Sought,

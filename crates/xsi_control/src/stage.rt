@@ -18,7 +18,7 @@ use xsi_inquiry::type_chains::permissions_in;
 use xsi_inquiry::{NotASystem, Sought, counter_in, queue_in};
 
 /// What is known, and with it what is asked next.
-#[derive(Clone, Copy, Debug)]
+#[derive(Clone, Copy)]
 pub enum Stage {
     /// The queue is sought.
     Seeking(Sought),

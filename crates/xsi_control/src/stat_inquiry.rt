@@ -7,7 +7,7 @@ use xsi_inquiry::{Decision, Inquiry, NotASystem, Room, Sought, Verdict, Wanted, 
 
 /// A Stat (POSIX.1-2017, `msgctl()` with `IPC_STAT`). It is given an id. It reads the Queue; where
 /// there is none, it asks whether the id was given out.
-#[derive(Clone, Copy, Debug)]
+#[derive(Clone, Copy)]
 pub struct StatInquiry {
     caller: Caller,
     sought: Sought,

@@ -13,7 +13,7 @@ use xsi_inquiry::{NotASystem, Wanted, Write, message_in};
 
 /// A turn of a sweep: of the queue's messages it takes away the first that is left. It
 /// reads that Message alone.
-#[derive(Clone, Copy, Debug)]
+#[derive(Clone, Copy)]
 pub struct Turn {
     /// The queue.
     pub id: u32,
@@ -24,7 +24,7 @@ pub struct Turn {
 }
 
 /// What a turn keeps of its Message.
-#[derive(Clone, Copy, Debug)]
+#[derive(Clone, Copy)]
 pub struct MessageRead {
     /// The serial of the next turn; none behind the last message.
     pub next: Option<u64>,

@@ -7,7 +7,7 @@ use crate::verdict::Verdict;
 use queue_model::Errno;
 
 /// The messages of a queue that goes.
-#[derive(Clone, Copy, Debug, PartialEq)]
+#[derive(Clone, Copy, PartialEq)]
 pub struct Sweep {
     /// The queue.
     pub id: u32,
@@ -16,7 +16,7 @@ pub struct Sweep {
 }
 
 /// What a call decides on what it read. What it writes is asked of it one by one.
-#[derive(Clone, Copy, Debug)]
+#[derive(Clone, Copy)]
 pub enum Decision {
     /// It can't be done now: it waits, or is refused with EINTR once the system is
     /// stopped. Nothing is written.

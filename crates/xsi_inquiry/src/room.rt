@@ -9,7 +9,7 @@ use std::marker::Model;
 
 /// Room that is taken once, when a call begins, and moves into its answer. The bytes of a message
 /// that is received are copied here, out of its page.
-#[derive(Debug, Drop)]
+#[derive(Drop)]
 pub struct Room {
     bytes: Vec<u8>,
     most: usize,

@@ -12,7 +12,7 @@ use xsi_inquiry::{Decision, Inquiry, NotASystem, Room, Taken, Verdict, Wanted, W
 /// A Receive (POSIX.1-2017, `msgrcv()`) of a caller, as far as it has come with its reading: three
 /// records at most, however many messages stand on the queue. It keeps no bytes: those of the
 /// message go into the room.
-#[derive(Clone, Copy, Debug)]
+#[derive(Clone, Copy)]
 pub struct ReceiveInquiry {
     caller: Caller,
     stage: Stage,

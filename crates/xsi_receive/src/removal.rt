@@ -11,7 +11,7 @@ use queue_records::{
 use xsi_inquiry::{NotASystem, Write};
 
 /// What becomes of the Type of a message that is taken.
-#[derive(Clone, Copy, Debug, PartialEq)]
+#[derive(Clone, Copy, PartialEq)]
 pub enum TypeLeft {
     /// The message of this serial is the first of it now.
     Begins(u64),
@@ -21,7 +21,7 @@ pub enum TypeLeft {
 }
 
 /// A message that is taken off its queue.
-#[derive(Clone, Copy, Debug)]
+#[derive(Clone, Copy)]
 pub struct Removal {
     /// The Queue without it.
     pub queue: QueueEntry,

@@ -20,7 +20,7 @@ use type_chains::permissions_in;
 use xsi_inquiry::{NotASystem, Room, Sought, Wanted, message_in, type_in};
 
 /// What is known, and with it what is asked next.
-#[derive(Clone, Copy, Debug)]
+#[derive(Clone, Copy)]
 pub enum Stage {
     /// The queue is sought.
     Seeking(Sought),

@@ -16,7 +16,7 @@ use xsi_control::{MessageRead, Turn};
 use xsi_inquiry::{NotASystem, Write, message_in};
 
 /// What is done in a turn, by one access.
-#[derive(Clone, Copy, Debug)]
+#[derive(Clone, Copy)]
 pub(crate) enum Deed {
     /// The Message is found.
     Reading,
@@ -27,7 +27,7 @@ pub(crate) enum Deed {
 }
 
 /// What follows a deed.
-#[derive(Clone, Copy, Debug)]
+#[derive(Clone, Copy)]
 pub(crate) enum Next {
     /// This one, of the same turn.
     Goes(Deed),

@@ -9,7 +9,7 @@ use xsi_inquiry::{Decision, Inquiry, NotASystem, Room, Verdict, Wanted, Write};
 /// A Send (POSIX.1-2017, `msgsnd()`) of a caller, as far as it has come with its reading: the
 /// Queue, then the Type of the message's type; where there is none, the Types from the lowest on up
 /// to the first that is greater.
-#[derive(Clone, Copy, Debug)]
+#[derive(Clone, Copy)]
 pub struct SendInquiry {
     caller: Caller,
     stage: Stage,

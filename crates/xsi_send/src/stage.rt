@@ -12,7 +12,7 @@ use queue_records::{QueueEntry, Record, type_key};
 use xsi_inquiry::{NotASystem, Sought, Wanted};
 
 /// What is known, and with it which record is read next.
-#[derive(Clone, Copy, Debug)]
+#[derive(Clone, Copy)]
 pub enum Stage {
     /// The queue is sought.
     Seeking(Sought),
@@ -29,7 +29,7 @@ pub enum Stage {
 }
 
 /// A way up the types of a queue, from the lowest on.
-#[derive(Clone, Copy, Debug)]
+#[derive(Clone, Copy)]
 pub struct Walk {
     /// The Queue.
     pub queue: QueueEntry,

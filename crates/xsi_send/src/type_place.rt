@@ -1,7 +1,7 @@
 //! Where the type of a message that is sent stands among the types of its queue.
 
 /// What a Send read of the types of its queue.
-#[derive(Clone, Copy, Debug)]
+#[derive(Clone, Copy)]
 pub enum TypePlace {
     /// A message of the type stands on the queue; the last one of it has this serial.
     Standing(u64),

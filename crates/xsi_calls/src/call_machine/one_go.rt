@@ -25,7 +25,7 @@ pub const QUESTION_STEPS: u32 = 7;
 pub const WRITE_STEPS: u32 = 8;
 
 /// How far a call has gone in one go.
-#[derive(Clone, Copy, Debug)]
+#[derive(Clone, Copy)]
 pub struct Gone {
     /// So many steps were made, each of which moved.
     pub moves: u32,
