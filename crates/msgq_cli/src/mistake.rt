@@ -21,7 +21,7 @@ pub enum Mistake {
 }
 
 /// What could stand at a word's place.
-#[derive(Clone, Copy, PartialEq, Eq)]
+#[derive(Clone, Copy, Debug, PartialEq, Eq)]
 pub enum Expected {
     /// A seat or `ids`, the first word of a line.
     SeatOrIds,
@@ -50,7 +50,7 @@ pub enum Expected {
 }
 
 /// A call that may have options.
-#[derive(Clone, Copy, PartialEq, Eq)]
+#[derive(Clone, Copy, Debug, PartialEq, Eq)]
 pub enum Optional {
     Get,
     Send,
