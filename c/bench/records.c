@@ -6,7 +6,7 @@
 #include <string.h>
 
 static struct key key_of(uint32_t queue, uint64_t serial) {
-    struct key it = {serial, queue, 0};
+    struct key it = {queue, (uint32_t)serial, (uint32_t)(serial >> 32)};
     return it;
 }
 

@@ -1,15 +1,15 @@
-/* Queues in a store that has records by their keys, in no order: GDBM and TDB. A queue is one record, with a row of each type that stands: its first and
- * last serial. A message is one, with the next serial of its type. */
+/* Queues in a store that has records by their keys, in no order: GDBM and TDB. A queue is one record, with a row for each type that stands: its
+ * first and last serial. A message is one, with the next serial of its type. So the first of a type is found in the row that is bisected for, the lowest
+ * type in the first row, and the first of all messages by a look at each row. */
 #ifndef MSGQ_RECORDS_H
 #define MSGQ_RECORDS_H
 
 #include "head.h"
 #include "store.h"
 
-/* Of a queue: serial 0. Of the last id that was given: queue 0. */
+/* A queue, and both halves of a serial: 0 for the queue itself. Of the last id that was given: all of them 0. */
 struct key {
-    uint64_t serial;
-    uint32_t queue, zero;
+    uint32_t queue, low, high;
 };
 
 struct row {

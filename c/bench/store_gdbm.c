@@ -1,9 +1,11 @@
-/* GDBM: a file that is not brought to the disk, with room in memory for all of its buckets. */
+/* GDBM: a file that is not brought to the disk, with room in memory for all of its buckets, which are small, since a call writes whole ones. */
 #include "records.h"
 
 #include <gdbm.h>
 #include <stdlib.h>
 #include <string.h>
+
+enum { BLOCK = 1024 };
 
 static datum datum_of(const void *bytes, size_t count) {
     datum it = {(char *)bytes, (int)count};
@@ -35,7 +37,7 @@ static void *open_gdbm(const char *path, uint32_t pages) {
     struct records *it = calloc(1, sizeof *it);
     must(it != NULL, "GDBM: memory");
     *it = (struct records){.fetch = fetch, .put = put, .drop = drop, .caller = this_caller()};
-    it->at = gdbm_open(path, 4096, GDBM_NEWDB | GDBM_NOLOCK, 0600, NULL);
+    it->at = gdbm_open(path, BLOCK, GDBM_NEWDB | GDBM_NOLOCK, 0600, NULL);
     must(it->at != NULL && gdbm_setopt(it->at, GDBM_SETCACHESIZE, &cache, sizeof cache) == 0, "GDBM: a file");
     return it;
 }

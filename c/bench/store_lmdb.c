@@ -64,17 +64,17 @@ static void drop(struct tree *it, MDB_txn *call, const struct key *key) {
     hold(mdb_del(call, it->at, &name, NULL), "LMDB: a delete");
 }
 
-/* The first record from a key on, which is read into it. */
-static bool seek(struct tree *it, MDB_txn *call, struct key *key, MDB_val *value) {
+/* A cursor on the first record from a key on, which is read into it; NULL where there is none. It is closed with its transaction. */
+static MDB_cursor *seek(struct tree *it, MDB_txn *call, struct key *key, MDB_val *value) {
     MDB_cursor *cursor;
     MDB_val name = bytes_of(key, sizeof *key);
     hold(mdb_cursor_open(call, it->at, &cursor), "LMDB: a cursor");
     int code = mdb_cursor_get(cursor, &name, value, MDB_SET_RANGE);
     must(code == 0 || code == MDB_NOTFOUND, "LMDB: a seek");
-    if (code == 0)
-        memcpy(key, name.mv_data, sizeof *key);
-    mdb_cursor_close(cursor);
-    return code == 0;
+    if (code != 0)
+        return NULL;
+    memcpy(key, name.mv_data, sizeof *key);
+    return cursor;
 }
 
 static bool load(struct tree *it, MDB_txn *call, uint32_t id, struct head *head) {
@@ -142,22 +142,24 @@ static int send(void *with, uint32_t id, int64_t type, const void *body, size_t 
     return end(call, 0);
 }
 
-/* The key and the bytes of the message that a type selects. */
-static bool select_message(struct tree *it, MDB_txn *call, uint32_t id, int64_t type, struct key *key, MDB_val *value) {
+static bool is_of(const struct key *key, enum kind kind, uint32_t id) {
+    return be32toh(key->kind) == kind && be32toh(key->queue) == id;
+}
+
+/* The key and the bytes of the message that a type selects, and a cursor on its place (type 0) or on itself; NULL for none. */
+static MDB_cursor *select_message(struct tree *it, MDB_txn *call, uint32_t id, int64_t type, struct key *key, MDB_val *value) {
+    *key = type == 0 ? key_of(PLACE, id, 0, 0) : key_of(MESSAGE, id, type > 0 ? (uint64_t)type : 0, 0);
+    MDB_cursor *found = seek(it, call, key, value);
+    if (found == NULL || !is_of(key, type == 0 ? PLACE : MESSAGE, id))
+        return NULL;
     if (type == 0) {
-        int64_t found;
-        *key = key_of(PLACE, id, 0, 0);
-        if (!seek(it, call, key, value) || be32toh(key->kind) != PLACE || be32toh(key->queue) != id)
-            return false;
-        memcpy(&found, value->mv_data, sizeof found);
-        *key = key_of(MESSAGE, id, (uint64_t)found, be64toh(key->number));
-        return fetch(it, call, key, value);
+        int64_t here;
+        memcpy(&here, value->mv_data, sizeof here);
+        *key = key_of(MESSAGE, id, (uint64_t)here, be64toh(key->number));
+        return fetch(it, call, key, value) ? found : NULL;
     }
-    *key = key_of(MESSAGE, id, type > 0 ? (uint64_t)type : 0, 0);
-    if (!seek(it, call, key, value) || be32toh(key->kind) != MESSAGE || be32toh(key->queue) != id)
-        return false;
-    int64_t found = (int64_t)be64toh(key->number);
-    return type > 0 ? found == type : found + type <= 0;
+    int64_t here = (int64_t)be64toh(key->number);
+    return (type > 0 ? here == type : here + type <= 0) ? found : NULL;
 }
 
 static int receive(void *with, uint32_t id, int64_t type, void *room, size_t size, struct answer *answer) {
@@ -169,15 +171,16 @@ static int receive(void *with, uint32_t id, int64_t type, void *room, size_t siz
     int wrong = load(it, call, id, &head) ? refuse_receive(&head, &it->caller) : EINVAL;
     if (wrong != 0)
         return end(call, wrong);
-    if (!select_message(it, call, id, type, &key, &value))
+    MDB_cursor *found = select_message(it, call, id, type, &key, &value);
+    if (found == NULL)
         return end(call, ENOMSG);
     *answer = (struct answer){(int64_t)be64toh(key.number), be64toh(key.serial), value.mv_size - offsetof(struct message, body)};
     if (answer->length > size)
         return end(call, E2BIG);
     memcpy(room, (char *)value.mv_data + offsetof(struct message, body), answer->length);
     struct key place = key_of(PLACE, id, answer->serial, 0);
-    drop(it, call, &key);
-    drop(it, call, &place);
+    hold(mdb_cursor_del(found, 0), "LMDB: a delete");
+    drop(it, call, type == 0 ? &key : &place);
     note_receive(&head, &it->caller, answer->length);
     save(it, call, id, &head);
     return end(call, 0);

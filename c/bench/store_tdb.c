@@ -1,4 +1,5 @@
-/* TDB: a mapped file that is neither locked nor brought to the disk, with as many chains as it has records at most. */
+/* TDB: a mapped file that is neither locked nor brought to the disk, with as many chains as it has records at most, and the quicker of its two
+ * ways to tell them apart. */
 #include "records.h"
 
 #include <fcntl.h>
@@ -46,7 +47,7 @@ static void *open_tdb(const char *path, uint32_t pages) {
     (void)pages;
     must(it != NULL, "TDB: memory");
     *it = (struct records){.fetch = fetch, .put = put, .drop = drop, .caller = this_caller()};
-    it->at = tdb_open(path, CHAINS, TDB_NOLOCK | TDB_NOSYNC, O_RDWR | O_CREAT | O_TRUNC, 0600);
+    it->at = tdb_open(path, CHAINS, TDB_NOLOCK | TDB_NOSYNC | TDB_INCOMPATIBLE_HASH, O_RDWR | O_CREAT | O_TRUNC, 0600);
     must(it->at != NULL, "TDB: a file");
     return it;
 }
