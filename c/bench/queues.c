@@ -91,7 +91,7 @@ static void plan_mixture(struct plan *plan) {
         if (any(&seed, 10) < (at % 2000 < 1000 ? 7 : 3))
             plan_send(plan, queue, 1 + any(&seed, 12), size);
         else
-            plan_receive(plan, queue, (int64_t)any(&seed, 27) - 13, any(&seed, 3) == 0 ? size : MOST_BODY);
+            plan_receive(plan, queue, any(&seed, 50) == 0 ? INT64_MIN : (int64_t)any(&seed, 27) - 13, any(&seed, 3) == 0 ? size : MOST_BODY);
     }
 }
 

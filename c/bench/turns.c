@@ -72,7 +72,7 @@ int main(int argc, char **argv) {
     struct handle session = {0};
     struct owner owner = {1, 0, 0};
     struct get_call get = {.create = true, .mode = 0600, .moment = 1};
-    msgq *queues;
+    msgq *queues = NULL;
     uint8_t sum[DIGEST_BYTES];
     must(argc == 2, "usage: turns NEW_FILE");
     must(msgq_session_create(&session, &owner, 352) == DONE, "a session");
