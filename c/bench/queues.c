@@ -162,7 +162,8 @@ static void try_stores(const char *path, const char *only) {
 int main(int argc, char **argv) {
     long rounds = argc > 2 ? atol(argv[2]) : 10000, runs = argc > 3 ? atol(argv[3]) : 5, only = argc > 4 ? atol(argv[4]) : 0;
     const char *store = argc > 5 ? argv[5] : NULL;
-    must(argc > 1 && argc < 7 && rounds > 0 && runs > 0 && runs <= MOST_RUNS, "usage: queues NEW_FILE [ROUNDS [RUNS [CASE [STORE]]]]");
+    must(argc > 1 && argc < 7 && rounds > 0 && runs > 0 && runs <= MOST_RUNS && only >= 0 && only <= COUNT_CASES,
+         "usage: queues NEW_FILE [ROUNDS [RUNS [CASE [STORE]]]]");
     try_stores(argv[1], store);
     for (long at = 0; at < COUNT_CASES; at++)
         if (only == 0 || only == at + 1)
