@@ -39,13 +39,13 @@ static const struct peer PEERS[] = {
     {&STORE_MSGQ, 1},
     {&STORE_SYSTEM, 4},
 #ifdef HAS_SQLITE3
-    {&STORE_SQLITE, 0.5},
+    {&STORE_SQLITE, 0.4},
 #endif
 #ifdef HAS_LMDB
     {&STORE_LMDB, 1},
 #endif
 #ifdef HAS_GDBM
-    {&STORE_GDBM, 1},
+    {&STORE_GDBM, 0.8},
 #endif
 #ifdef HAS_TDB
     {&STORE_TDB, 2},
