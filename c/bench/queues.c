@@ -24,6 +24,7 @@ struct timed {
 static const struct timed CASES[] = {
     {"64 bytes by turns", 352, 1, 0, 1, 64, 1, 0, false},
     {"24 bytes, type -8 behind 512 messages of 16 types", 352, 1, 512, 16, 24, 1, -8, false},
+    {"64 bytes, a new type each time", 352, 1, 0, 1, 64, 0, 0, true},
     {"64 bytes, a new type each time above 200 others", 352, 1, 200, 200, 64, 0, 0, true},
     {"1,024 bytes by turns", 352, 1, 0, 1, 1024, 1, 0, false},
     {"64 bytes, 64 queues by turns with 200 messages each, 4,096 pages", 4096, 64, 200, 4, 64, 1, 0, false},
