@@ -15,7 +15,7 @@ use bucket_page::{KeptKeys, ShaKey};
 use msgq_cli::Script;
 use page_device::PageDevice;
 use queue_model::{Caller, NoMemory};
-use session::FileKeys;
+use replays::FileKeys;
 use std::alloc::Global;
 use workers::Prepared;
 use workers::interleavings::interleaving_core::{FRAMES_BESIDE, OpenFault};

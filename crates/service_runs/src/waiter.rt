@@ -7,7 +7,7 @@ ghost use Rattle.workers.specs.Told.{IsSameSeat, SeesFull};
 
 use page_device::PageDevice;
 use queue_model::{Answer, Call};
-use session::FileKeys;
+use replays::FileKeys;
 use std::sync::Mutex;
 use workers::{Base, Fault, Open, Room, Seat, Service, Stopper};
 
