@@ -1,19 +1,18 @@
 -- A command, once its sync is made or not.
-use Rattle.std.proofs.Common.{ℕ, ◌≡◌, ◌⊎◌, inl, inr, IsTrue, refl, sym, ap, ◌∙◌, subst, Bool, true, false, List, Option, length, Result, Ok, Err}
+use Rattle.std.proofs.Common.{ℕ, ◌≡◌, inl, inr, IsTrue, refl, sym, subst, Bool, true, false, List, Option, Result, Ok, Err}
 use Rattle.std.specs.Prelude.{◌&&◌, OnOk, is_ok}
 use Rattle.page_device.specs.Device.{HasRisen}
-use Rattle.bucket_page.specs.Pseudokeys.{sha_key}
 use Rattle.command_runs.specs.Running.{IfUnprinted, IfUnwritten, RunsOn, seen}
 use Rattle.command_runs.specs.declared.error.CommandError.{CommandError}
 use Rattle.command_runs.specs.declared.error.CommandError.TheVariants.{Unclosed}
-use Rattle.deferred_sync.specs.Deferred.{Commits, IsLent, Start, start_of}
+use Rattle.deferred_sync.specs.Deferred.{Commits, Start}
 use Rattle.deferred_sync.specs.safe_device.Device.{DeviceState}
 use Rattle.deferred_sync.specs.safe_device.Left.{Left}
-use Rattle.interleavings.specs.LoneKernelWords.{Caller, IsFileOf, restarted}
+use Rattle.interleavings.specs.LoneKernelWords.{Caller}
 use Rattle.interleavings.specs.interleaving_core.declared.fault.CloseFault.TheVariants as closes
 use Rattle.queue_commands.specs.declared.request.Request.{Request}
-use Rattle.crash_safe_runs.specs.Commands.{AsksOver, ConcludesAs, IsFileAfterCommand, IsFileOfCommand, told_of}
-use Rattle.crash_safe_runs.specs.Crash.{LeavesBeforeOrAfter, Pages}
+use Rattle.crash_safe_runs.specs.Commands.{AsksOver, ConcludesAs, IsFileAfterCommand, told_of}
+use Rattle.crash_safe_runs.specs.Crash.{Pages}
 use Rattle.crash_safe_runs.proofs.CrashLemmas.{before_or_after, only_before}
 use Rattle.crash_safe_runs.proofs.ScriptLemmas.{is_true}
 

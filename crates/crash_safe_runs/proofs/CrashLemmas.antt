@@ -1,5 +1,5 @@
 -- What a crash leaves of a device that is committed, or abandoned.
-use Rattle.std.proofs.Common.{arith, ℕ, ◌≡◌, inl, inr, ⊎_elim, IsTrue, sym, ◌∙◌, subst, Bool, true, List}
+use Rattle.std.proofs.Common.{ℕ, ◌≡◌, inl, inr, ⊎_elim, IsTrue, sym, subst, Bool, true}
 use Rattle.deferred_sync.specs.Deferred.{Commits, LeavesSince, Start}
 use Rattle.deferred_sync.specs.safe_device.Device.{DeviceState}
 use Rattle.deferred_sync.specs.safe_device.Left.{Left, alone}

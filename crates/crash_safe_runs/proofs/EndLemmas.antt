@@ -1,5 +1,5 @@
 -- How a run ends, and whether it is committed.
-use Rattle.std.proofs.Common.{ℕ, ◌≡◌, ◌⊎◌, inl, inr, refl, sym, ap, ◌∙◌, subst, Bool, true, false, List, Option, None, Some}
+use Rattle.std.proofs.Common.{ℕ, ◌≡◌, inl, inr, refl, ap, ◌∙◌, Bool, true, false, List, Option, None, Some}
 use Rattle.std.specs.List.{list_any}
 use Rattle.std.specs.Prelude.{if◌then◌else◌}
 use Rattle.numbers.specs.declared.faults.TheConstants.{DEVICE}
@@ -14,7 +14,6 @@ use Rattle.msgq_cli.specs.declared.reply.Reply.{Reply}
 use Rattle.replays.specs.Replays.{EndsWith, ending_by, is_fault_told}
 use Rattle.replays.specs.Runs.{EndsWell}
 use Rattle.crash_safe_runs.specs.Concluding.{is_to_commit, is_well}
-use Rattle.crash_safe_runs.specs.Scripts.{IsDone}
 
 -- a fault that no line met is no good ending
 pub alone_unwell : (fault : ℕ) (old new : OutputState) (ending : Ending) → IsFaultAlone fault old new ending →

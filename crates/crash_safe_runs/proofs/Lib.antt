@@ -3,4 +3,3 @@ pub mod EndLemmas
 pub mod ScriptLemmas
 pub mod CommandLemmas
 pub mod ReplayLemmas
-pub mod BesideLemmas

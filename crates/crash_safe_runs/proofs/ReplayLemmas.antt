@@ -1,31 +1,27 @@
 -- A script that is replayed, once its sync is made or not.
-use Rattle.std.proofs.Common.{ℕ, ◌≡◌, ◌↔◌, ◌⊎◌, inl, inr, IsTrue, refl, sym, ap, ◌∙◌, subst, Bool, true, false, true≢false, List, Option, None, Some, unwrap_or, Result, Ok, Err, arith}
+use Rattle.std.proofs.Common.{ℕ, ◌≡◌, ◌↔◌, ◌⊎◌, inl, inr, IsTrue, refl, sym, ap, ◌∙◌, subst, Bool, true, false, List, Option, None, Some, unwrap_or, Result, Ok, Err, arith}
 use Rattle.numbers.specs.declared.faults.TheConstants.{BUSY, DEVICE, FAILED, NO_MEMORY}
-use Rattle.bucket_page.specs.Pseudokeys.{sha_key}
-use Rattle.bucket_page.specs.declared.pseudokey.ShaKey.{ShaKey}
 use Rattle.deferred_sync.specs.Deferred.{Commits, IsLent, Start}
 use Rattle.deferred_sync.specs.safe_device.Device.{DeviceState}
 use Rattle.deferred_sync.specs.safe_device.Left.{Left}
-use Rattle.interleavings.specs.LoneKernelWords.{IsFileOf, KernelState, PoolState, State, restarted}
-use Rattle.interleavings.specs.Words.{after}
+use Rattle.interleavings.specs.LoneKernelWords.{KernelState, PoolState}
 use Rattle.msgq_cli.specs.Outputs.{OutputState}
 use Rattle.msgq_cli.specs.Refusals.{IsFaultAlone}
 use Rattle.msgq_cli.specs.Scripts.{Parts, script_of}
 use Rattle.msgq_cli.specs.declared.ending.Ending.{Ending}
-use Rattle.msgq_cli.specs.declared.ending.Ending.TheVariants.{WrongLine, WrongWord}
 use Rattle.replays.specs.Events.{ReplayState}
 use Rattle.replays.specs.PlainLists.{IsLeftWell}
-use Rattle.replays.specs.Replays.{ClosesWith, EndsWith, IsOpenedFor, MayEndWith}
+use Rattle.replays.specs.Replays.{EndsWith, IsOpenedFor, MayEndWith}
 use Rattle.replays.specs.Rounds.{is_over}
-use Rattle.replays.specs.Texts.{Effects, IsPlayed, IsUnopened, LeavesAll, LeavesFault, PlaysSchedule, PlaysScript, PlaysTexts}
+use Rattle.replays.specs.Texts.{Effects, IsPlayed, IsUnopened, LeavesFault, PlaysSchedule, PlaysScript, PlaysTexts}
 use Rattle.schedules.specs.Schedules.{schedule_of}
 use Rattle.schedules.specs.declared.event.Event.{Event}
 use Rattle.crash_safe_runs.specs.Concluding.{Concludes, fault_of, is_to_commit, is_well}
 use Rattle.crash_safe_runs.specs.Crash.{Pages}
-use Rattle.crash_safe_runs.specs.Replays.{IsFileAfterJournal, IsReplayedOver, ReplaysOver}
-use Rattle.crash_safe_runs.specs.Scripts.{IsDone, IsUnrun}
+use Rattle.crash_safe_runs.specs.Replays.{IsReplayedOver, ReplaysOver}
+use Rattle.crash_safe_runs.specs.Scripts.{IsDone}
 use Rattle.crash_safe_runs.proofs.CrashLemmas.{before_or_after, only_before}
-use Rattle.crash_safe_runs.proofs.EndLemmas.{IsCommittable, alone_unwell, committable, none_told, not_committable, replies_well, well_told}
+use Rattle.crash_safe_runs.proofs.EndLemmas.{alone_unwell, committable, none_told, not_committable, replies_well, well_told}
 use Rattle.crash_safe_runs.proofs.ScriptLemmas.{carried, done_to, is_true, lent_before, unopened, unrun}
 
 -- ---- numbers of faults

@@ -1,8 +1,6 @@
 -- A script that is run line by line, once its sync is made or not.
-use Rattle.std.proofs.Common.{arith, ℕ, ◌≡◌, ◌⊎◌, ◌≤◌, inl, inr, ⊎_elim, IsTrue, refl, sym, ap, ◌∙◌, subst, Bool, true, false, true≢false, List, Option, None, Some}
+use Rattle.std.proofs.Common.{ℕ, ◌≡◌, inl, inr, IsTrue, refl, sym, ap, ◌∙◌, subst, Bool, true, false, Option, None, Some}
 use Rattle.numbers.specs.declared.faults.TheConstants.{DEVICE}
-use Rattle.page_device.specs.Device.{HasRisen}
-use Rattle.bucket_page.specs.Pseudokeys.{sha_key}
 use Rattle.deferred_sync.specs.Deferred.{Commits, IsLent, Start, start_of}
 use Rattle.deferred_sync.specs.safe_device.Device.{DeviceState}
 use Rattle.deferred_sync.specs.safe_device.Left.{Left}
@@ -21,7 +19,7 @@ use Rattle.crash_safe_runs.specs.Concluding.{Concludes, IsAbandoned, fault_of, i
 use Rattle.crash_safe_runs.specs.Crash.{Pages}
 use Rattle.crash_safe_runs.specs.Scripts.{IsDone, IsRunOver, IsToldFile, IsUnrun, RunsOver, effects_on}
 use Rattle.crash_safe_runs.proofs.CrashLemmas.{before_or_after, only_before}
-use Rattle.crash_safe_runs.proofs.EndLemmas.{IsCommittable, alone_unwell, committable, ends_failed, ends_none, lines_well, none_told, not_committable, well_told}
+use Rattle.crash_safe_runs.proofs.EndLemmas.{alone_unwell, committable, ends_failed, ends_none, lines_well, none_told, not_committable, well_told}
 
 -- what is done to the pages, and printed
 abbrev pub done_to : (content : Pages) (was : ℕ) (first : OutputState) (untold : Bool) (left : Pages) (synced : Bool)

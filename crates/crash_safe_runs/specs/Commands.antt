@@ -1,5 +1,5 @@
 -- A command of a shell over a file and its journal. docs/SHELL.md, "What a command asks".
-use Rattle.std.specs.Prelude.{◌≡◌, ℕ, Bool, true, false, ◌&&◌, IsTrue, is_ok, Result, Ok, Err}
+use Rattle.std.specs.Prelude.{◌≡◌, ℕ, Bool, true, false, IsTrue, is_ok, Result, Ok, Err}
 use Rattle.bucket_page.specs.Pseudokeys.{sha_key}
 use Rattle.command_runs.specs.Running.{IsPrinted, Seen}
 use Rattle.command_runs.specs.declared.error.CommandError.{CommandError}

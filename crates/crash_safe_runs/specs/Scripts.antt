@@ -1,5 +1,5 @@
 -- A script that is run over a file and its journal. docs/SCRIPTS.md, "Runs".
-use Rattle.std.specs.Prelude.{◌≡◌, ◌⊎◌, ℕ, Bool, true, false, IsTrue, List, Option, None, Some}
+use Rattle.std.specs.Prelude.{◌≡◌, ◌⊎◌, ℕ, Bool, true, false, IsTrue, Option, None, Some}
 use Rattle.bucket_page.specs.Pseudokeys.{sha_key}
 use Rattle.deferred_sync.specs.Deferred.{LeavesSince}
 use Rattle.deferred_sync.specs.safe_device.Device.{DeviceState}
@@ -9,11 +9,8 @@ use Rattle.interleavings.specs.LoneKernelWords.{IsFileOf, State, restarted}
 use Rattle.msgq_cli.specs.Outputs.{OutputState}
 use Rattle.msgq_cli.specs.Scripts.{Parts}
 use Rattle.msgq_cli.specs.declared.ending.Ending.{Ending}
-use Rattle.replays.specs.Beside.{RunsBeside, is_of_one_seat, origin_on}
 use Rattle.replays.specs.PlainRuns.{IsPlainRun}
 use Rattle.replays.specs.Texts.{Effects}
-use Rattle.queue_model.specs.declared.entry.Entry.{Entry}
-use Rattle.workers.specs.Origins.{LeavesFile, Origin}
 use Rattle.crash_safe_runs.specs.Concluding.{is_well}
 use Rattle.crash_safe_runs.specs.Crash.{LeavesBeforeOrAfter, Pages}
 
@@ -42,11 +39,6 @@ IsToldFile true after pages = ⊥
 IsToldFile false None pages = ⊥
 IsToldFile false (Some s) pages = IsFileOf sha_key pages (restarted s)
 
--- the file of the system after the journal, where all answers were told
-pub record IsFileAfterAll (o : Origin) (untold : Bool) (journal : List Entry) (pages : Pages) : Type 0 where
-  pub told : untold ≡ false
-  pub file : LeavesFile o journal pages
-
 module _ {P : Type 0} (honest : Bool) (moment : P → ℕ) (left_since : P → ℕ → Left → Type 0)
     (may_leave : P → Left → Type 0) (began : ℕ) (left : ℕ → Left → Type 0) where
   -- nothing was run, and a crash at any moment leaves the pages of before
@@ -64,19 +56,3 @@ module _ {P : Type 0} (honest : Bool) (moment : P → ℕ) (left_since : P → �
 
   abbrev pub RunsOver : Parts → Effects → Ending → P → Type 0
   RunsOver script c ending pair = IsRunOver script c ending pair ⊎ IsUnrun c ending pair
-
-  -- the lines of several seats were made beside one another
-  pub record IsRunBesideOver (script : Parts) (c : Effects) (ending : Ending) (pair : P) : Type 0 where
-    pub run : RunsBeside script (origin_on script honest c) c ending
-    -- The pages of before are the file of one system; those of after are that of the system after the journal, of which
-    -- all answers were printed.
-    pub crash : IsTrue honest → LeavesBeforeOrAfter moment left_since may_leave began left c.content
-        (IsFileAfterAll (origin_on script honest c) c.untold run.journal) (IsDone c.untold run.fault) pair
-
-  -- a script of one seat is run line by line
-  abbrev pub RunsSeatsOver : (one : Bool) → Parts → Effects → Ending → P → Type 0
-  RunsSeatsOver true script c ending pair = RunsOver script c ending pair
-  RunsSeatsOver false script c ending pair = IsRunBesideOver script c ending pair ⊎ IsUnrun c ending pair
-
-  abbrev pub RunsScriptOver : Parts → Effects → Ending → P → Type 0
-  RunsScriptOver script c ending pair = RunsSeatsOver (is_of_one_seat script.lines) script c ending pair

@@ -5,7 +5,7 @@ use Rattle.std.proofs.lemmas.Bool.{cases_eq}
 use Rattle.std.proofs.lemmas.List.{length-set, get_or-set_other, get_or-set_same}
 use Rattle.std.specs.List.{AllZip}
 use Rattle.workers.specs.Origins.{Origin}
-use Rattle.replays.specs.Desks.{AreMade, AreUntouched, DeskView, IsFresh, IsMadeOf, desk_at, no_desk}
+use Rattle.service_runs.specs.Desks.{AreMade, AreUntouched, DeskView, IsFresh, IsMadeOf, desk_at, no_desk}
 
 -- ---- desks that each lead to something
 

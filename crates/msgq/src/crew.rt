@@ -2,11 +2,11 @@
 
 ghost use Rattle.std.specs.Prelude.{◌≡◌};
 ghost use Rattle.std.specs.Thread.{IsSend, IsSync};
-ghost use Rattle.replays.specs.Desks.{AreMade, AreUntouched, IsFresh, IsMadeOf};
+ghost use Rattle.service_runs.specs.Desks.{AreMade, AreUntouched, IsFresh, IsMadeOf};
 
 use page_device::PageDevice;
 use queue_model::{Answer, Call, Entry};
-use replays::{Desk, Shared, Waiter};
+use service_runs::{Desk, Shared, Waiter};
 use std::alloc::Global;
 use std::io::Eprint;
 use std::marker::Model;
@@ -133,7 +133,7 @@ struct Makes<'s, N: Room + Base> {
 }
 
 impl<'s, N: Room + Base> Promise<Desk<'s, N>> for Makes<'s, N> {
-    ghost use Rattle.replays.specs.Desks.{IsMadeOf};
+    ghost use Rattle.service_runs.specs.Desks.{IsMadeOf};
 
     ghost kept_by = { λ p d. IsMadeOf N.origin p.desk.value d };
 }
@@ -148,7 +148,7 @@ struct Work<'s, N: Room + Base> {
 
 impl<'s, N: Room + Base> Model for Work<'s, N> {
     ghost use Rattle.std.specs.Prelude.{◌≡◌, IfErr, IfOk};
-    ghost use Rattle.replays.specs.Desks.{DeskView, IsMadeOf};
+    ghost use Rattle.service_runs.specs.Desks.{DeskView, IsMadeOf};
 
     ghost Value = { DeskView };
 

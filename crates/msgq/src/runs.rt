@@ -3,13 +3,14 @@
 ghost use Rattle.std.specs.Prelude.{◌≡◌, ◌≤◌, ◌||◌, ℕ, IsTrue, false, length};
 ghost use Rattle.std.specs.List.{list_any};
 ghost use Rattle.bucket_page.specs.Pseudokeys.{sha_key};
-ghost use Rattle.crash_safe_runs.specs.Scripts.{RunsScriptOver, RunsSeatsOver, effects_on};
+ghost use Rattle.crash_safe_runs.specs.Scripts.{effects_on};
 ghost use Rattle.crash_safe_runs.specs.deferred_sync.Deferred.{IsLent, IsSettled, start_of};
+ghost use Rattle.msgq.specs.Runs.{RunsScriptOver, RunsSeatsOver};
 ghost use Rattle.msgq_cli.specs.Scripts.{greatest_seat};
-ghost use Rattle.replays.specs.Beside.{RunsBesideOn, RunsFrom, RunsScriptOn, counted_from, is_of_one_seat};
-ghost use Rattle.replays.specs.Desks.{AreMade, AreUntouched, IsPlanOf};
-ghost use Rattle.replays.specs.Lines.{is_stop};
-ghost use Rattle.replays.specs.Spelled.{RunsScriptSpelled};
+ghost use Rattle.service_runs.specs.Beside.{RunsBesideOn, RunsFrom, RunsScriptOn, counted_from, is_of_one_seat};
+ghost use Rattle.service_runs.specs.Desks.{AreMade, AreUntouched, IsPlanOf};
+ghost use Rattle.service_runs.specs.Lines.{is_stop};
+ghost use Rattle.service_runs.specs.Spelled.{RunsScriptSpelled};
 ghost use Rattle.workers.specs.Opening.{origin_of};
 
 use crate::crew::{ThreadASeat, make_all};
@@ -20,9 +21,9 @@ use interleaving_core::OpenFault;
 use msgq_cli::{Command, Line, Output, Script};
 use page_device::PageDevice;
 use queue_model::{Call, Entry};
-use replays::{
-    Desk, FileKeys, Plan, Ran, Shared, at_desks, end_service, is_of_one_seat, leave_refused,
-    prepare, print_all, seats_of, tell_end,
+use replays::{FileKeys, Ran, leave_refused, tell_end};
+use service_runs::{
+    Desk, Plan, Shared, at_desks, end_service, is_of_one_seat, prepare, print_all, seats_of,
 };
 use std::io::{Eprint, Write};
 use std::marker::Brand;

@@ -1,7 +1,7 @@
 //! Scripts run on files of the system, and on a file in memory, a thread a seat.
 
 ghost use Rattle.std.specs.Prelude.{◌≡◌};
-ghost use Rattle.replays.specs.Beside.{RunsInputNew, RunsTextNew};
+ghost use Rattle.service_runs.specs.Beside.{RunsInputNew, RunsTextNew};
 
 use crate::answered::Progress;
 use crate::crew::ThreadASeat;
@@ -12,8 +12,9 @@ use msgq_cli::{
     unread,
 };
 use page_device::MemDevice;
-use replays::{MEMORY_PAGES, complain_of_ran, is_of_one_seat, script_in, serve_text};
+use replays::{MEMORY_PAGES, complain_of_ran, script_in, serve_text};
 use rollback_journal::{Opening, open_in_turn};
+use service_runs::is_of_one_seat;
 use std::fs::File;
 use std::io::{Eprint, IsTerminal, Read, Write};
 use std::rt::Files;

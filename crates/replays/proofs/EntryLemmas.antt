@@ -9,20 +9,21 @@ use Rattle.msgq_cli.specs.declared.line.Line.{Line}
 use Rattle.msgq_cli.specs.declared.reply.Reply.{Reply}
 use Rattle.replays.specs.Events.{told}
 use Rattle.replays.specs.Journal.{answer_in, call_in, entries_at, entry_at}
-use Rattle.replays.specs.Lines.{entries_to, is_line_of, lines_of, replies_to}
 use Rattle.replays.specs.Places.{IsInOrder, IsLineOf, IsSound, ProgressState, place_of, reply_at}
 use Rattle.replays.proofs.PlaceLemmas.{under_is_seat}
 
 -- ---- the entry of one line
 
-entry_own : (seat : ℕ) (line : Line) (reply : Option Reply) → line.seat ≡ seat →
+-- its own seat has all of it
+pub entry_own : (seat : ℕ) (line : Line) (reply : Option Reply) → line.seat ≡ seat →
     part_of seat (entry_at line reply) ≡ entry_at line reply
 entry_own seat line reply its =
     part_own seat (entry_at line reply)
     (subst (λ (n : ℕ). AreOf n (entry_at line reply)) its
     (entry_is_of line.seat (call_in line.command) (answer_in reply)))
 
-entry_other : (seat : ℕ) (line : Line) (reply : Option Reply) → line.seat ≢ seat →
+-- and no other seat has any
+pub entry_other : (seat : ℕ) (line : Line) (reply : Option Reply) → line.seat ≢ seat →
     part_of seat (entry_at line reply) ≡ []
 entry_other seat line reply not =
     part_other seat line.seat (entry_at line reply) not
@@ -30,33 +31,6 @@ entry_other seat line reply not =
 
 entry_none : (line : Line) → entry_at line None ≡ []
 entry_none line = entry_of_none line.seat (call_in line.command)
-
--- the lines of a seat have its part of the entries of all
-pub part_told : (seat : ℕ) (lines : List Line) (replies : List Reply) →
-    entries_to (lines_of seat lines) (replies_to seat lines replies) ≡ part_of seat (entries_to lines replies)
-part_told seat [] replies = refl
-part_told seat (l ∷ ls) [] = no_replies (lines_of seat (l ∷ ls))
-  where
-    no_replies : (lines : List Line) → entries_at lines [] ≡ []
-    no_replies [] = refl
-    no_replies (x ∷ xs) = refl
-part_told seat (l ∷ ls) (r ∷ rs) =
-    by (is_line_of seat l) refl (part_told seat ls rs)
-    ∙ sym (filter-append (is_of seat) (entry_at l (Some r)) (entries_to ls rs))
-  where
-    by : (b : Bool) → (l.seat == seat) ≡ b →
-        entries_to (lines_of seat ls) (replies_to seat ls rs) ≡ part_of seat (entries_to ls rs) →
-        entries_to (if b then l ∷ lines_of seat ls else lines_of seat ls)
-        (if b then r ∷ replies_to seat ls rs else replies_to seat ls rs)
-        ≡ part_of seat (entry_at l (Some r)) ++ part_of seat (entries_to ls rs)
-    by true e more =
-        ap (λ (es : List Entry). entry_at l (Some r) ++ es) more
-        ∙ ap (λ (es : List Entry). es ++ part_of seat (entries_to ls rs))
-        (sym (entry_own seat l (Some r) (eqb-true l.seat seat e)))
-    by false e more =
-        more
-        ∙ ap (λ (es : List Entry). es ++ part_of seat (entries_to ls rs))
-        (sym (entry_other seat l (Some r) (eqb-false l.seat seat e)))
 
 -- ---- the entries of many
 

@@ -17,14 +17,4 @@ pub mod StopLemmas
 pub mod RunLemmas
 pub mod CallLemmas
 pub mod ServeLemmas
-pub mod LineLemmas
-pub mod FitLemmas
-pub mod MarkLemmas
-pub mod MakeLemmas
-pub mod ServicePrintLemmas
-pub mod PairLemmas
-pub mod PlanLemmas
-pub mod EndLemmas
-pub mod BesideLemmas
-pub mod NewLemmas
 pub mod SpelledLemmas

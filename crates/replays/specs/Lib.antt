@@ -9,8 +9,4 @@ pub mod Taking
 pub mod Runs
 pub mod PlainRuns
 pub mod Serves
-pub mod Lines
-pub mod Desks
-pub mod Printing
-pub mod Beside
 pub mod Spelled

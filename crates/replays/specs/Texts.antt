@@ -1,6 +1,6 @@
 -- What comes of a script and a schedule that are given as texts, on the pages of a device. docs/SCRIPTS.md, "Runs" and
 -- "Schedules".
-use Rattle.std.specs.Prelude.{ℕ, ◌≡◌, ◌≢◌, ◌⊎◌, ◌≤◌, Bool, false, IsTrue, List, length, Result, Ok, Err}
+use Rattle.std.specs.Prelude.{ℕ, ◌≡◌, ◌≢◌, ◌⊎◌, Bool, false, IsTrue, List, Result, Ok, Err}
 use Rattle.numbers.specs.declared.faults.TheConstants.{NO_MEMORY}
 use Rattle.bucket_page.specs.Pseudokeys.{sha_key}
 use Rattle.page_device.specs.Device.{HasRisen}

@@ -1,10 +1,9 @@
 //! Scripts on files of message queues: run line by line, each call answered before the next one is made;
-//! or the lines of several seats beside one another, by a schedule or each at a seat of a service.
+//! or the lines of several seats beside one another, by a schedule.
 
 #![tactic(auto)]
 
 mod deed;
-mod desk;
 mod ending;
 mod files;
 mod holdings;
@@ -16,17 +15,11 @@ mod progress;
 mod replay;
 mod rounds;
 mod runs;
-mod seat_lines;
-mod service_ending;
-mod service_opening;
-mod service_printing;
 mod serving;
 mod spelled;
 mod texts;
-mod waiter;
 
 pub use deed::Deed;
-pub use desk::{Desk, at_desks, seats_of};
 pub use ending::{Ran, run, tell_end};
 pub use files::{complain_of_ran, schedule_text, script_in, script_text};
 pub use msgq_cli;
@@ -35,11 +28,6 @@ pub use opening::{leave_refused, open, open_kernel};
 pub use progress::{Place, Progress};
 pub use replay::{MOST_STEPS, Replay};
 pub use runs::run_lines;
-pub use seat_lines::SeatLines;
-pub use service_ending::end_service;
-pub use service_opening::{Plan, is_of_one_seat, prepare};
-pub use service_printing::print_all;
 pub use serving::{MEMORY_PAGES, run_on, run_text_on, serve, serve_text};
 pub use session::FileKeys;
 pub use texts::{Texts, replay_on};
-pub use waiter::{Shared, Waiter};

@@ -3,7 +3,7 @@ use Rattle.std.specs.Prelude.{vec_capacity}
 use Rattle.std.specs.List.{each_same}
 use Rattle.std.specs.Vec.{vec_len}
 use Rattle.msgq.proofs.WorkLemmas.{all_made, leading_ends, leading_goes, leading_starts}
-use Rattle.replays.specs.Desks.{IsMadeOf}
+use Rattle.service_runs.specs.Desks.{IsMadeOf}
 use Rattle.msgq.proofs.crew.make_in.Goals as goal
 
 -- one desk more makes its lines

@@ -1,6 +1,6 @@
 -- The desks that make their lines so far, and those that have come back.
 use Rattle.std.specs.Prelude.{◌≡◌, vec_capacity}
-use Rattle.replays.specs.Desks.{DeskView, IsMadeOf}
+use Rattle.service_runs.specs.Desks.{DeskView, IsMadeOf}
 use Rattle.msgq.proofs.WorkLemmas.{IsLeading}
 use Rattle.msgq.proofs.crew.make_in.Given as goal
 

@@ -4,9 +4,9 @@ use Rattle.msgq_cli.specs.Refusals.{IsFaultAlone}
 use Rattle.msgq_cli.specs.Scripts.{Parts}
 use Rattle.msgq_cli.specs.declared.ending.Ending.{Ending}
 use Rattle.replays.specs.Texts.{Effects}
-use Rattle.replays.proofs.BesideLemmas.{as_several, from_prepared, no_room}
-use Rattle.replays.proofs.SpelledLemmas.{script_spelled}
-use Rattle.replays.specs.Beside.{RunsFrom, counted_from, origin_on}
+use Rattle.service_runs.proofs.BesideLemmas.{as_several, from_prepared, no_room}
+use Rattle.service_runs.proofs.SpelledLemmas.{script_spelled}
+use Rattle.service_runs.specs.Beside.{RunsFrom, counted_from, origin_on}
 use Rattle.workers.specs.Opening.{origin_of}
 use Rattle.msgq.proofs.runs.run_on.Goals as goal
 

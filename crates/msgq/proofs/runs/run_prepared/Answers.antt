@@ -6,13 +6,13 @@ use Rattle.std.specs.Vec.{vec_len}
 use Rattle.bucket_page.specs.Pseudokeys.{sha_key}
 use Rattle.msgq_cli.specs.Scripts.{greatest_seat}
 use Rattle.msgq_cli.specs.declared.line.Line.{Line}
-use Rattle.replays.proofs.BesideLemmas.{beside, from_origin, no_room}
-use Rattle.replays.proofs.LineLemmas.{seats_within}
-use Rattle.replays.proofs.PairLemmas.{all_back, done_at, length-newcomers, many_made, of_seats, same_seats, sitters, untouched}
-use Rattle.replays.specs.Beside.{HasEnded, counted_from}
-use Rattle.replays.specs.Desks.{ArePaired, DeskView}
-use Rattle.replays.specs.Lines.{is_stop}
-use Rattle.replays.specs.Printing.{AreOfSeats, IsPrintedOf}
+use Rattle.service_runs.proofs.BesideLemmas.{beside, from_origin, no_room}
+use Rattle.service_runs.proofs.LineLemmas.{seats_within}
+use Rattle.service_runs.proofs.PairLemmas.{all_back, done_at, length-newcomers, many_made, of_seats, same_seats, sitters, untouched}
+use Rattle.service_runs.specs.Beside.{HasEnded, counted_from}
+use Rattle.service_runs.specs.Desks.{ArePaired, DeskView}
+use Rattle.service_runs.specs.Lines.{is_stop}
+use Rattle.service_runs.specs.Printing.{AreOfSeats, IsPrintedOf}
 use Rattle.workers.specs.Closing.{HasMissing, remains_of}
 use Rattle.workers.specs.Opening.{newcomers, origin_of}
 use Rattle.workers.specs.Origins.{HasFrames, Origin}

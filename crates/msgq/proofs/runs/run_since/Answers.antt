@@ -1,11 +1,11 @@
 -- What the run has come to, once it is concluded.
 use Rattle.std.proofs.Common.{ap, refl, subst, Bool, false}
 use Rattle.crash_safe_runs.specs.Concluding.{is_to_commit}
-use Rattle.crash_safe_runs.specs.Scripts.{RunsSeatsOver}
+use Rattle.msgq.specs.Runs.{RunsSeatsOver}
 use Rattle.crash_safe_runs.specs.deferred_sync.Deferred.{DeferredState}
-use Rattle.crash_safe_runs.proofs.BesideLemmas.{BesideOver, beside_over}
+use Rattle.msgq.proofs.OverLemmas.{BesideOver, beside_over}
 use Rattle.crash_safe_runs.proofs.ScriptLemmas.{done_to, from_lent, to_device}
-use Rattle.replays.specs.Beside.{RunsAsOne, RunsBesideOn}
+use Rattle.service_runs.specs.Beside.{RunsAsOne, RunsBesideOn}
 use Rattle.replays.specs.Texts.{Effects}
 use Rattle.msgq.proofs.runs.run_since.Goals as goal
 

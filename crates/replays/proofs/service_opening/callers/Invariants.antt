@@ -1,7 +1,0 @@
--- The callers of the seats so far.
-use Rattle.std.proofs.Common.{◌≡◌}
-use Rattle.replays.specs.Replays.{callers_of}
-use Rattle.replays.proofs.service_opening.callers.Given as goal
-
-abbrev pub invariant-loop-place : goal.invariant-loop-place
-invariant-loop-place l = l.made.items ≡ callers_of l.script.ids l.place

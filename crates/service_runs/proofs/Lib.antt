@@ -1,0 +1,11 @@
+pub mod LineLemmas
+pub mod FitLemmas
+pub mod MarkLemmas
+pub mod MakeLemmas
+pub mod PrintLemmas
+pub mod PairLemmas
+pub mod PlanLemmas
+pub mod EndLemmas
+pub mod BesideLemmas
+pub mod NewLemmas
+pub mod SpelledLemmas

@@ -1,0 +1,5 @@
+pub mod Lines
+pub mod Desks
+pub mod Printing
+pub mod Beside
+pub mod Spelled

@@ -1,0 +1,17 @@
+//! Scripts whose seats run beside one another, each at a seat of a service: all but the threads.
+
+#![tactic(auto)]
+
+mod desk;
+mod ending;
+mod opening;
+mod printing;
+mod seat_lines;
+mod waiter;
+
+pub use desk::{Desk, at_desks, seats_of};
+pub use ending::end_service;
+pub use opening::{Plan, is_of_one_seat, prepare};
+pub use printing::print_all;
+pub use seat_lines::SeatLines;
+pub use waiter::{Shared, Waiter};
