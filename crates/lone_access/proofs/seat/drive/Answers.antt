@@ -120,14 +120,14 @@ pub returns-in-Blocked-clause-told : goal.returns-in-Blocked-clause-told
 returns-in-Blocked-clause-told g c = λ p found b.
     let key = access_key c.args.access.now in
     let row = row_is (access_locks c.loop-moves.access) key _ c.loop-moves.invariant.alone.row in
-    blocked_by_none (g.K.PseudoKey.of_key c.args.keys.now) p c.args.pool.now c.loop-moves.access c.step.new.self
-    c.loop-moves.pool c.step.new.pool c.loop-moves.locks c.step.new.locks _ key
+    absurd (blocked_by_none (g.K.PseudoKey.of_key c.args.keys.now) p c.args.pool.now c.loop-moves.access
+    c.step.new.self c.loop-moves.pool c.step.new.pool c.loop-moves.locks c.step.new.locks _ key
     (c.loop-moves.invariant.goes p found b).0 c.loop-moves.invariant.key row c.in-Blocked.ensures refl _ refl
-    c.loop-moves.invariant.alone.row
+    c.loop-moves.invariant.alone.row)
 
 -- and it has ended by then
 pub returns-clause-told : goal.returns-clause-told
 returns-clause-told g c = λ p found b.
     let few = (c.loop-moves.invariant.goes p found b).1 in
     let test = c.loop-moves-test.false in
-    omega (arith, few, test)
+    absurd (omega (arith, few, test))
