@@ -1,5 +1,5 @@
 -- What is kept of a device, step after step.
-use Rattle.std.proofs.Common.{◌≡◌, ◌∙◌, ◌≤◌, ℕ, Bool, inl, inr, arith}
+use Rattle.std.proofs.Common.{◌∙◌, ◌≤◌, ℕ, Bool, inl, inr, arith}
 use Rattle.buffer_pool.specs.Pool.{PoolState}
 use Rattle.file_pages.specs.Writes.{OnlyWrites}
 use Rattle.page_device.specs.Device.{HasRisen}

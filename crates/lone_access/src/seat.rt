@@ -1,7 +1,6 @@
 //! The one seat of a file carries out an access to a record.
 
 ghost use Rattle.std.specs.Prelude.{◌≡◌, [], List, Option, IfErr, OnOk};
-ghost use Rattle.buffer_pool.specs.Pool.{PoolState};
 ghost use Rattle.file_pages.specs.Fault.{FileHasCause, IsDevicesFault};
 ghost use Rattle.page_locks.specs.declared.lock.Lock.{Lock};
 ghost use Rattle.queue_records.specs.Keys.{guard_of};

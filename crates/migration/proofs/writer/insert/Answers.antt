@@ -1,5 +1,5 @@
 -- An insert of a record whose key has none.
-use Rattle.std.proofs.Common.{◌≡◌, IfErr, None, Result, refl, ap, sym, ◌∙◌}
+use Rattle.std.proofs.Common.{IfErr, None, Result, refl, ap, sym, ◌∙◌}
 use Rattle.bucket_page.specs.declared.record_key.RecordKey.{RecordKey}
 use Rattle.buffer_pool.proofs.TransferLemmas.{handed_on}
 use Rattle.queue_records.specs.Keys.{guard_of}
