@@ -1,12 +1,13 @@
 -- An access of the one seat as it begins, and what an insert comes to.
-use Rattle.std.proofs.Common.{◌≡◌, ℕ, [], Some, None, refl, sym, subst}
+use Rattle.std.proofs.Common.{◌≡◌, ℕ, Some, None, refl, sym, subst}
 use Rattle.bucket_page.specs.declared.record_key.RecordKey.{RecordKey}
 use Rattle.buffer_pool.specs.Pool.{PoolState}
+use Rattle.file_pages.specs.Fault.{IsDevicesFault}
 use Rattle.file_pages.specs.Files.{store_of}
+use Rattle.file_pages.specs.declared.fault.FileFault.{FileFault}
+use Rattle.lone_access.specs.OneAccess.{IsAtRest, IsBegun, IsLeft}
+use Rattle.lone_access.proofs.UnderWayLemmas.{own_value}
 use Rattle.numbers.specs.Numbers.{four}
-use Rattle.page_locks.specs.Locks.{without}
-use Rattle.page_locks.proofs.NameLemmas.{is_same-itself}
-use Rattle.queue_records.specs.Keys.{guard_of}
 use Rattle.queue_records.specs.Spelling.{counter_key, key_of}
 use Rattle.queue_records.specs.declared.counter.Counter.{Counter}
 use Rattle.queue_records.specs.declared.record.Record.{Record}
@@ -15,14 +16,10 @@ use Rattle.record_file.specs.Accesses.{AccessView, Serves, begun}
 use Rattle.record_file.specs.Files.{new_counter}
 use Rattle.record_file.specs.Purposes.{ToInsert, ToWrite}
 use Rattle.xsi_inquiry.specs.declared.write.Write.TheVariants.{Replace}
-use Rattle.migration.specs.Filling.{HasCounter, IsAtRest, IsBegun, IsLeft, MayNotPut, MayNotWrite, Puts, held_in, lock_on}
+use Rattle.migration.specs.Fault.{of_file}
+use Rattle.migration.specs.Filling.{HasCounter, MayNotPut, MayNotWrite, Puts, held_in}
 use Rattle.migration.specs.declared.fault.MakingFault.{MakingFault}
 use Rattle.migration.specs.declared.fault.MakingFault.TheVariants as makings
-use Rattle.migration.proofs.UnderWayLemmas.{own_value}
-
--- the lock of the record is given back
-pub released : (key : RecordKey) → without (lock_on key) (guard_of key) ≡ []
-released key = rw (is_same-itself (guard_of key)) refl
 
 pub begun_insert : (hash : RecordKey → ℕ) (r : Record) (k : ℕ) (a : AccessView) (pool : PoolState) →
     a ≡ begun (ToInsert r) k → Serves (ToInsert r) a → k ≡ hash (key_of r) → IsAtRest hash pool →
@@ -54,6 +51,10 @@ begun_replace hash counter k a pool is serves keyed rest stands =
       room = refl;
       rest = rest;
     })
+
+-- a fault is the device's
+pub of_device : (fault : FileFault) (old new : PoolState) → IsDevicesFault old new fault → MayNotWrite (of_file fault)
+of_device fault old new is = subst (λ (f : FileFault). MayNotWrite (of_file f)) (sym is.told) tt
 
 pub told_put : (hash : RecordKey → ℕ) (r : Record) (old : PoolState) (fault : MakingFault) → MayNotWrite fault →
     MayNotPut hash r old fault

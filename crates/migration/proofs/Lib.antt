@@ -1,6 +1,4 @@
 pub mod KeepingLemmas
-pub mod AloneLemmas
-pub mod UnderWayLemmas
 pub mod BeginLemmas
 pub mod PartLemmas
 pub mod QueueLemmas

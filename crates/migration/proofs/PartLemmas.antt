@@ -25,7 +25,8 @@ use Rattle.type_chains.specs.RecordOf.{record_of}
 use Rattle.type_chains.proofs.Images.{image_has}
 use Rattle.type_chains.proofs.Limits.{in_range}
 use Rattle.type_chains.proofs.Members.{contains_head, contains_tail, from_map, head_or_tail, in_flat_map}
-use Rattle.migration.specs.Filling.{HoldsElse, IsPart, Lacked, MayNotFill, MayNotPut, Puts, held_in}
+use Rattle.lone_access.specs.OneAccess.{HoldsElse, Lacked}
+use Rattle.migration.specs.Filling.{IsPart, MayNotFill, MayNotPut, Puts, held_in}
 use Rattle.migration.specs.Rooms.{IsOfSystem, LacksRoomFor}
 use Rattle.migration.specs.declared.fault.MakingFault.{MakingFault}
 use Rattle.migration.specs.declared.fault.MakingFault.TheVariants as makings

@@ -11,6 +11,7 @@ use Rattle.file_check.proofs.Today.{file_has_no_fault}
 use Rattle.file_walk.specs.declared.fault.StructureFault.{StructureFault}
 use Rattle.file_walk.specs.declared.fault.StructureFault.TheVariants as structures
 use Rattle.file_walk.specs.Order.{IsOfMachine}
+use Rattle.lone_access.proofs.KeepingLemmas.{risen_since}
 use Rattle.page_device.specs.Device.{HasRisen}
 use Rattle.queue_model.specs.State.{State}
 use Rattle.migration.specs.declared.salvage_fault.SalvageFault.{SalvageFault}
@@ -20,7 +21,6 @@ use Rattle.migration.specs.Causes.{HasSalvageCause, MayNotSalvage}
 use Rattle.migration.specs.Gathering.{HasRescueCause, MayNotRescue, wants_memory}
 use Rattle.migration.specs.Readable.{IsToldOfPages}
 use Rattle.migration.specs.Rescues.{IsOfNone, IsRescuedFrom, IsWhole}
-use Rattle.migration.proofs.KeepingLemmas.{risen_since}
 
 -- the check lacked memory, or a transfer failed
 lacked : (fault : StructureFault) → IsOfMachine fault → (fault ≡ structures.NoMemory) ⊎ (fault ≡ structures.Device)

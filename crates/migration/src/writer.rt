@@ -1,41 +1,32 @@
 //! The records of a system are written into a new file, through the machines of the file.
 
-ghost use Rattle.std.specs.Prelude.{◌≡◌, ◌+◌, ◌*◌, ℕ, [], List, Option, None, IfErr, OnOk, length};
+ghost use Rattle.std.specs.Prelude.{◌≡◌, ◌+◌, ◌*◌, ℕ, [], None, IfErr, OnOk, length};
 ghost use Rattle.std.specs.List.{Contains};
 ghost use Rattle.buffer_pool.specs.Pool.{PoolState};
-ghost use Rattle.page_locks.specs.declared.lock.Lock.{Lock};
 ghost use Rattle.queue_model.specs.Lawful.{IsLawful, IsLawfulQueue};
 ghost use Rattle.queue_model.specs.State.{State};
 ghost use Rattle.queue_model.specs.declared.queue.Queue.{Queue};
 ghost use Rattle.queue_records.specs.Keys.{guard_of};
 ghost use Rattle.queue_records.specs.Range.{IsInRange};
 ghost use Rattle.queue_records.specs.Spelling.{key_of};
-ghost use Rattle.queue_records.specs.declared.record.Record.{Record};
 ghost use Rattle.queue_records.specs.declared.record.Record.TheVariants as records;
-ghost use Rattle.record_file.specs.Accesses.{access_key, access_locks};
-ghost use Rattle.record_file.specs.Purposes.{Purpose};
-ghost use Rattle.migration.specs.Filling.{HasCounter, HoldsOnly, IsAtRest, IsBegun, IsFilling, IsLeft, IsNew, IsOpen, IsToPut, MayNotFill, MayNotPut, MayNotWrite, Puts, held_in, lock_on};
-ghost use Rattle.migration.specs.Writing.{IsAlone, KeepsDevice};
+ghost use Rattle.lone_access.specs.Alone.{IsAlone};
+ghost use Rattle.lone_access.specs.OneAccess.{IsAtRest};
+ghost use Rattle.migration.specs.Filling.{HasCounter, HoldsOnly, IsFilling, IsNew, IsOpen, IsToPut, MayNotFill, MayNotPut, MayNotWrite, Puts, held_in};
+ghost use Rattle.migration.specs.Writing.{KeepsDevice};
 
 use crate::fault::MakingFault;
 use bucket_page::PseudoKey;
 use buffer_pool::Pool;
+use lone_access::carry_out;
 use page_device::PageDevice;
-use page_locks::{Grant, LockKind, LockName, LockTable};
+use page_locks::{LockName, LockTable};
 use queue_model::{Queue, System};
 use queue_records::{Counter, KeyEntry, Record, TypeEntry};
 use record_file::Access;
 use record_walk::QueueLinks;
 use std::alloc::Global;
-use step_rules::Progress;
 use xsi_inquiry::Write;
-
-/// The one seat.
-const SEAT: u8 = 1;
-
-/// An access of a lone seat ends within so many steps, that by which it tells so among them
-/// (docs/STEPS.md, "Lengths").
-const MOST_STEPS: u32 = 139_590;
 
 /// Writes the records of a system into a new file, which one seat alone uses.
 pub(crate) fn write<D: PageDevice, K: PseudoKey>(
@@ -206,7 +197,8 @@ fn replace<D: PageDevice, K: PseudoKey>(
     }
     let pseudokey = keys.of(&record.key());
     let mut access = Access::write(&Write::Replace(record), pseudokey);
-    carry_out(pool, locks, keys, LockName::Counter, &mut access)
+    carry_out(pool, locks, keys, LockName::Counter, &mut access)?;
+    Ok(())
 }
 
 /// The name under whose lock a record is written.
@@ -220,61 +212,4 @@ fn guard_of(record: &Record<'_>) -> LockName
         Record::Type(entry) => LockName::Queue(entry.id),
         Record::Message(entry) => LockName::Queue(entry.id),
     }
-}
-
-/// Steps an access, which has begun, to its end, under the lock of its record.
-fn carry_out<D: PageDevice, K: PseudoKey>(
-    pool: &mut Pool<D>,
-    locks: &mut LockTable,
-    keys: &K,
-    name: LockName,
-    access: &mut Access,
-) -> Result<(), MakingFault>
-    requires alone { IsAlone [] pool.old locks.old }
-    requires name { name ≡ guard_of (access_key access.old) }
-    requires begun { (before : List Lock) → access_locks access.old before ≡ before }
-    ensures alone { OnOk result (IsAlone [] pool.new locks.new) }
-    ensures kept { KeepsDevice pool.old pool.new result }
-    ensures put { (p : Purpose) (found : Option Record) →
-        IsBegun (K.of_key keys.now) p found access.old pool.old →
-        OnOk result (IsLeft (K.of_key keys.now) p pool.old access.new pool.new) }
-    ensures told { (p : Purpose) (found : Option Record) →
-        IsBegun (K.of_key keys.now) p found access.old pool.old → IfErr result MayNotWrite }
-{
-    if let Grant::Blocked(_) = locks.try_grant(SEAT, name, LockKind::Exclusive) {
-        return Err(MakingFault::Failed);
-    }
-    drive(pool, locks, keys, access)?;
-    locks.release(SEAT, name);
-    Ok(())
-}
-
-/// Steps an access, which has begun, to its end. The seat holds the lock of its record.
-fn drive<D: PageDevice, K: PseudoKey>(
-    pool: &mut Pool<D>,
-    locks: &mut LockTable,
-    keys: &K,
-    access: &mut Access,
-) -> Result<(), MakingFault>
-    requires alone { IsAlone (lock_on (access_key access.old)) pool.old locks.old }
-    requires begun { (before : List Lock) → access_locks access.old before ≡ before }
-    ensures alone { OnOk result (IsAlone (lock_on (access_key access.old)) pool.new locks.new) }
-    ensures kept { KeepsDevice pool.old pool.new result }
-    ensures put { (p : Purpose) (found : Option Record) →
-        IsBegun (K.of_key keys.now) p found access.old pool.old →
-        OnOk result (IsLeft (K.of_key keys.now) p pool.old access.new pool.new) }
-    ensures told { (p : Purpose) (found : Option Record) →
-        IsBegun (K.of_key keys.now) p found access.old pool.old → IfErr result MayNotWrite }
-{
-    locks.keeps_limits();
-    let mut moves = 0;
-    while moves < MOST_STEPS {
-        match access.step(pool, locks, keys, SEAT) {
-            Progress::Moved(_) => moves += 1,
-            Progress::Ended => return Ok(()),
-            Progress::Fault(fault) => return Err(MakingFault::from(fault)),
-            Progress::Blocked(_) => return Err(MakingFault::Failed),
-        }
-    }
-    Err(MakingFault::Failed)
 }

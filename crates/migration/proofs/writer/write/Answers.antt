@@ -1,8 +1,8 @@
 -- The records of all queues are put, and then the Counter is replaced.
 use Rattle.std.proofs.Common.{IfErr, length, refl, subst, arith, rules}
 use Rattle.buffer_pool.proofs.TransferLemmas.{handed_on}
+use Rattle.lone_access.proofs.KeepingLemmas.{keeps_on}
 use Rattle.migration.specs.Filling.{MayNotFill}
-use Rattle.migration.proofs.KeepingLemmas.{keeps_on}
 use Rattle.migration.proofs.MakeLemmas.{told_wrong}
 use Rattle.migration.proofs.QueueLemmas.{first_queue, if_err, next_queue, queue_open, queue_stands}
 use Rattle.migration.proofs.writer.write.Goals as goal

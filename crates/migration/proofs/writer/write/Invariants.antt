@@ -1,7 +1,7 @@
 -- The seat is alone, and on an honest device the queues before this one are put.
 use Rattle.std.proofs.Common.{[]}
 use Rattle.migration.specs.Filling.{IsNew}
-use Rattle.migration.specs.Writing.{IsAlone, KeepsPool}
+use Rattle.lone_access.specs.Alone.{IsAlone, KeepsPool}
 use Rattle.migration.proofs.QueueLemmas.{IsUpToQueue}
 use Rattle.migration.proofs.writer.write.Given as goal
 

@@ -2,6 +2,7 @@
 use Rattle.std.proofs.Common.{◌≡◌, ◌≤◌, ◌+◌, ◌*◌, IfErr, length, sym, ap, subst, ◌∙◌, arith}
 use Rattle.std.specs.List.{Contains}
 use Rattle.buffer_pool.proofs.TransferLemmas.{handed_on}
+use Rattle.lone_access.proofs.KeepingLemmas.{keeps_on}
 use Rattle.queue_model.specs.declared.message.Message.{Message}
 use Rattle.queue_records.specs.declared.message_entry.MessageEntry.{MessageEntry}
 use Rattle.queue_records.specs.declared.queue_entry.QueueEntry.{QueueEntry}
@@ -9,7 +10,6 @@ use Rattle.queue_records.specs.declared.record.Record.{Record}
 use Rattle.queue_records.specs.declared.record.Record.TheVariants as records
 use Rattle.type_chains.specs.Image.{queue_records}
 use Rattle.migration.specs.Filling.{IsFilling, MayNotFill}
-use Rattle.migration.proofs.KeepingLemmas.{keeps_on}
 use Rattle.migration.proofs.PartLemmas.{queue_in, sent_in}
 use Rattle.migration.proofs.QueueLemmas.{ended_filling, first_message, in_range, next_message, next_open, next_put, next_told}
 use Rattle.migration.proofs.writer.write_queue.Goals as goal

@@ -4,7 +4,7 @@ use Rattle.std.proofs.Common.{[]}
 use Rattle.queue_model.specs.Lawful.{IsLawful}
 use Rattle.queue_model.specs.State.{State}
 use Rattle.migration.specs.Filling.{IsOpen}
-use Rattle.migration.specs.Writing.{IsAlone, KeepsPool}
+use Rattle.lone_access.specs.Alone.{IsAlone, KeepsPool}
 use Rattle.migration.proofs.QueueLemmas.{IsUpTo}
 use Rattle.migration.proofs.writer.write_queue.Given as goal
 

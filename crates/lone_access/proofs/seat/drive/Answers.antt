@@ -1,14 +1,13 @@
 -- The seat's row follows the access, which holds nothing once it has ended. No step of an honest device fails.
-use Rattle.std.proofs.Common.{◌≡◌, List, [], ◌∷◌, refl, sym, ap, ◌∙◌, arith, subst}
+use Rattle.std.proofs.Common.{◌≡◌, List, [], ◌∷◌, refl, sym, ap, ◌∙◌, arith}
 use Rattle.page_locks.specs.declared.lock.Lock.{Lock}
 use Rattle.record_file.specs.Accesses.{AccessView, access_key, access_locks}
 use Rattle.record_file.proofs.OperationLemmas.{ended_free}
-use Rattle.migration.specs.Fault.{IsOfTransfer}
-use Rattle.migration.specs.Filling.{MayNotWrite, lock_on}
-use Rattle.migration.proofs.AloneLemmas.{ends_row, follows, is_seat, row_is}
-use Rattle.migration.proofs.KeepingLemmas.{keeps_on, keeps_step, of_transfer, risen_since}
-use Rattle.migration.proofs.UnderWayLemmas.{begins, begins_short, blocked_by_none, ends, goes_on, nears, of_device}
-use Rattle.migration.proofs.writer.drive.Goals as goal
+use Rattle.lone_access.specs.Alone.{lock_on}
+use Rattle.lone_access.proofs.AloneLemmas.{ends_row, follows, is_seat, row_is}
+use Rattle.lone_access.proofs.KeepingLemmas.{keeps_on, keeps_step, risen_since}
+use Rattle.lone_access.proofs.UnderWayLemmas.{begins, begins_short, blocked_by_none, ends, goes_on, nears}
+use Rattle.lone_access.proofs.seat.drive.Goals as goal
 
 pub loop-moves-init : goal.loop-moves-init
 loop-moves-init g c = record {
@@ -96,13 +95,13 @@ returns-in-Ended-clause-put g c = λ p found b.
     ∙ ap (λ (held : List Lock). held ∷ []) free)
 
 -- a transfer that is told has failed in the last step
-pub returns-in-Fault-clause-kept : goal.returns-in-Fault-clause-kept
-returns-in-Fault-clause-kept g c = record {
-  keeps = keeps_on _ _ _ c.loop-moves.invariant.keeps (keeps_step _ _ _ c.step.ensures.writes);
-  failed = λ is. risen_since _ _ _ c.loop-moves.invariant.keeps.later
-      ((c.step.ensures.cause c.in-Fault.fault c.in-Fault.is).risen
-      (of_transfer c.in-Fault.fault (subst IsOfTransfer c.from.ensures is)));
-}
+pub returns-in-Fault-clause-cause : goal.returns-in-Fault-clause-cause
+returns-in-Fault-clause-cause g c =
+    let cause = c.step.ensures.cause c.in-Fault.fault c.in-Fault.is in
+    record {
+      page = cause.page;
+      risen = λ is. risen_since _ _ _ c.loop-moves.invariant.keeps.later (cause.risen is);
+    }
 
 pub returns-in-Fault-clause-told : goal.returns-in-Fault-clause-told
 returns-in-Fault-clause-told g c = λ p found b.
@@ -111,21 +110,24 @@ returns-in-Fault-clause-told g c = λ p found b.
     let spares = nears (g.K.PseudoKey.of_key c.args.keys.now) p c.args.pool.now c.loop-moves.access c.step.new.self
     c.loop-moves.pool c.step.new.pool c.loop-moves.locks c.step.new.locks _ key
     (c.loop-moves.invariant.goes p found b).0 c.loop-moves.invariant.key row c.in-Fault.ensures in
-    subst MayNotWrite (sym c.from.ensures) (of_device c.in-Fault.fault _ _ spares.devices)
+    record {
+      risen = risen_since _ _ _ c.loop-moves.invariant.keeps.later spares.devices.risen;
+      told = spares.devices.told;
+    }
 
 -- nobody else stands in the way
 pub returns-in-Blocked-clause-told : goal.returns-in-Blocked-clause-told
 returns-in-Blocked-clause-told g c = λ p found b.
     let key = access_key c.args.access.now in
     let row = row_is (access_locks c.loop-moves.access) key _ c.loop-moves.invariant.alone.row in
-    blocked_by_none (g.K.PseudoKey.of_key c.args.keys.now) p c.args.pool.now c.loop-moves.access c.step.new.self
-    c.loop-moves.pool c.step.new.pool c.loop-moves.locks c.step.new.locks _ key
+    absurd (blocked_by_none (g.K.PseudoKey.of_key c.args.keys.now) p c.args.pool.now c.loop-moves.access
+    c.step.new.self c.loop-moves.pool c.step.new.pool c.loop-moves.locks c.step.new.locks _ key
     (c.loop-moves.invariant.goes p found b).0 c.loop-moves.invariant.key row c.in-Blocked.ensures refl _ refl
-    c.loop-moves.invariant.alone.row
+    c.loop-moves.invariant.alone.row)
 
 -- and it has ended by then
 pub returns-clause-told : goal.returns-clause-told
 returns-clause-told g c = λ p found b.
     let few = (c.loop-moves.invariant.goes p found b).1 in
     let test = c.loop-moves-test.false in
-    omega (arith, few, test)
+    absurd (omega (arith, few, test))

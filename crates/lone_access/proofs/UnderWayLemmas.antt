@@ -9,7 +9,6 @@ use Rattle.bucket_page.proofs.KeyLaws.{same_is}
 use Rattle.buffer_pool.specs.Pool.{PoolState}
 use Rattle.file_pages.specs.Files.{store_of}
 use Rattle.file_pages.specs.declared.fault.FileFault.{FileFault}
-use Rattle.file_pages.specs.Fault.{IsDevicesFault}
 use Rattle.hash_file.specs.Chain.{contents}
 use Rattle.hash_file.specs.Change.{Change, Quiet}
 use Rattle.hash_file.specs.Sound.{IsSoundFile}
@@ -29,9 +28,9 @@ use Rattle.record_file.proofs.LengthLemmas.{has_few_steps}
 use Rattle.record_file.proofs.OperationLemmas.{others_hold, owns_any}
 use Rattle.step_rules.specs.Known.{AllKnown}
 use Rattle.step_rules.specs.Turns.{TurnsAt}
-use Rattle.migration.specs.Fault.{of_file}
-use Rattle.migration.specs.Filling.{HoldsElse, IsBegun, IsLeft, IsUnderWay, Lacked, MayNotWrite, lock_on}
-use Rattle.migration.proofs.AloneLemmas.{bare_lock, no_writer, not_in_way, owns_lock, quiet_world}
+use Rattle.lone_access.specs.Alone.{lock_on}
+use Rattle.lone_access.specs.OneAccess.{HoldsElse, IsBegun, IsLeft, IsUnderWay, Lacked}
+use Rattle.lone_access.proofs.AloneLemmas.{bare_lock, no_writer, not_in_way, owns_lock, quiet_world}
 
 pub not_same : (a b : RecordKey) → a ≢ b → is_same a b ≡ false
 not_same a b other = by (is_same a b) refl
@@ -193,7 +192,3 @@ module _ (hash : RecordKey → ℕ) (p : Purpose) (old : PoolState) where
     allows = u.allows;
     lacks = u.lacks;
   }
-
--- a fault is the device's
-pub of_device : (fault : FileFault) (old new : PoolState) → IsDevicesFault old new fault → MayNotWrite (of_file fault)
-of_device fault old new is = subst (λ (f : FileFault). MayNotWrite (of_file f)) (sym is.told) tt

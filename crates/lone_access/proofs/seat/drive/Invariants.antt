@@ -5,9 +5,9 @@ use Rattle.queue_records.specs.declared.record.Record.{Record}
 use Rattle.record_file.specs.Accesses.{access_key, access_left, access_locks}
 use Rattle.record_file.specs.Lengths.{MOST_STEPS}
 use Rattle.record_file.specs.Purposes.{Purpose}
-use Rattle.migration.specs.Filling.{IsBegun, IsUnderWay, lock_on}
-use Rattle.migration.specs.Writing.{IsAlone, KeepsPool}
-use Rattle.migration.proofs.writer.drive.Given as goal
+use Rattle.lone_access.specs.Alone.{IsAlone, KeepsPool, lock_on}
+use Rattle.lone_access.specs.OneAccess.{IsBegun, IsUnderWay}
+use Rattle.lone_access.proofs.seat.drive.Given as goal
 
 abbrev pub invariant-loop-moves : goal.invariant-loop-moves
 invariant-loop-moves g l = record {

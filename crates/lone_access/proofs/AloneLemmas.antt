@@ -21,7 +21,7 @@ use Rattle.stale_search.specs.Steps.{world}
 use Rattle.step_rules.specs.Sound.{IsSoundWorld}
 use Rattle.step_rules.specs.Turns.{Ask, ForAnswer, ForEntry, ForLock, ForPage, HopFrom, StandsInWay, ToExclusive}
 use Rattle.step_rules.specs.World.{IsHeld, World}
-use Rattle.migration.specs.Filling.{lock_on}
+use Rattle.lone_access.specs.Alone.{lock_on}
 
 -- ---- the lock
 

@@ -1,0 +1,3 @@
+pub mod KeepingLemmas
+pub mod AloneLemmas
+pub mod UnderWayLemmas
