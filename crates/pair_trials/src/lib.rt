@@ -4,3 +4,5 @@
 
 #[cfg(test)]
 mod pairs;
+#[cfg(test)]
+mod recovered;
