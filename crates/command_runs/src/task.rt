@@ -4,7 +4,7 @@ use queue_commands::{Framing, NewQueue, QueueName, Receiving, Setting};
 use std::time::Duration;
 
 /// What a command line asks for.
-#[derive(Drop, PartialEq)]
+#[derive(Drop)]
 pub struct ShellTask<'a> {
     /// The file.
     pub file: &'a str,
@@ -15,7 +15,7 @@ pub struct ShellTask<'a> {
 }
 
 /// Who makes the calls, as far as it is said.
-#[derive(Clone, Copy, PartialEq, Eq)]
+#[derive(Clone, Copy)]
 pub struct CallerIds {
     /// The process.
     pub pid: Option<u32>,
@@ -26,7 +26,7 @@ pub struct CallerIds {
 }
 
 /// What is asked for.
-#[derive(Drop, PartialEq)]
+#[derive(Drop)]
 pub enum Deed {
     /// Standard input is sent.
     Send(SendTask),
@@ -55,7 +55,7 @@ pub enum Deed {
 }
 
 /// How standard input is sent.
-#[derive(Clone, Copy, PartialEq, Eq)]
+#[derive(Clone, Copy)]
 pub struct SendTask {
     /// The queue.
     pub queue: QueueName,
@@ -74,7 +74,7 @@ pub struct SendTask {
 }
 
 /// Which messages are received.
-#[derive(Clone, Copy, PartialEq, Eq)]
+#[derive(Clone, Copy)]
 pub struct ReceiveTask {
     /// Those.
     pub receiving: Receiving,
@@ -85,7 +85,7 @@ pub struct ReceiveTask {
 }
 
 /// What a command makes where it is not there.
-#[derive(Clone, Copy, PartialEq, Eq)]
+#[derive(Clone, Copy)]
 pub struct Creation {
     /// The queue.
     pub queue: NewQueue,
@@ -96,7 +96,7 @@ pub struct Creation {
 }
 
 /// How long a command looks again where what it asks for can't be done yet.
-#[derive(Clone, Copy, PartialEq, Eq)]
+#[derive(Clone, Copy)]
 pub enum Patience {
     /// It does not.
     None,

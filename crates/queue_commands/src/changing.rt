@@ -2,9 +2,11 @@
 
 ghost use Rattle.std.specs.Prelude.{◌≡◌, ℕ, Option, length};
 ghost use Rattle.queue_model.specs.State.{State};
+ghost use Rattle.queue_model.specs.declared.call.Call.TheVariants as calls;
 ghost use Rattle.queue_model.specs.declared.caller.Caller.{Caller};
 ghost use Rattle.queue_commands.specs.Changing.{MakesAs, RemovesAs, SetsAs};
 ghost use Rattle.queue_commands.specs.Coming.{Comes};
+ghost use Rattle.queue_commands.specs.Finding.{IsDone};
 
 use crate::answering::Answering;
 use crate::asking::done_in;
@@ -30,8 +32,7 @@ pub(crate) fn make<A: Answering>(
 {
     let id = make_new(alloc, answers, moment, key, new)?;
     let mut text = Text::new(alloc);
-    text.put_number(u64::from(id))?;
-    text.put(b"\n")?;
+    text.put_number_line(u64::from(id))?;
     Ok(text)
 }
 
@@ -47,6 +48,15 @@ pub(crate) fn remove<A: Answering>(
         (RemovesAs c moment queue s) result }
 {
     let id = find(alloc, answers, moment, queue, None)?;
+    remove_found(alloc, answers, id)
+}
+
+/// Removes the queue of an id, and gives no text.
+fn remove_found<A: Answering>(alloc: Global, answers: &mut A, id: u32) -> Result<Text, AskError>
+    ensures { (o : A.Origin) (c : Caller) (s : State) → A.stands answers.old o c s →
+        Comes (A.stands answers.new o c) (A.lacks answers.new o c)
+        (IsDone c (calls.Remove id) s) result }
+{
     done_in(alloc, answers.answer(Call::Remove { id }))
 }
 

@@ -5,8 +5,9 @@ ghost use Rattle.queue_model.specs.State.{State};
 ghost use Rattle.queue_model.specs.declared.caller.Caller.{Caller};
 ghost use Rattle.queue_commands.specs.Asking.{IsAnswered};
 ghost use Rattle.queue_commands.specs.Coming.{Comes};
-ghost use Rattle.queue_commands.specs.Finding.{SetsNewAs, FindsAs, FindsKeyAs, LimitsAs, MakesNewAs, SetsAllAs, find_call, make_call};
+ghost use Rattle.queue_commands.specs.Finding.{SetsNewAs, FindsAs, FindsKeyAs, LimitsAs, MakesNewAs, SetsAllAs};
 ghost use Rattle.queue_model.specs.declared.answer.Answer.TheVariants as answered;
+ghost use Rattle.queue_model.specs.declared.call.Call.TheVariants as calls;
 
 use crate::answering::Answering;
 use crate::asking::{done_in, id_in, info_in};
@@ -48,21 +49,6 @@ fn find_key<A: Answering>(
         Comes (A.stands answers.new o c) (A.lacks answers.new o c)
         (FindsKeyAs c moment key create s) result }
 {
-    let Some(new) = create else {
-        return get(answers, moment, key);
-    };
-    match get(answers, moment, key) {
-        Err(AskError::Refused(Errno::ENOENT)) => make_new(alloc, answers, moment, Some(key), new),
-        found => found,
-    }
-}
-
-/// The id of the queue of a key.
-fn get<A: Answering>(answers: &mut A, moment: u64, key: u32) -> Result<u32, AskError>
-    ensures { (o : A.Origin) (c : Caller) (s : State) → A.stands answers.old o c s →
-        Comes (A.stands answers.new o c) (A.lacks answers.new o c)
-        (IsAnswered answered.Id c (find_call moment key) s) result }
-{
     let call = GetArguments {
         key: Some(key),
         create: false,
@@ -70,6 +56,21 @@ fn get<A: Answering>(answers: &mut A, moment: u64, key: u32) -> Result<u32, AskE
         mode: 0,
         moment,
     };
+    let Some(new) = create else {
+        return get(answers, call);
+    };
+    match get(answers, call) {
+        Err(AskError::Refused(Errno::ENOENT)) => make_new(alloc, answers, moment, Some(key), new),
+        found => found,
+    }
+}
+
+/// The id that a Get is answered.
+fn get<A: Answering>(answers: &mut A, call: GetArguments) -> Result<u32, AskError>
+    ensures { (o : A.Origin) (c : Caller) (s : State) → A.stands answers.old o c s →
+        Comes (A.stands answers.new o c) (A.lacks answers.new o c)
+        (IsAnswered answered.Id c (calls.Get call) s) result }
+{
     id_in(answers.answer(Call::Get(call)))
 }
 
@@ -85,29 +86,15 @@ pub(crate) fn make_new<A: Answering>(
         Comes (A.stands answers.new o c) (A.lacks answers.new o c)
         (MakesNewAs c moment key new s) result }
 {
-    let id = make_at(answers, moment, key, new.mode)?;
-    set_new(alloc, answers, moment, new.settings, id)
-}
-
-/// Makes a queue, which its key may not have yet, and gives its id.
-fn make_at<A: Answering>(
-    answers: &mut A,
-    moment: u64,
-    key: Option<u32>,
-    mode: u16,
-) -> Result<u32, AskError>
-    ensures { (o : A.Origin) (c : Caller) (s : State) → A.stands answers.old o c s →
-        Comes (A.stands answers.new o c) (A.lacks answers.new o c)
-        (IsAnswered answered.Id c (make_call moment key mode) s) result }
-{
     let call = GetArguments {
         key,
         create: true,
         excl: true,
-        mode,
+        mode: new.mode,
         moment,
     };
-    id_in(answers.answer(Call::Get(call)))
+    let id = get(answers, call)?;
+    set_new(alloc, answers, moment, new.settings, id)
 }
 
 /// Sets what is to be set of a new queue, if anything is, and gives its id.

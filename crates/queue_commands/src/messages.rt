@@ -11,7 +11,7 @@ use std::alloc::Global;
 use std::io::Read;
 
 /// How an input is cut into messages.
-#[derive(Clone, Copy, PartialEq, Eq)]
+#[derive(Clone, Copy)]
 pub enum Framing {
     /// All of it is one.
     Whole,

@@ -3,8 +3,8 @@
 ghost use Rattle.std.specs.Prelude.{◌≡◌, ◌++◌, ◌%◌, IfOk, OnOk, map, string_bytes};
 ghost use Rattle.std.specs.Fmt.{decimal};
 ghost use Rattle.queue_commands.specs.Cells.{mode_text};
-ghost use Rattle.queue_commands.specs.Json.{IsPlain, PutsJson, count, info_data, key_data, message_data, messages_data, messages_of, permissions_data, queue_data, queues_data, queues_of};
-ghost use Rattle.serde_json.specs.Data.{Data, put as with_member};
+ghost use Rattle.queue_commands.specs.Json.{IsPlain, PutsJson, count, info_data, key_data, message_data, messages_data, permissions_data, queue_data, queues_data, queues_of};
+ghost use Rattle.serde_json.specs.Data.{Data, no_members, object, put as with_member};
 ghost use Rattle.serde_json.specs.View.{members_view, view};
 
 use crate::text::Text;
@@ -37,9 +37,7 @@ pub fn put_messages_json(
 ) -> Result<(), NoMemory>
     ensures { OnOk result (PutsJson (messages_data info.now messages.now) text.old text.new) }
 {
-    let messages = message_objects(alloc, messages)?;
-    let queue = info_object(alloc, info)?;
-    let value = messages_object(alloc, messages, queue)?;
+    let value = messages_object(alloc, info, messages)?;
     put_object(text, alloc, &value)
 }
 
@@ -60,11 +58,15 @@ fn queues_object(alloc: Global, queues: Vec<Value>) -> Result<Value, NoMemory>
 }
 
 /// The object of a queue and of its messages.
-fn messages_object(alloc: Global, messages: Vec<Value>, queue: Value) -> Result<Value, NoMemory>
-    ensures { IfOk result (λ value.
-        view value ≡ messages_of (view queue) (map view messages.items)) }
+fn messages_object(alloc: Global, info: &QueueInfo, messages: &Messages) -> Result<Value, NoMemory>
+    ensures { IfOk result (λ value. view value ≡ messages_data info.now messages.now) }
 {
-    Ok(json!(in alloc; {"messages": messages, "queue": queue})?)
+    let mut members = Map::new(alloc);
+    let messages = message_objects(alloc, messages)?;
+    put(&mut members, alloc, "messages", Value::Array(messages))?;
+    let queue = info_object(alloc, info)?;
+    put(&mut members, alloc, "queue", queue)?;
+    Ok(Value::Object(members))
 }
 
 /// An object for each queue of a system.
@@ -97,20 +99,33 @@ fn message_objects(alloc: Global, messages: &Messages) -> Result<Vec<Value>, NoM
 fn info_object(alloc: Global, info: &QueueInfo) -> Result<Value, NoMemory>
     ensures { IfOk result (λ value. view value ≡ info_data info.now) }
 {
-    let permissions = permissions_object(alloc, info.permissions)?;
     let mut members = Map::new(alloc);
-    put_count(&mut members, alloc, "id", u64::from(info.id))?;
-    put(&mut members, alloc, "key", key_value(info.key))?;
-    put_count(&mut members, alloc, "msg_cbytes", u64::from(info.cbytes))?;
-    put_count(&mut members, alloc, "msg_ctime", info.ctime)?;
-    put_count(&mut members, alloc, "msg_lrpid", u64::from(info.lrpid))?;
-    put_count(&mut members, alloc, "msg_lspid", u64::from(info.lspid))?;
-    put(&mut members, alloc, "msg_perm", permissions)?;
-    put_count(&mut members, alloc, "msg_qbytes", u64::from(info.qbytes))?;
-    put_count(&mut members, alloc, "msg_qnum", u64::from(info.qnum))?;
-    put_count(&mut members, alloc, "msg_rtime", info.rtime)?;
-    put_count(&mut members, alloc, "msg_stime", info.stime)?;
+    put_info(&mut members, alloc, info)?;
     Ok(Value::Object(members))
+}
+
+/// Puts what Stat tells of a queue into an object that is empty.
+fn put_info(
+    members: &mut Map<String, Value>,
+    alloc: Global,
+    info: &QueueInfo,
+) -> Result<(), NoMemory>
+    ensures { members_view members.old.entries ≡ no_members →
+        OnOk result (object (members_view members.new.entries) ≡ info_data info.now) }
+{
+    put_count(members, alloc, "id", u64::from(info.id))?;
+    put(members, alloc, "key", key_value(info.key))?;
+    put_count(members, alloc, "msg_cbytes", u64::from(info.cbytes))?;
+    put_count(members, alloc, "msg_ctime", info.ctime)?;
+    put_count(members, alloc, "msg_lrpid", u64::from(info.lrpid))?;
+    put_count(members, alloc, "msg_lspid", u64::from(info.lspid))?;
+    let permissions = permissions_object(alloc, info.permissions)?;
+    put(members, alloc, "msg_perm", permissions)?;
+    put_count(members, alloc, "msg_qbytes", u64::from(info.qbytes))?;
+    put_count(members, alloc, "msg_qnum", u64::from(info.qnum))?;
+    put_count(members, alloc, "msg_rtime", info.rtime)?;
+    put_count(members, alloc, "msg_stime", info.stime)?;
+    Ok(())
 }
 
 /// A key, or null where there is none.
@@ -127,16 +142,28 @@ fn key_value(key: Option<u32>) -> Value
 fn permissions_object(alloc: Global, permissions: Permissions) -> Result<Value, NoMemory>
     ensures { IfOk result (λ value. view value ≡ permissions_data permissions) }
 {
+    let mut members = Map::new(alloc);
+    put_permissions(&mut members, alloc, permissions)?;
+    Ok(Value::Object(members))
+}
+
+/// Puts the owner, the creator and the mode of a queue into an object that is empty.
+fn put_permissions(
+    members: &mut Map<String, Value>,
+    alloc: Global,
+    permissions: Permissions,
+) -> Result<(), NoMemory>
+    ensures { members_view members.old.entries ≡ no_members →
+        OnOk result (object (members_view members.new.entries) ≡ permissions_data permissions) }
+{
+    put_count(members, alloc, "cgid", u64::from(permissions.cgid))?;
+    put_count(members, alloc, "cuid", u64::from(permissions.cuid))?;
+    put_count(members, alloc, "gid", u64::from(permissions.gid))?;
+    put_count(members, alloc, "mode", u64::from(permissions.mode))?;
     let digits = octal(alloc, permissions.mode)?;
-    let value = json!(in alloc; {
-        "cgid": permissions.cgid,
-        "cuid": permissions.cuid,
-        "gid": permissions.gid,
-        "mode": permissions.mode,
-        "mode_octal": digits,
-        "uid": permissions.uid
-    })?;
-    Ok(value)
+    put(members, alloc, "mode_octal", Value::from(digits))?;
+    put_count(members, alloc, "uid", u64::from(permissions.uid))?;
+    Ok(())
 }
 
 /// Nine bits as three octal digits.
@@ -164,17 +191,30 @@ fn push_digit(digits: &mut String, number: u16) -> Result<(), NoMemory>
 fn message_object(alloc: Global, message: &Message) -> Result<Value, NoMemory>
     ensures { IfOk result (λ value. view value ≡ message_data message.now) }
 {
-    let bytes = message.bytes.as_slice();
-    let text = String::from_utf8_lossy(alloc, bytes)?;
-    let digits = hex::encode(alloc, bytes)?;
     let mut members = Map::new(alloc);
-    put_count(&mut members, alloc, "length", bytes.len() as u64)?;
-    put(&mut members, alloc, "mtext", Value::from(text))?;
-    put(&mut members, alloc, "mtext_hex", Value::from(digits))?;
-    put(&mut members, alloc, "mtype", Value::from(message.mtype))?;
-    put_count(&mut members, alloc, "sender", u64::from(message.sender))?;
-    put_count(&mut members, alloc, "serial", message.serial)?;
+    put_message(&mut members, alloc, message)?;
     Ok(Value::Object(members))
+}
+
+/// Puts a message into an object that is empty.
+fn put_message(
+    members: &mut Map<String, Value>,
+    alloc: Global,
+    message: &Message,
+) -> Result<(), NoMemory>
+    ensures { members_view members.old.entries ≡ no_members →
+        OnOk result (object (members_view members.new.entries) ≡ message_data message.now) }
+{
+    let bytes = message.bytes.as_slice();
+    put_count(members, alloc, "length", bytes.len() as u64)?;
+    let text = String::from_utf8_lossy(alloc, bytes)?;
+    put(members, alloc, "mtext", Value::from(text))?;
+    let digits = hex::encode(alloc, bytes)?;
+    put(members, alloc, "mtext_hex", Value::from(digits))?;
+    put(members, alloc, "mtype", Value::from(message.mtype))?;
+    put_count(members, alloc, "sender", u64::from(message.sender))?;
+    put_count(members, alloc, "serial", message.serial)?;
+    Ok(())
 }
 
 /// Puts a number as a member.

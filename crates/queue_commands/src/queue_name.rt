@@ -6,7 +6,7 @@ ghost use Rattle.queue_commands.specs.Naming.{is_named};
 use queue_model::{Queue, System};
 
 /// How a queue is named.
-#[derive(Clone, Copy, PartialEq, Eq)]
+#[derive(Clone, Copy)]
 pub enum QueueName {
     /// By its key.
     Key(u32),

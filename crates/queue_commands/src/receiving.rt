@@ -1,6 +1,7 @@
 //! Messages are received.
 
-ghost use Rattle.std.specs.Prelude.{◌≡◌, ◌++◌, ℕ, OnOk, length};
+ghost use Rattle.std.specs.Prelude.{◌≡◌, ◌++◌, ◌∷◌, [], ℕ, OnOk, length};
+ghost use Rattle.std.specs.Fmt.{decimal};
 ghost use Rattle.queue_model.specs.State.{State};
 ghost use Rattle.queue_model.specs.declared.caller.Caller.{Caller};
 ghost use Rattle.queue_commands.specs.Coming.{Comes};
@@ -152,12 +153,17 @@ fn put_message(text: &mut Text, heads: bool, message: &Message) -> Result<(), No
 fn put_head(text: &mut Text, message: &Message) -> Result<(), NoMemory>
     ensures { OnOk result (text.new ≡ text.old ++ head_text message.now) }
 {
-    text.put_number(message.serial)?;
-    text.put(b" ")?;
-    text.put_number(u64::from(message.sender))?;
-    text.put(b" ")?;
+    put_field(text, message.serial)?;
+    put_field(text, u64::from(message.sender))?;
     text.put_signed(message.mtype)?;
     text.put(b" ")?;
-    text.put_number(message.bytes.len() as u64)?;
-    text.put(b"\n")
+    text.put_number_line(message.bytes.len() as u64)
+}
+
+/// Puts a number last, and a space.
+fn put_field(text: &mut Text, number: u64) -> Result<(), NoMemory>
+    ensures { OnOk result (text.new ≡ text.old ++ decimal number ++ 32 ∷ []) }
+{
+    text.put_number(number)?;
+    text.put(b" ")
 }

@@ -51,7 +51,7 @@ pub struct Sending {
 }
 
 /// Messages that are received from a queue, one after the other.
-#[derive(Clone, Copy, PartialEq, Eq)]
+#[derive(Clone, Copy)]
 pub struct Receiving {
     /// The queue.
     pub queue: QueueName,
@@ -70,7 +70,7 @@ pub struct Receiving {
 }
 
 /// How a queue is made.
-#[derive(Clone, Copy, PartialEq, Eq)]
+#[derive(Clone, Copy)]
 pub struct NewQueue {
     /// Its mode, of which the low nine bits count.
     pub mode: u16,
@@ -79,7 +79,7 @@ pub struct NewQueue {
 }
 
 /// A queue is set.
-#[derive(Clone, Copy, PartialEq, Eq)]
+#[derive(Clone, Copy)]
 pub struct Setting {
     /// The queue.
     pub queue: QueueName,
@@ -88,7 +88,7 @@ pub struct Setting {
 }
 
 /// What is set of a queue; none keeps what it has.
-#[derive(Clone, Copy, PartialEq, Eq)]
+#[derive(Clone, Copy)]
 pub struct Settings {
     /// As many bytes may its messages have together.
     pub qbytes: Option<u32>,

@@ -81,6 +81,5 @@ fn put_serial(text: &mut Text, tells: bool, serial: u64) -> Result<(), NoMemory>
     if !tells {
         return Ok(());
     }
-    text.put_number(serial)?;
-    text.put(b"\n")
+    text.put_number_line(serial)
 }

@@ -1,6 +1,6 @@
 //! A text that is printed once it is whole.
 
-ghost use Rattle.std.specs.Prelude.{◌≡◌, ◌++◌, [], OnOk};
+ghost use Rattle.std.specs.Prelude.{◌≡◌, ◌++◌, ◌∷◌, [], OnOk};
 ghost use Rattle.std.specs.Fmt.{decimal, signed_decimal};
 
 use itoa::Buffer;
@@ -56,6 +56,14 @@ impl Text {
         ensures { OnOk result (self.new ≡ self.old ++ decimal number) }
     {
         self.put(Buffer::new().format(number).as_bytes())
+    }
+
+    /// Puts the decimal digits of a number last, as a line.
+    pub fn put_number_line(&mut self, number: u64) -> Result<(), NoMemory>
+        ensures { OnOk result (self.new ≡ self.old ++ decimal number ++ 10 ∷ []) }
+    {
+        self.put_number(number)?;
+        self.put(b"\n")
     }
 
     /// Puts the decimal digits of a number last, with a `-` in front where it is negative.
