@@ -13,7 +13,7 @@ use std::rt::Files;
 const MAGIC: &[u8] = b"MSGQFILE";
 
 /// What the first bytes of a file say.
-#[derive(Clone, Copy, PartialEq, Eq)]
+#[derive(Clone, Copy)]
 enum Beginning {
     /// It is no file of message queues.
     Foreign,

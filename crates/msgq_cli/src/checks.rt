@@ -11,7 +11,7 @@ ghost use Rattle.msgq_cli.specs.Outputs.{Prints};
 
 use crate::complaint::complain_of_fault;
 use crate::ending::{Ending, Failure, Stage};
-use crate::file_map::read_map;
+use crate::file_map::{FileMap, read_map};
 use crate::files::open_to_read;
 use crate::fullness::read_fullness;
 use crate::map_json::print_map;
@@ -76,9 +76,7 @@ where
     print_found(report, &found, output);
     let Err(fault) = found else {
         if is_verbose || errors.is_terminal() {
-            if let Some(fullness) = read_fullness(&mut device) {
-                fullness.tell(file, errors);
-            }
+            tell_fullness(&mut device, file, errors);
         }
         return Ending::Done;
     };
@@ -104,11 +102,7 @@ where
         Ok(checked) => checked,
         Err(Failure { stage, fault }) => return fail(stage, fault, output),
     };
-    let mapped = match found {
-        Ok(system) => read_map(rt.alloc(), &mut device, &system).map_err(CheckFault::Structure),
-        Err(fault) => Err(fault),
-    };
-    let map = match mapped {
+    let map = match map_of(rt.alloc(), &mut device, found) {
         Ok(map) => map,
         Err(fault) => {
             complain_of_fault(file, what(fault), fault.number(), fault, errors);
@@ -122,6 +116,26 @@ where
             complain_of_fault(file, CANT, faults::NO_MEMORY, why, errors);
             fail(Stage::Checking, faults::NO_MEMORY, output)
         }
+    }
+}
+
+/// Says how full the file of a device is, where its header can be read.
+fn tell_fullness<D: PageDevice, E: Write>(device: &mut D, file: &str, errors: &mut E) {
+    if let Some(fullness) = read_fullness(device) {
+        fullness.tell(file, errors);
+    }
+}
+
+/// The map of the file of a device on which a check found this.
+fn map_of<D: PageDevice>(
+    alloc: Global,
+    device: &mut D,
+    found: Result<System, CheckFault>,
+) -> Result<FileMap, CheckFault> {
+    let system = found?;
+    match read_map(alloc, device, &system) {
+        Ok(map) => Ok(map),
+        Err(fault) => Err(CheckFault::Structure(fault)),
     }
 }
 

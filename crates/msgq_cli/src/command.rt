@@ -17,7 +17,7 @@ use std::alloc::Global;
 pub const DEFAULT_MODE: u16 = 0o666;
 
 /// What a line asks for.
-#[derive(Drop, PartialEq)]
+#[derive(Drop)]
 pub enum Command {
     /// A call, made by the seat's caller at the moment of the line's number.
     Call(Call),

@@ -22,7 +22,7 @@ use std::alloc::{AllocError, Global};
 use std::time::Duration;
 
 /// What the command line asks for.
-#[derive(Drop, PartialEq)]
+#[derive(Drop)]
 pub enum Task<'a> {
     /// The script of standard input, on a new file in memory.
     Serve,
@@ -102,7 +102,7 @@ const ONE_INPUT: &str = "SCRIPT and SCHEDULE can't both be standard input";
 const WRONG_PAGES: &str = "PAGES, a decimal number from 258 to 65536, without a sign";
 
 /// What is wrong with words that the parser takes.
-#[derive(Clone, Copy, PartialEq, Eq)]
+#[derive(Clone, Copy)]
 enum Wrong<'a> {
     /// SCRIPT and SCHEDULE would both be that of standard input.
     OneInput,

@@ -11,7 +11,7 @@ use crate::plain::Plain;
 use numbers::faults;
 use rollback_journal::Refused;
 use schedules::words;
-use std::alloc::Global;
+use std::alloc::{AllocError, Global};
 use std::fmt::Display;
 use std::io;
 use std::io::Write;
@@ -160,34 +160,33 @@ pub(crate) fn complain_of_line<E: Write>(
     errors: &mut E,
 ) {
     let _ = writeln!(errors, "script line {line}");
-    match mistake {
-        Mistake::Word(number, _) => {
-            let line = line_at(text, line);
-            let Ok(words) = words(alloc, text_of(line).unwrap_or(line)) else {
-                return;
-            };
-            let _ = match words.get(number.saturating_sub(1)) {
-                Some(word) => print_word(word, errors),
-                None => writeln!(errors, "  not understood: the end of the line"),
-            };
-        }
-        Mistake::ReturnAtEnd => {
-            let _ = writeln!(errors, "  not understood: a CR at the end of the script");
-        }
-        Mistake::NotAscii => {
-            let _ = writeln!(errors, "  not understood: a byte from 128 on");
-        }
-        Mistake::Blanks => {
-            let _ = writeln!(errors, "  not understood: a line of blanks");
-        }
-        Mistake::LateIds => {
-            let _ = writeln!(
-                errors,
-                "  not understood: ids behind a command, or again for a seat"
-            );
-        }
-    }
+    let word = match mistake {
+        Mistake::Word(number, _) => word_at(alloc, line_at(text, line), number),
+        _ => Ok(None),
+    };
+    let _ = match word {
+        Ok(Some(word)) => print_word(word, errors),
+        Ok(None) => writeln!(errors, "  not understood: {}", what_stands(mistake)),
+        Err(_) => return,
+    };
     let _ = writeln!(errors, "  could stand there: {}", could(mistake));
+}
+
+/// The word of a number of a line, if it has so many; words count from 1.
+fn word_at(alloc: Global, line: &[u8], number: usize) -> Result<Option<&[u8]>, AllocError> {
+    let words = words(alloc, text_of(line).unwrap_or(line))?;
+    Ok(words.get(number.saturating_sub(1)).copied())
+}
+
+/// What stands where a line is wrong, and no word is.
+fn what_stands(mistake: Mistake) -> &'static str {
+    match mistake {
+        Mistake::Word(..) => "the end of the line",
+        Mistake::ReturnAtEnd => "a CR at the end of the script",
+        Mistake::NotAscii => "a byte from 128 on",
+        Mistake::Blanks => "a line of blanks",
+        Mistake::LateIds => "ids behind a command, or again for a seat",
+    }
 }
 
 /// What could stand where a line is wrong.

@@ -7,7 +7,7 @@ use crate::reply::Reply;
 use file_check::CheckFault;
 
 /// How a run ends.
-#[derive(Clone, Copy, PartialEq, Eq)]
+#[derive(Clone, Copy)]
 pub enum Ending {
     /// No fault was printed.
     Done,
@@ -25,7 +25,7 @@ pub enum Ending {
 }
 
 /// A fault that no line met.
-#[derive(Clone, Copy, PartialEq, Eq)]
+#[derive(Clone, Copy)]
 pub struct Failure {
     /// What was being done.
     pub stage: Stage,

@@ -7,7 +7,7 @@ use queue_model::System;
 use std::alloc::Global;
 
 /// A bucket on the map of a file.
-#[derive(Clone, Copy, PartialEq, Eq)]
+#[derive(Clone, Copy)]
 pub struct MappedBucket {
     /// The page on which it stands.
     pub page: u32,
@@ -54,10 +54,7 @@ pub fn read_map<D: PageDevice>(
     system: &System,
 ) -> Result<FileMap, StructureFault> {
     let Structure { outline, chain } = check_structure(alloc, device)?;
-    let mut buckets = Vec::with_capacity(alloc, chain.len())?;
-    for page in chain.iter() {
-        buckets.push(read_bucket(device, *page)?)?;
-    }
+    let buckets = buckets_of(alloc, device, chain.as_slice())?;
     Ok(FileMap {
         pages: outline.pages(),
         depth: outline.depth(),
@@ -67,6 +64,19 @@ pub fn read_map<D: PageDevice>(
         queues: system.queues() as u64,
         messages: system.messages() as u64,
     })
+}
+
+/// The buckets on the pages of a chain.
+fn buckets_of<D: PageDevice>(
+    alloc: Global,
+    device: &mut D,
+    chain: &[u32],
+) -> Result<Vec<MappedBucket>, StructureFault> {
+    let mut buckets = Vec::with_capacity(alloc, chain.len())?;
+    for page in chain {
+        buckets.push(read_bucket(device, *page)?)?;
+    }
+    Ok(buckets)
 }
 
 /// The page that each entry of the directory names.

@@ -15,9 +15,10 @@ use crate::refusals::{fail, read_text};
 use crate::reply::print_made;
 use directory::LEAST_PAGES;
 use numbers::faults;
-use page_device::{DeviceFault, FileDevice, MAX_PAGES, PageDevice, SystemFile};
+use page_device::{DeviceFault, FileDevice, MAX_PAGES, PageDevice, PageFile, SystemFile};
 use record_file::format;
 use rollback_journal::OpenError;
+use std::alloc::Global;
 use std::fs::{File, OpenOptions};
 use std::io::{BufWriter, IsTerminal, Read, Write};
 use std::rt::Files;
@@ -81,19 +82,8 @@ where
         Ok(transfers) => transfers,
         Err(why) => return Err(unnamed.give_up(rt, why, errors)),
     };
-    let Ok(writer) = BufWriter::with_capacity(alloc, 0, Vec::new(alloc)) else {
-        unreachable!()
-    };
-    // that it is made is told once it has its name
-    let mut unseen = Output::new(writer);
-    let ending = {
-        let progress = Progress::new(&mut *errors);
-        let device = Shown::new(FileDevice::new(heard, 0), &progress);
-        let (device, ending) = new_on(device, pages, &mut unseen);
-        let _ = device.into_device();
-        ending
-    };
-    if ending == Ending::Done {
+    let ending = make_pages(alloc, heard, pages, errors);
+    if matches!(ending, Ending::Done) {
         if unnamed.give_name(rt, errors) {
             return Ok(());
         }
@@ -108,6 +98,26 @@ where
         Ending::Failed(Failure { stage: _, fault }) => Err(fault),
         _ => Err(faults::DEVICE),
     }
+}
+
+/// Makes so many pages of a file that has none. That it is made is told once it has its name, so
+/// nothing is printed.
+fn make_pages<F, E>(alloc: Global, file: F, pages: u32, errors: &mut E) -> Ending
+where
+    F: PageFile + Drop,
+    E: Write + IsTerminal,
+    requires least { LEAST_PAGES ≤ pages }
+    requires most { pages ≤ MAX_PAGES }
+{
+    let Ok(writer) = BufWriter::with_capacity(alloc, 0, Vec::new(alloc)) else {
+        unreachable!()
+    };
+    let mut unseen = Output::new(writer);
+    let progress = Progress::new(errors);
+    let device = Shown::new(FileDevice::new(file, 0), &progress);
+    let (device, ending) = new_on(device, pages, &mut unseen);
+    let _ = device.into_device();
+    ending
 }
 
 /// Makes a file of so many pages on a device without pages.

@@ -8,7 +8,7 @@ use std::fmt::{Display, Formatter};
 use std::io::Write;
 
 /// How many pages a file has, and what they are used for.
-#[derive(Clone, Copy, PartialEq, Eq)]
+#[derive(Clone, Copy)]
 pub struct Fullness {
     /// Its pages.
     pub pages: u32,

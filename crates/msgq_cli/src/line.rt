@@ -13,7 +13,7 @@ use schedules::{is_word, seat, words_into};
 use std::alloc::Global;
 
 /// A line with a command.
-#[derive(Drop, PartialEq)]
+#[derive(Drop)]
 pub struct Line {
     /// Its number in the script, counted from 1 over all lines; the moment of its call.
     pub number: u64,
@@ -24,7 +24,7 @@ pub struct Line {
 }
 
 /// A line that says which user and group a seat's caller has.
-#[derive(Clone, Copy, PartialEq, Eq)]
+#[derive(Clone, Copy)]
 pub struct SeatIds {
     /// The seat: 1 to `SEATS`.
     pub seat: u8,
@@ -35,7 +35,7 @@ pub struct SeatIds {
 }
 
 /// What a line says.
-#[derive(Drop, PartialEq)]
+#[derive(Drop)]
 pub(crate) enum Content {
     /// It is empty or a comment.
     Nothing,

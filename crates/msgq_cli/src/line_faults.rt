@@ -3,7 +3,7 @@
 use numbers::faults;
 
 /// Where a kind of fault was met.
-#[derive(Clone, Copy, PartialEq, Eq)]
+#[derive(Clone, Copy)]
 pub(crate) struct Met {
     /// The first line that met it.
     pub first: u64,
@@ -12,7 +12,7 @@ pub(crate) struct Met {
 }
 
 /// The faults that lines were replied, of each kind that a line meets by itself.
-#[derive(Clone, Copy, PartialEq, Eq)]
+#[derive(Clone, Copy)]
 pub(crate) struct LineFaults {
     /// 50.
     pub no_room: Option<Met>,

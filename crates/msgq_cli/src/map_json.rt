@@ -1,16 +1,16 @@
 //! The map of a file as JSON.
 
 ghost use Rattle.std.specs.Prelude.{◌≡◌, ◌∷◌, ◌++◌, [], false, IfOk, OnErr, OnOk, map, string_bytes};
-ghost use Rattle.msgq_cli.specs.Maps.{bucket_data, count, map_data, map_of, map_text};
+ghost use Rattle.msgq_cli.specs.Maps.{bucket_data, count, map_data, map_text};
 ghost use Rattle.msgq_cli.specs.Outputs.{Prints};
-ghost use Rattle.serde_json.specs.Data.{Data, put as with_member};
+ghost use Rattle.serde_json.specs.Data.{Data, no_members, object, put as with_member};
 ghost use Rattle.serde_json.specs.View.{members_view, view};
 ghost use Rattle.serde_json.specs.Written.{compact_text, has_float};
 
 use crate::file_map::{FileMap, MappedBucket};
 use crate::output::Output;
 use numbers::faults::NoMemory;
-use serde_json::{Map, Value, json, put};
+use serde_json::{Map, Value, put};
 use std::alloc::Global;
 use std::io::Write;
 
@@ -60,33 +60,26 @@ fn written(alloc: Global, value: &Value) -> Result<String, NoMemory>
 fn map_object(alloc: Global, map: &FileMap) -> Result<Value, NoMemory>
     ensures { IfOk result (λ value. view value ≡ map_data map.now) }
 {
-    let buckets = bucket_objects(alloc, map.buckets.as_slice())?;
-    let entries = numbers_of(alloc, map.entries.as_slice())?;
-    let free = numbers_of(alloc, map.free.as_slice())?;
-    let value = object_of(alloc, map, buckets, entries, free)?;
-    Ok(value)
+    let mut members = Map::new(alloc);
+    put_map(&mut members, alloc, map)?;
+    Ok(Value::Object(members))
 }
 
-/// The object of a map, of which these are the buckets, the entries and the free pages.
-fn object_of(
-    alloc: Global,
-    file: &FileMap,
-    buckets: Vec<Value>,
-    entries: Vec<Value>,
-    free: Vec<Value>,
-) -> Result<Value, NoMemory>
-    ensures { IfOk result (λ value. view value ≡ map_of file.now
-        (map view buckets.items) (map view entries.items) (map view free.items)) }
+/// Puts a map into an object that is empty.
+fn put_map(members: &mut Map<String, Value>, alloc: Global, map: &FileMap) -> Result<(), NoMemory>
+    ensures { members_view members.old.entries ≡ no_members →
+        OnOk result (object (members_view members.new.entries) ≡ map_data map.now) }
 {
-    let mut members = Map::new(alloc);
-    put(&mut members, alloc, "buckets", Value::Array(buckets))?;
-    put_count(&mut members, alloc, "depth", u64::from(file.depth))?;
-    put(&mut members, alloc, "entries", Value::Array(entries))?;
-    put(&mut members, alloc, "free", Value::Array(free))?;
-    put_count(&mut members, alloc, "messages", file.messages)?;
-    put_count(&mut members, alloc, "pages", u64::from(file.pages))?;
-    put_count(&mut members, alloc, "queues", file.queues)?;
-    Ok(Value::Object(members))
+    let buckets = bucket_objects(alloc, map.buckets.as_slice())?;
+    put(members, alloc, "buckets", Value::Array(buckets))?;
+    put_count(members, alloc, "depth", u64::from(map.depth))?;
+    let entries = numbers_of(alloc, map.entries.as_slice())?;
+    put(members, alloc, "entries", Value::Array(entries))?;
+    let free = numbers_of(alloc, map.free.as_slice())?;
+    put(members, alloc, "free", Value::Array(free))?;
+    put_count(members, alloc, "messages", map.messages)?;
+    put_count(members, alloc, "pages", u64::from(map.pages))?;
+    put_count(members, alloc, "queues", map.queues)
 }
 
 /// Puts a number as a member.
@@ -119,15 +112,26 @@ fn bucket_objects(alloc: Global, buckets: &[MappedBucket]) -> Result<Vec<Value>,
 fn bucket_object(alloc: Global, bucket: MappedBucket) -> Result<Value, NoMemory>
     ensures { IfOk result (λ value. view value ≡ bucket_data bucket) }
 {
-    let value = json!(in alloc; {
-        "bytes": bucket.bytes,
-        "depth": bucket.depth,
-        "next": bucket.next,
-        "page": bucket.page,
-        "pattern": bucket.pattern,
-        "records": bucket.records
-    })?;
-    Ok(value)
+    let mut members = Map::new(alloc);
+    put_bucket(&mut members, alloc, bucket)?;
+    Ok(Value::Object(members))
+}
+
+/// Puts a bucket into an object that is empty.
+fn put_bucket(
+    members: &mut Map<String, Value>,
+    alloc: Global,
+    bucket: MappedBucket,
+) -> Result<(), NoMemory>
+    ensures { members_view members.old.entries ≡ no_members →
+        OnOk result (object (members_view members.new.entries) ≡ bucket_data bucket) }
+{
+    put_count(members, alloc, "bytes", bucket.bytes)?;
+    put_count(members, alloc, "depth", u64::from(bucket.depth))?;
+    put_count(members, alloc, "next", u64::from(bucket.next))?;
+    put_count(members, alloc, "page", u64::from(bucket.page))?;
+    put_count(members, alloc, "pattern", u64::from(bucket.pattern))?;
+    put_count(members, alloc, "records", bucket.records)
 }
 
 /// A value for each number.

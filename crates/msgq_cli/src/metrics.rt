@@ -11,7 +11,7 @@ use queue_model::{Queue, System};
 use std::io::Write;
 
 /// A number that is told of each queue.
-#[derive(Clone, Copy, PartialEq, Eq)]
+#[derive(Clone, Copy)]
 pub enum Metric {
     /// Messages on it.
     Messages,

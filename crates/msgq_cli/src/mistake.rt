@@ -5,7 +5,7 @@ ghost use Rattle.std.specs.Prelude.{◌≡◌};
 use std::alloc::{AllocError, AllocFailed};
 
 /// Why a line is none of the grammar.
-#[derive(Clone, Copy, Debug, PartialEq, Eq)]
+#[derive(Clone, Copy)]
 pub enum Mistake {
     /// At the word of this number, counted from 1, or at the end of a line that has no such word:
     /// this could stand there.
@@ -21,7 +21,7 @@ pub enum Mistake {
 }
 
 /// What could stand at a word's place.
-#[derive(Clone, Copy, Debug, PartialEq, Eq)]
+#[derive(Clone, Copy)]
 pub enum Expected {
     /// A seat or `ids`, the first word of a line.
     SeatOrIds,
@@ -50,7 +50,7 @@ pub enum Expected {
 }
 
 /// A call that may have options.
-#[derive(Clone, Copy, Debug, PartialEq, Eq)]
+#[derive(Clone, Copy)]
 pub enum Optional {
     Get,
     Send,
@@ -59,7 +59,7 @@ pub enum Optional {
 }
 
 /// Why a line is not read.
-#[derive(Clone, Copy, PartialEq, Eq)]
+#[derive(Clone, Copy)]
 pub(crate) enum Unread {
     /// The grammar does not have it.
     Wrong(Mistake),

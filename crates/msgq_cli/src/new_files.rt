@@ -156,16 +156,8 @@ impl<'a> Unnamed<'a> {
             }
         }
         for _ in 0..TRIES {
-            match how.open(rt, beside.as_str()) {
-                Ok(file) => {
-                    if lock(rt, beside.as_str(), &file)? {
-                        return Ok(Unnamed { name, beside, file });
-                    }
-                }
-                Err(error) if error.kind() == ErrorKind::AlreadyExists => {
-                    remove_left(rt, beside.as_str())?;
-                }
-                Err(error) => return Err(error.into()),
+            if let Some(file) = begin_at(rt, beside.as_str(), how)? {
+                return Ok(Unnamed { name, beside, file });
             }
         }
         Err(Unmade::InMaking)
@@ -320,6 +312,24 @@ where
         Err(error) if error.kind() == ErrorKind::OutOfMemory => Err(error.into()),
         _ => Ok(()),
     }
+}
+
+/// Makes a file by this name and locks it. None where it has lost the name, or where something was
+/// there: what a process that was killed has left is removed.
+fn begin_at<R>(rt: &R, name: &str, how: &OpenOptions) -> Result<Option<File>, Unmade>
+where
+    R: Files<File = File>,
+{
+    let file = match how.open(rt, name) {
+        Ok(file) => file,
+        Err(error) if error.kind() == ErrorKind::AlreadyExists => {
+            remove_left(rt, name)?;
+            return Ok(None);
+        }
+        Err(error) => return Err(error.into()),
+    };
+    let has_name = lock(rt, name, &file)?;
+    Ok(if has_name { Some(file) } else { None })
 }
 
 /// Locks a file, and tells whether it still has its name. Where another process has it locked, that

@@ -10,7 +10,7 @@ use crate::mistake::{Expected, Optional, Unread};
 use schedules::{is_word, mode, number};
 
 /// Which options stand after a call, and their values.
-#[derive(Clone, Copy, PartialEq, Eq)]
+#[derive(Clone, Copy)]
 pub(crate) struct Options {
     pub create: bool,
     pub excl: bool,

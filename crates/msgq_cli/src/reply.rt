@@ -14,7 +14,7 @@ use queue_model::{Answer, Message, QueueInfo};
 use std::io::Write;
 
 /// What became of a line's command.
-#[derive(Drop, PartialEq)]
+#[derive(Drop)]
 pub enum Reply {
     /// Its call was answered.
     Answered(Answer),

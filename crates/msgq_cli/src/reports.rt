@@ -12,7 +12,7 @@ use queue_model::System;
 use std::io::Write;
 
 /// What is told of a system.
-#[derive(Clone, Copy, PartialEq, Eq)]
+#[derive(Clone, Copy)]
 pub enum Report {
     /// How many queues it has, and messages on them.
     Counts,
@@ -23,7 +23,7 @@ pub enum Report {
 }
 
 /// What was done with a file to make a new one.
-#[derive(Clone, Copy, PartialEq, Eq)]
+#[derive(Clone, Copy)]
 pub enum Deed {
     /// An older version became today's.
     Migrated,
@@ -50,7 +50,7 @@ impl Deed {
 }
 
 /// A report that is asked for.
-#[derive(Clone, Copy, PartialEq, Eq)]
+#[derive(Clone, Copy)]
 pub struct ReportRequest<'a> {
     /// The file.
     pub file: &'a str,

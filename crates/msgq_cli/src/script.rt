@@ -14,13 +14,11 @@ use memchr::memchr;
 use queue_model::Caller;
 use std::alloc::Global;
 use std::marker::Model;
-use thiserror::Error;
 
 /// Why a script is not read.
-#[derive(Clone, Copy, Debug, PartialEq, Eq, Error)]
+#[derive(Clone, Copy)]
 pub enum ScriptError {
     /// The grammar does not have this line, and has all lines before it. Lines count from 1.
-    #[error("script line {line}")]
     WrongLine {
         /// Its number.
         line: u64,
@@ -28,7 +26,6 @@ pub enum ScriptError {
         mistake: Mistake,
     },
     /// A growth was refused (fault 60).
-    #[error("no memory")]
     NoMemory,
 }
 

@@ -24,19 +24,25 @@ pub fn with_waits(alloc: Global, words: Vec<String>) -> Result<Vec<String>, Allo
     let mut has_ended = false;
     for word in words {
         let text = word.as_str();
-        if waits && milliseconds(text.as_bytes()).is_some() {
-            if let Some(option) = joined.last_mut() {
-                option.push_str("=")?;
-                option.push_str(text)?;
-            }
-            waits = false;
-            continue;
-        }
+        let is_value = waits && milliseconds(text.as_bytes()).is_some();
         has_ended |= text == "--";
         waits = !has_ended && (text == "--wait" || text == "-w");
-        joined.push(word)?;
+        add_word(&mut joined, word, is_value)?;
     }
     Ok(joined)
+}
+
+/// Adds a word, or joins it to the last one where it is the value of that.
+fn add_word(words: &mut Vec<String>, word: String, is_value: bool) -> Result<(), AllocError> {
+    if !is_value {
+        words.push(word)?;
+        return Ok(());
+    }
+    let Some(option) = words.last_mut() else {
+        return Ok(());
+    };
+    option.push_str("=")?;
+    option.push_str(word.as_str())
 }
 
 /// The thousandths of a second that a word of seconds says.
