@@ -5,15 +5,19 @@ ghost use Rattle.queue_commands.specs.Statuses.{number_of, status_of};
 
 use numbers::faults::NoMemory;
 use queue_model::Errno;
+use thiserror::Error;
 
 /// Why a command comes to no text.
-#[derive(Drop)]
+#[derive(Debug, Drop, Error)]
 pub enum AskError {
     /// The system refused one of its calls.
+    #[error("{}", .0.name())]
     Refused(Errno),
     /// One of its calls was not answered.
+    #[error("a call was not answered")]
     Unanswered,
     /// There was no memory for a body or for the text.
+    #[error("out of memory")]
     NoMemory,
 }
 
