@@ -1,8 +1,7 @@
 -- The entry of a call, by its parts.
-use Rattle.std.proofs.Common.{◌≡◌, ℕ, ◌+◌, ◌^◌, ◌<◌, ◌≤◌, ◌==◌, Bool, true, false, refl, sym, ap, ◌∙◌, subst, arith, List, [], ◌∷◌, ◌++◌, length, take, drop, Option, Some, None, Result, Ok, Err}
+use Rattle.std.proofs.Common.{◌≡◌, ℕ, ◌+◌, ◌^◌, ◌<◌, ◌≤◌, ◌==◌, refl, sym, ap, ◌∙◌, subst, arith, List, [], ◌∷◌, ◌++◌, length, take, drop, Some}
 use Rattle.std.specs.Prelude.{if◌then◌else◌}
-use Rattle.std.proofs.lemmas.Bool.{eqb-true}
-use Rattle.std.proofs.lemmas.List.{append-nil, append_assoc, length-append}
+use Rattle.std.proofs.lemmas.List.{append_assoc, length-append}
 use Rattle.std.proofs.Math.Seq.{drop-append_seam, take-append_seam}
 use Rattle.queue_model.specs.Rules.{Outcome}
 use Rattle.queue_model.specs.State.{State}
@@ -10,21 +9,19 @@ use Rattle.queue_model.specs.declared.call.Call.{Call}
 use Rattle.queue_model.specs.declared.call.Call.TheVariants.{Get, Send, Receive, Stat, Set, Remove}
 use Rattle.queue_model.specs.declared.caller.Caller.{Caller}
 use Rattle.frames.specs.Little.{eight, eight_at}
-use Rattle.frames.specs.Records.{Fits, at_moment, call_at, head_of, size_at, spelled}
-use Rattle.frames.specs.Spelling.{asked_by, call_record}
+use Rattle.frames.specs.Records.{at_moment, head_of, size_at, spelled}
+use Rattle.frames.specs.Spelling.{asked_by}
 use Rattle.frames.specs.declared.incoming.Incoming.{Incoming}
 use Rattle.frames.specs.declared.incoming.Kind.{Kind}
 use Rattle.frames.specs.declared.incoming.Kind.TheVariants as kinds
 use Rattle.frames.specs.declared.incoming.Operation.{Operation}
 use Rattle.frames.specs.declared.incoming.Operation.TheVariants as operations
-use Rattle.frames.proofs.FrameLaws.{head_first, is_same}
+use Rattle.frames.proofs.FrameLaws.{head_first}
 use Rattle.frames.proofs.LittleLaws.{eight_again, length-eight}
-use Rattle.frames.proofs.PartLaws.{eight_then}
 use Rattle.frames.proofs.RecordLaws.{fits_head, one_incoming}
 use Rattle.call_entries.specs.Entries as entries
 use Rattle.call_entries.specs.Entries.{FitsEntry, IsMade, LeadsBy, entry_bytes, moment_of, nobody}
 use Rattle.call_entries.specs.Laws.{AreOfOneCall, LeadToOneSystem}
-use Rattle.call_entries.specs.Reading.{entry_in}
 use Rattle.call_entries.specs.declared.entry.CallEntry.{CallEntry}
 use Rattle.call_entries.proofs.RuleLemmas.{system_in}
 

@@ -16,7 +16,7 @@ use Rattle.frames.specs.declared.incoming.Kind.TheVariants as kinds
 use Rattle.frames.specs.declared.incoming.Operation.{Operation}
 use Rattle.frames.specs.declared.incoming.Operation.TheVariants as operations
 use Rattle.frames.specs.declared.incoming.Unread.{Unread}
-use Rattle.frames.specs.declared.incoming.Unread.TheVariants.{Broken, Wrong, NoMemory}
+use Rattle.frames.specs.declared.incoming.Unread.TheVariants.{Broken, Wrong}
 use Rattle.frames.proofs.FrameLaws.{is_same}
 use Rattle.frames.proofs.LittleLaws.{eight_takes}
 use Rattle.frames.proofs.RecordLaws.{found_first}

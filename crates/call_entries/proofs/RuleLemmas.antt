@@ -6,7 +6,7 @@ use Rattle.std.specs.List.{find}
 use Rattle.numbers.specs.declared.limits.TheConstants.{MAX_QUEUES, MAX_BODY, MAX_QBYTES, END_OF_IDS}
 use Rattle.queue_model.specs.Access.{is_owner, lacks_access}
 use Rattle.queue_model.specs.Laws.{RefusalsLeave}
-use Rattle.queue_model.specs.Rules.{Outcome, cut_at, create, get_by, get_found, has_id, has_key, info_of, lacks_room, new_queue, on_found, on_queue, outcome, outcome_of_get, put_off, raises, receive_found, receive_from, refuse, remove_from, send_to, set_to, stat_of, with_message, with_queue, with_settings, without_message, without_queue}
+use Rattle.queue_model.specs.Rules.{Outcome, cut_at, create, get_by, get_found, has_id, has_key, info_of, lacks_room, new_queue, on_found, on_queue, outcome, put_off, raises, receive_found, receive_from, refuse, remove_from, send_to, set_to, stat_of, with_message, with_queue, with_settings, without_message, without_queue}
 use Rattle.queue_model.specs.Selection.{is_too_long, selected}
 use Rattle.queue_model.specs.State.{State}
 use Rattle.queue_model.specs.declared.answer.Answer.{Answer}

@@ -1,5 +1,5 @@
 -- The parts of an entry, and what is read of them.
-use Rattle.std.specs.Prelude.{ℕ, ◌≡◌, ◌==◌, ◌&&◌, Bool, if◌then◌else◌, List, ◌++◌, Option, Some, None, drop, length}
+use Rattle.std.specs.Prelude.{ℕ, ◌≡◌, ◌==◌, ◌&&◌, if◌then◌else◌, List, ◌++◌, Option, Some, None, drop, length}
 use Rattle.queue_model.specs.declared.call.Call.{Call}
 use Rattle.queue_model.specs.declared.caller.Caller.{Caller}
 use Rattle.frames.specs.Little.{eight, eight_at}

@@ -3,7 +3,7 @@ use Rattle.std.proofs.Common.{ℕ, ◌≡◌, refl, sym, ap, subst, Bool, true, 
 use Rattle.std.specs.Prelude.{IsSome, IsTrue, filter, nat_lt, not}
 use Rattle.std.proofs.lemmas.List.Elements.{All-filter}
 use Rattle.interleavings.specs.LoneKernelWords.{PoolState, State}
-use Rattle.session.specs.Session.{CallsAs, HasFailed, SessionState, saved_of}
+use Rattle.session.specs.Session.{SessionState}
 use Rattle.session.specs.Session as sessions
 use Rattle.desk.specs.Desk.{AreQuiet, DeskState, KeepsServing, Stops, Withdraws}
 use Rattle.desk.specs.declared.asking.Asking.{Asking}

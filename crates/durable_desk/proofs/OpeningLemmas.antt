@@ -1,15 +1,12 @@
 -- A file is opened: its calls are made again, one after another.
-use Rattle.std.proofs.Common.{arith, ℕ, ◌≡◌, ◌≤◌, ◌<◌, ◌+◌, inl, inr, ⊎_elim, IsTrue, refl, sym, ap, ◌∙◌, subst, append-nil, append_assoc, Bool, true, List, [], ◌∷◌, ◌++◌, Result, Ok, Option, Some, length, slice_get, take}
+use Rattle.std.proofs.Common.{arith, ℕ, ◌≡◌, ◌≤◌, ◌<◌, ◌+◌, inl, inr, ⊎_elim, IsTrue, refl, sym, ap, ◌∙◌, subst, append-nil, append_assoc, Bool, List, [], ◌∷◌, ◌++◌, Result, Ok, Option, Some, length, slice_get}
 use Rattle.std.proofs.lemmas.List.{take_all}
 use Rattle.std.proofs.lemmas.Option.{slice_get_within}
 use Rattle.page_device.proofs.CopyLemmas.{read-more}
-use Rattle.safe_device.specs.Crash.{Keeps}
-use Rattle.safe_device.specs.Device.{DeviceState, held}
+use Rattle.safe_device.specs.Device.{DeviceState}
 use Rattle.safe_device.specs.Left.{Left, Saved, recovered_by}
-use Rattle.safe_device.specs.Safe.{StandsFor}
 use Rattle.safe_device.specs.declared.journal.Journal.{Journal}
-use Rattle.interleavings.specs.LoneKernelWords.{Answer, State}
-use Rattle.session.specs.Session.{saved_of}
+use Rattle.interleavings.specs.LoneKernelWords.{Answer}
 use Rattle.call_entries.specs.Entries.{Reads, check_of, entry_bytes, spelled}
 use Rattle.call_entries.specs.declared.reading.Unreadable.{Unreadable}
 use Rattle.call_entries.specs.declared.entry.CallEntry.{CallEntry}

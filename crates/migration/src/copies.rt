@@ -27,7 +27,7 @@ use std::io::{self, IsTerminal, Write};
 use std::rt::Files;
 
 /// What a new file is made of, and how many pages it gets.
-#[derive(Clone, Copy, PartialEq, Eq)]
+#[derive(Clone, Copy)]
 pub enum Size {
     /// The old file is of version 1, and the new one has as many more as today's directory.
     Migrated,
@@ -74,7 +74,7 @@ impl Size {
 }
 
 /// A new file that is asked for.
-#[derive(Clone, Copy, PartialEq, Eq)]
+#[derive(Clone, Copy)]
 pub struct CopyRequest<'a> {
     /// The old file, which is only read.
     pub old: &'a str,

@@ -25,7 +25,7 @@ use std::rt::{Clock, Files};
 const CANT_BE_GROWN: &str = "it can't be grown";
 
 /// A file that is to get another size.
-#[derive(Clone, Copy, PartialEq, Eq)]
+#[derive(Clone, Copy)]
 pub struct GrowRequest<'a> {
     /// The file, and how long its opening waits.
     pub file: Opening<'a>,

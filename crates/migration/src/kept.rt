@@ -29,7 +29,7 @@ struct Part {
 }
 
 /// What becomes of a message.
-#[derive(Clone, Copy, PartialEq, Eq)]
+#[derive(Clone, Copy)]
 enum Taking {
     Taken,
     Twice,

@@ -6,7 +6,7 @@ use queue_model::NoMemory;
 use std::alloc::Global;
 
 /// Pages that stand one behind the other.
-#[derive(Clone, Copy, PartialEq, Eq)]
+#[derive(Clone, Copy)]
 pub struct Pages {
     pub first: u32,
     pub last: u32,

@@ -31,7 +31,7 @@ use std::io::{self, IsTerminal, Write};
 use std::rt::Files;
 
 /// A new file that is asked for, of what can be read of another.
-#[derive(Clone, Copy, PartialEq, Eq)]
+#[derive(Clone, Copy)]
 pub struct SalvageRequest<'a> {
     /// The old file, which is only read.
     pub old: &'a str,
