@@ -6,7 +6,7 @@ ghost use Rattle.call_entries.specs.Entries.{check_of, is_refusal, may_change, m
 use queue_model::{Answer, Call, Caller};
 
 /// A call that changed the system.
-#[derive(Drop, PartialEq)]
+#[derive(Drop)]
 pub struct CallEntry {
     /// Whose call it was.
     pub caller: Caller,

@@ -22,7 +22,7 @@ use std::alloc::Global;
 use std::io::Write;
 
 /// In which form it is shown.
-#[derive(Clone, Copy, PartialEq, Eq)]
+#[derive(Clone, Copy)]
 pub enum Form {
     /// A table with headings.
     Table,

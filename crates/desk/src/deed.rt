@@ -7,7 +7,7 @@ use session::queue_model::Call;
 
 /// What a call that is answered may do, as far as it bears on calls that wait. A Get makes a queue
 /// on which nobody waits yet.
-#[derive(Clone, Copy, PartialEq, Eq)]
+#[derive(Clone, Copy)]
 pub enum Deed {
     /// Nothing.
     Nothing,

@@ -5,7 +5,7 @@ ghost use Rattle.directory.specs.declared.layout.TheConstants.{LAYOUT, OLDER_LAY
 ghost use Rattle.directory.specs.Layouts.{IsLayout, header_size, least_pages};
 
 /// The numbers in which the layouts of files differ.
-#[derive(Clone, Copy, PartialEq, Eq)]
+#[derive(Clone, Copy)]
 pub struct Layout {
     /// The second byte of the header: the version of the format.
     pub version: u8,

@@ -12,7 +12,7 @@ use buffer_pool::FilePage;
 use directory::Range;
 
 /// What a search for a key sees of a page.
-#[derive(Clone, Copy, PartialEq, Eq)]
+#[derive(Clone, Copy)]
 pub enum Sight {
     /// The page's range has the pseudokey. Of the key: the length of its value, none where
     /// it has no record.
@@ -22,7 +22,7 @@ pub enum Sight {
 }
 
 /// What a bucket says beside its records.
-#[derive(Clone, Copy, PartialEq, Eq)]
+#[derive(Clone, Copy)]
 pub struct BucketSight {
     /// The local depth.
     pub depth: u8,

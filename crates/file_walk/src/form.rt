@@ -6,7 +6,7 @@ use hash_file::Shape;
 
 /// A page without its records: all that the chain, the list of free pages and the
 /// directory see of it.
-#[derive(Clone, Copy, PartialEq, Eq)]
+#[derive(Clone, Copy)]
 pub enum Form {
     Bucket(Shape),
     /// A free page, and the next one on the list of free pages, 0 for the last.

@@ -4,7 +4,7 @@ use queue_model::{Call, Caller};
 use thiserror::Error;
 
 /// A record of the relay's.
-#[derive(Drop, PartialEq)]
+#[derive(Drop)]
 pub struct Incoming {
     /// The relay's number of the connection, never used again.
     pub connection: u32,
@@ -15,7 +15,7 @@ pub struct Incoming {
 }
 
 /// What a record tells.
-#[derive(Drop, PartialEq)]
+#[derive(Drop)]
 pub enum Kind {
     /// A frame of the client's.
     Request(Request),
@@ -28,7 +28,7 @@ pub enum Kind {
 }
 
 /// A frame of a client's.
-#[derive(Drop, PartialEq)]
+#[derive(Drop)]
 pub struct Request {
     /// The client's own number of it.
     pub number: u32,
@@ -37,7 +37,7 @@ pub struct Request {
 }
 
 /// What a client asks for.
-#[derive(Drop, PartialEq)]
+#[derive(Drop)]
 pub enum Operation {
     /// A call, at the moment at which the core heard it.
     Call(Call),

@@ -3,7 +3,7 @@
 use queue_model::{Answer, Message};
 
 /// What a server tells of itself.
-#[derive(Clone, Copy, PartialEq, Eq)]
+#[derive(Clone, Copy)]
 pub struct Counts {
     /// Calls answered.
     pub calls: u64,

@@ -15,7 +15,7 @@ use numbers::limits::MAX_BODY;
 use queue_model::{Call, Caller};
 
 /// The connection and the number of a request.
-#[derive(Clone, Copy, PartialEq, Eq)]
+#[derive(Clone, Copy)]
 pub struct Asker {
     /// The relay's number of the connection, or 0.
     pub connection: u32,

@@ -3,7 +3,7 @@
 use directory::Range;
 
 /// A bucket without its records.
-#[derive(Clone, Copy, PartialEq, Eq)]
+#[derive(Clone, Copy)]
 pub struct Shape {
     /// The pseudokeys that it may hold.
     pub range: Range,

@@ -9,7 +9,7 @@ use queue_model::Answer;
 use step_rules::{Kind, Progress};
 
 /// What a seat is told of a step.
-#[derive(Drop, PartialEq)]
+#[derive(Drop)]
 pub enum Step {
     /// Its call has made a step of this kind.
     Moved(Kind),

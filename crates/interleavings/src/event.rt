@@ -7,7 +7,7 @@ use interleaving_core::{BeginFault, Step};
 use queue_model::Call;
 
 /// What is done on a kernel. Seats count from 1.
-#[derive(Drop, PartialEq)]
+#[derive(Drop)]
 pub enum Event {
     /// A call begins at a seat.
     Begin(u8, Call),
@@ -41,7 +41,7 @@ pub fn are_of_seats(events: &[Event], seats: u8) -> bool
 }
 
 /// What came of an event.
-#[derive(Drop, PartialEq)]
+#[derive(Drop)]
 pub enum Outcome {
     /// The call is under way.
     Begun,

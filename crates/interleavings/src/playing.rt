@@ -38,7 +38,7 @@ pub struct Played<D> {
 }
 
 /// Why a file was not closed well after the last event.
-#[derive(Clone, Copy, PartialEq, Eq)]
+#[derive(Clone, Copy)]
 pub enum EndFault {
     /// A seat has a call under way.
     Busy,

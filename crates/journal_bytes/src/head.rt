@@ -32,7 +32,7 @@ const FIRST_VERSION: u32 = 1;
 const FRONT_BYTES: usize = 48;
 
 /// What the head of a save says that is under way.
-#[derive(Clone, Copy, PartialEq, Eq)]
+#[derive(Clone, Copy)]
 pub struct Head {
     /// How many pages the file had.
     pub count: u32,
@@ -47,7 +47,7 @@ pub struct Head {
 }
 
 /// What stands where a head is looked for.
-#[derive(Clone, Copy, PartialEq, Eq)]
+#[derive(Clone, Copy)]
 pub enum FoundHead {
     /// No whole head.
     Torn,

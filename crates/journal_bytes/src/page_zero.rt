@@ -12,7 +12,7 @@ pub const SEAL_BYTES: usize = 24;
 pub type Seal = [u8; SEAL_BYTES];
 
 /// Page 0 as it was when a journal began.
-#[derive(Clone, Copy, PartialEq, Eq)]
+#[derive(Clone, Copy)]
 pub enum PageZero {
     /// Its seal.
     Seal(Seal),

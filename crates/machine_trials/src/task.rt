@@ -17,7 +17,7 @@ use step_rules::Progress;
 pub const MAX_VALUE_BYTES: usize = 1060;
 
 /// A value of so many bytes, each of which is the mark. No more than `MAX_VALUE_BYTES` are lent.
-#[derive(Clone, Copy, PartialEq, Eq)]
+#[derive(Clone, Copy)]
 pub struct Value {
     pub mark: u8,
     pub bytes: usize,

@@ -27,7 +27,7 @@ pub struct Kept {
 }
 
 /// Why calls are not made again.
-#[derive(Clone, Copy, PartialEq, Eq)]
+#[derive(Clone, Copy)]
 pub(crate) enum Unmade {
     /// They do not lead on from the pages.
     Foreign,

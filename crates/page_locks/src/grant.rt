@@ -10,7 +10,7 @@ pub enum Grant {
 }
 
 /// The answer, and how many slots were looked at for it.
-#[derive(Clone, Copy, PartialEq, Eq)]
+#[derive(Clone, Copy)]
 pub struct Attempt {
     /// What the seat is told.
     pub grant: Grant,

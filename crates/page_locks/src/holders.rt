@@ -8,7 +8,7 @@ ghost use Rattle.page_locks.specs.Locks.{is_against};
 use crate::lock::LockKind;
 
 /// The seats that hold a name, each in one kind.
-#[derive(Clone, Copy, PartialEq, Eq)]
+#[derive(Clone, Copy)]
 pub struct Holders {
     /// Those that read: seat s at bit s - 1.
     pub readers: u64,

@@ -10,7 +10,7 @@ use crate::lock::LockName;
 pub const SLOTS: usize = 1024;
 
 /// A name and its holders. Where there are none the slot is free, whatever the name.
-#[derive(Clone, Copy, PartialEq, Eq)]
+#[derive(Clone, Copy)]
 pub struct Slot {
     pub name: LockName,
     pub holders: Holders,

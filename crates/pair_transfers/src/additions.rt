@@ -5,7 +5,7 @@ ghost use Rattle.pair_transfers.specs.Reading.{after_entry, after_read, came_of,
 use journal_bytes::{Entry, LEAST_ENTRY, Sum, WORD_BYTES, read_sum, read_word};
 
 /// Where the entries of a journal have been read to, as far as calls may stand in it.
-#[derive(Clone, Copy, PartialEq, Eq)]
+#[derive(Clone, Copy)]
 pub struct Additions {
     /// No entry is looked for behind so many bytes of the journal.
     pub size: u64,
@@ -18,7 +18,7 @@ pub struct Additions {
 }
 
 /// What came of a part that was read.
-#[derive(Clone, Copy, PartialEq, Eq)]
+#[derive(Clone, Copy)]
 pub enum Came {
     /// The word of an entry: that is read next.
     Word,

@@ -13,7 +13,7 @@ use safe_device::FoundJournal;
 use safe_device::page_device::PAGE_BYTES;
 
 /// What is read next.
-#[derive(Clone, Copy, PartialEq, Eq)]
+#[derive(Clone, Copy)]
 pub enum Look {
     /// The head.
     Head,
@@ -28,7 +28,7 @@ pub enum Look {
 }
 
 /// A look at a journal, and how far it has come.
-#[derive(Clone, Copy, PartialEq, Eq)]
+#[derive(Clone, Copy)]
 pub struct Looking {
     /// As many bytes the journal has.
     pub journal: u64,

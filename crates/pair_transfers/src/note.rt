@@ -7,7 +7,7 @@ ghost use Rattle.pair_transfers.specs.declared.save.SaveFault.TheVariants.{Devic
 use crate::save::SaveFault;
 
 /// What is done of a note.
-#[derive(Clone, Copy, PartialEq, Eq)]
+#[derive(Clone, Copy)]
 pub enum NoteAct {
     /// The calls are added to the journal.
     Add,
@@ -16,7 +16,7 @@ pub enum NoteAct {
 }
 
 /// Where a note has come to.
-#[derive(Clone, Copy, PartialEq, Eq)]
+#[derive(Clone, Copy)]
 pub enum NotePlace {
     /// Nothing is done.
     Unnoted,
@@ -29,7 +29,7 @@ pub enum NotePlace {
 }
 
 /// A note of calls in the journal of a file.
-#[derive(Clone, Copy, PartialEq, Eq)]
+#[derive(Clone, Copy)]
 pub struct Note {
     pub place: NotePlace,
 }

@@ -27,7 +27,7 @@ const STEP: u64 = 262_144;
 const ZEROS: u32 = 65_536;
 
 /// How far a note has come.
-#[derive(Clone, Copy, PartialEq, Eq)]
+#[derive(Clone, Copy)]
 pub enum NoteStep {
     /// The next act is asked for.
     Ask,

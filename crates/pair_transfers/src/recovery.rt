@@ -9,7 +9,7 @@ use safe_device::FoundJournal;
 use thiserror::Error;
 
 /// What stands in a journal when its file is opened.
-#[derive(Clone, Copy, PartialEq, Eq)]
+#[derive(Clone, Copy)]
 pub enum Seen {
     /// No whole journal.
     Nothing,
@@ -22,7 +22,7 @@ pub enum Seen {
 }
 
 /// What is done of a recovery.
-#[derive(Clone, Copy, PartialEq, Eq)]
+#[derive(Clone, Copy)]
 pub enum RecoveryAct {
     /// The journal is synced.
     SyncJournal,
@@ -39,7 +39,7 @@ pub enum RecoveryAct {
 }
 
 /// Where a recovery has come to.
-#[derive(Clone, Copy, PartialEq, Eq)]
+#[derive(Clone, Copy)]
 pub enum RecoveryPlace {
     /// Nothing is to be put back.
     Resting,
@@ -76,7 +76,7 @@ pub enum RecoverFault {
 }
 
 /// A recovery of a file from its journal.
-#[derive(Clone, Copy, PartialEq, Eq)]
+#[derive(Clone, Copy)]
 pub struct Recovery {
     pub place: RecoveryPlace,
     /// What the journal says of itself.

@@ -21,7 +21,7 @@ use std::alloc::Global;
 use std::marker::Model;
 
 /// What became of a call.
-#[derive(Drop, PartialEq)]
+#[derive(Drop)]
 pub enum Applied {
     /// It is answered.
     Answer(Answer),

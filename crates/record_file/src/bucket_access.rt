@@ -23,7 +23,7 @@ use std::mem::size_of;
 use step_rules::{Kind, MERGED_BYTES, Progress};
 
 /// What is done at the record of a key.
-#[derive(Clone, Copy, PartialEq, Eq)]
+#[derive(Clone, Copy)]
 pub enum Deed {
     /// It is found, and nothing is written.
     Find,
@@ -36,7 +36,7 @@ pub enum Deed {
 }
 
 /// How far an access within a bucket has come.
-#[derive(Clone, Copy, PartialEq, Eq)]
+#[derive(Clone, Copy)]
 pub enum BucketStage {
     /// The page is searched for, and then written or given back.
     Searching,

@@ -8,7 +8,7 @@ use msgq_cli::Reply;
 use step_rules::Kind;
 
 /// What comes of an event of a seat.
-#[derive(Clone, Copy, PartialEq, Eq)]
+#[derive(Clone, Copy)]
 pub enum Deed {
     /// It has no line left.
     Nothing,

@@ -14,7 +14,7 @@ pub(crate) struct Holding {
 }
 
 /// What became of the locks of a seat by an event.
-#[derive(Clone, Copy, PartialEq, Eq)]
+#[derive(Clone, Copy)]
 pub(crate) struct LockChange {
     /// The lock that it no longer holds in that kind.
     pub(crate) lost: Option<Lock>,

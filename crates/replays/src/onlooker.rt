@@ -10,7 +10,7 @@ use std::io::{LineWriter, Write};
 use step_rules::Kind;
 
 /// What an onlooker is shown.
-#[derive(Clone, Copy, PartialEq, Eq)]
+#[derive(Clone, Copy)]
 pub enum Sight {
     /// An event of a seat.
     Event {

@@ -63,7 +63,7 @@ const SEAL_BYTES: usize = 24;
 pub type Seal = [u8; SEAL_BYTES];
 
 /// How a head knows page 0 as it was when the journal began.
-#[derive(Clone, Copy, PartialEq, Eq)]
+#[derive(Clone, Copy)]
 pub enum PageZero {
     /// By its seal.
     Seal(Seal),
@@ -82,7 +82,7 @@ impl PageZero {
 }
 
 /// What a head says.
-#[derive(Clone, Copy, PartialEq, Eq)]
+#[derive(Clone, Copy)]
 pub struct Head {
     /// How many pages the file had.
     pub count: u32,
@@ -95,7 +95,7 @@ pub struct Head {
 }
 
 /// What stands where a head is looked for.
-#[derive(Clone, Copy, PartialEq, Eq)]
+#[derive(Clone, Copy)]
 pub enum FoundHead {
     /// No whole head, as where a kill or a crash has cut off its writing.
     Torn,

@@ -11,7 +11,7 @@ use std::rt::Files;
 
 /// What a session that was cut off has left beside a file: the next opening undoes it, and makes the
 /// calls that were noted before.
-#[derive(Clone, Copy, PartialEq, Eq)]
+#[derive(Clone, Copy)]
 pub struct LeftOver {
     /// How many pages the file had.
     pub pages: u32,

@@ -28,7 +28,7 @@ const TRIES: u32 = 16;
 const NAP: u64 = 10;
 
 /// A file that is to be opened to change it.
-#[derive(Clone, Copy, PartialEq, Eq)]
+#[derive(Clone, Copy)]
 pub struct Opening<'a> {
     /// Its name.
     pub path: &'a str,

@@ -73,7 +73,7 @@ impl Pages {
 }
 
 /// A change of the file that was not synced.
-#[derive(Clone, Copy, PartialEq, Eq)]
+#[derive(Clone, Copy)]
 pub enum FileChange {
     /// A page was written.
     Stored(u32),

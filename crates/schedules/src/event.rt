@@ -15,7 +15,7 @@ use step_rules::Kind;
 pub const MAX_COUNT: u32 = 1_000_000;
 
 /// What one word of a schedule asks for.
-#[derive(Clone, Copy, PartialEq, Eq)]
+#[derive(Clone, Copy)]
 pub enum Event {
     /// `N` or `N:K`: so many times, one or K, the next line of the seat is begun where it is idle,
     /// and else one step of it is made.
@@ -43,7 +43,7 @@ pub enum Event {
 }
 
 /// What could stand in the place of a wrong word.
-#[derive(Clone, Copy, PartialEq, Eq)]
+#[derive(Clone, Copy)]
 pub enum Expected {
     /// Any word.
     Word,

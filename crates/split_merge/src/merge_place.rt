@@ -8,7 +8,7 @@ ghost use Rattle.split_merge.specs.Places.{beside, entry_behind, first_entry, jo
 use directory::{PAGE_ENTRIES, Range};
 
 /// What was seen of a locked bucket beside its range.
-#[derive(Clone, Copy, PartialEq, Eq)]
+#[derive(Clone, Copy)]
 pub struct Seen {
     /// The next page on the chain.
     pub next: u32,
@@ -17,7 +17,7 @@ pub struct Seen {
 }
 
 /// The bucket of the key, which is locked.
-#[derive(Clone, Copy, PartialEq, Eq)]
+#[derive(Clone, Copy)]
 pub struct Own {
     /// The depth of the directory.
     pub depth: u8,
@@ -28,7 +28,7 @@ pub struct Own {
 
 /// The bucket of the key and its buddy: the left one is that of which the last bit
 /// that counts is 0.
-#[derive(Clone, Copy, PartialEq, Eq)]
+#[derive(Clone, Copy)]
 pub struct Buddies {
     /// The depth of the directory.
     pub depth: u8,
@@ -41,7 +41,7 @@ pub struct Buddies {
 }
 
 /// Two buckets that become one, on the left page.
-#[derive(Clone, Copy, PartialEq, Eq)]
+#[derive(Clone, Copy)]
 pub struct Joint {
     /// The depth of the directory.
     pub depth: u8,
@@ -52,7 +52,7 @@ pub struct Joint {
 }
 
 /// From which the next step of a merge is made.
-#[derive(Clone, Copy, PartialEq, Eq)]
+#[derive(Clone, Copy)]
 pub enum MergePlace {
     /// On the way to the bucket of the key, which is read once it is reached.
     Approaching,

@@ -1,7 +1,7 @@
 //! Where a split is.
 
 /// From which its next step is made. The page that was taken is the first number, from there on.
-#[derive(Clone, Copy, PartialEq, Eq)]
+#[derive(Clone, Copy)]
 pub enum SplitPlace {
     /// A free page is to be taken.
     TakePage,

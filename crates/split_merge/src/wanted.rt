@@ -3,7 +3,7 @@
 use bucket_page::RecordKey;
 
 /// A record that is to be put, and for which its bucket has no room.
-#[derive(Clone, Copy, PartialEq, Eq)]
+#[derive(Clone, Copy)]
 pub struct Wanted {
     /// Its key.
     pub key: RecordKey,

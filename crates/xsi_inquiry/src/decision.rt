@@ -7,7 +7,7 @@ use crate::verdict::Verdict;
 use queue_model::Errno;
 
 /// The messages of a queue that goes.
-#[derive(Clone, Copy, PartialEq)]
+#[derive(Clone, Copy)]
 pub struct Sweep {
     /// The queue.
     pub id: u32,

@@ -12,7 +12,7 @@ use queue_model::Errno;
 use type_chains::queue_records::{QueueEntry, Record, queue_key};
 
 /// What is known of the queue of an id.
-#[derive(Clone, Copy, PartialEq)]
+#[derive(Clone, Copy)]
 pub enum Sought {
     /// Its Queue is to be read.
     Unread,

@@ -10,7 +10,7 @@ pub const MAX_WRITES: usize = 7;
 pub const MAX_TRIALS: usize = 2;
 
 /// A change of one record that can't be refused. It lends nothing.
-#[derive(Drop, PartialEq)]
+#[derive(Drop)]
 pub enum Write {
     /// The record of this key takes the place of the one that stands there, whose value is as long.
     Replace(Record<'static>),

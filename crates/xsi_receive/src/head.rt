@@ -6,7 +6,7 @@ ghost use Rattle.xsi_receive.specs.Heads.{head_of};
 use queue_records::MessageEntry;
 
 /// A Message but for its bytes, which are copied once, out of their page.
-#[derive(Clone, Copy, PartialEq)]
+#[derive(Clone, Copy)]
 pub struct MessageHead {
     /// Its serial.
     pub serial: u64,

@@ -11,7 +11,7 @@ use queue_records::{
 use xsi_inquiry::{NotASystem, Write};
 
 /// What becomes of the Type of a message that is taken.
-#[derive(Clone, Copy, PartialEq)]
+#[derive(Clone, Copy)]
 pub enum TypeLeft {
     /// The message of this serial is the first of it now.
     Begins(u64),
