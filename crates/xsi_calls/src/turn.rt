@@ -3,7 +3,7 @@
 use page_locks::Lock;
 
 /// What a call does with names before it asks, inserts or writes.
-#[derive(Clone, Copy, PartialEq, Eq)]
+#[derive(Clone, Copy)]
 pub enum NameTurn {
     /// It holds the first of the names that it needs, or none: this is the next one.
     Take(Lock),
