@@ -1,7 +1,7 @@
 //! What of a plan is due.
 
 /// What of a plan is to be done next.
-#[derive(Clone, Copy, PartialEq, Eq)]
+#[derive(Clone, Copy)]
 pub enum Due {
     /// So many of the trials stand, and the next one is to be inserted.
     Trying(usize),

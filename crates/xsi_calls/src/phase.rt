@@ -1,7 +1,7 @@
 //! Where a call stands.
 
 /// Where a call stands.
-#[derive(Clone, Copy, PartialEq, Eq)]
+#[derive(Clone, Copy)]
 pub(crate) enum Phase {
     /// It has not decided.
     Undecided,

@@ -396,4 +396,4 @@ returns-then-is_paying g c =
 
 pub returns : goal.returns
 returns g c =
-    c.release-2.ensures.steps.makes (g.K.PseudoKey.of_key c.args.keys.now) c.args.stopped c.args.pool.now c.requires.ready
+    c.release-2.ensures.steps.makes _ c.args.stopped c.args.pool.now c.requires.ready
