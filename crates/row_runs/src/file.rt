@@ -73,11 +73,13 @@ pub fn put(alloc: Global, device: &mut MemDevice, page: u32, key: RecordKey, val
     let Ok(payload) = payload_of(device, page) else {
         return false;
     };
-    let Ok(record) = spelled(alloc, key, value) else {
+    let mut record = Vec::new(alloc);
+    let Ok(()) = spell(&mut record, key, value) else {
         return false;
     };
     let (at, _) = place_of(&payload, key);
-    let Ok(records) = spliced(alloc, &payload, at, at, record.as_slice()) else {
+    let mut records = Vec::new(alloc);
+    let Ok(()) = splice(&mut records, &payload, at, at, record.as_slice()) else {
         return false;
     };
     let many = number_at(&payload, 2, 2).saturating_add(1);
@@ -91,7 +93,8 @@ pub fn take(alloc: Global, device: &mut MemDevice, page: u32, key: RecordKey) ->
         return false;
     };
     let (at, next) = place_of(&payload, key);
-    let Ok(records) = spliced(alloc, &payload, at, next, b"") else {
+    let mut records = Vec::new(alloc);
+    let Ok(()) = splice(&mut records, &payload, at, next, b"") else {
         return false;
     };
     let taken = next.saturating_sub(at) as u64;
@@ -100,30 +103,26 @@ pub fn take(alloc: Global, device: &mut MemDevice, page: u32, key: RecordKey) ->
     taken > 0 && set(device, page, 16, records.as_slice()) && count(device, page, many, bytes)
 }
 
-/// The bytes of a record: the length of its value, its key and its value.
-fn spelled(alloc: Global, key: RecordKey, value: &[u8]) -> Result<Vec<u8>, AllocError> {
-    let mut record = Vec::new(alloc);
+/// Adds the bytes of a record: the length of its value, its key and its value.
+fn spell(record: &mut Vec<u8>, key: RecordKey, value: &[u8]) -> Result<(), AllocError> {
     record.extend_from_slice(&two(value.len() as u64))?;
     record.extend_from_slice(&key.to_bytes())?;
-    record.extend_from_slice(value)?;
-    Ok(record)
+    record.extend_from_slice(value)
 }
 
-/// The bytes behind the fields of a bucket, in which a record stands in the place of what stood
+/// Adds the bytes behind the fields of a bucket, in which a record stands in the place of what stood
 /// between two places, up to the end of the payload.
-fn spliced(
-    alloc: Global,
+fn splice(
+    records: &mut Vec<u8>,
     payload: &Payload,
     from: usize,
     to: usize,
     record: &[u8],
-) -> Result<Vec<u8>, AllocError> {
-    let mut records = Vec::new(alloc);
+) -> Result<(), AllocError> {
     records.extend_from_slice(payload.get(16..from).unwrap_or(b""))?;
     records.extend_from_slice(record)?;
     records.extend_from_slice(payload.get(to..).unwrap_or(b""))?;
-    records.resize(PAYLOAD_BYTES - 16, 0)?;
-    Ok(records)
+    records.resize(PAYLOAD_BYTES - 16, 0)
 }
 
 /// Writes how many records a bucket has, and how many bytes.

@@ -99,7 +99,7 @@ fn has_seat(kernel: &FileKernel, seat: u8) -> bool
 }
 
 /// The number of the fault by which a call is refused.
-fn refusal(begun: Result<(), (Call, BeginFault)>) -> Option<u8> {
+fn refusal(begun: &Result<(), (Call, BeginFault)>) -> Option<u8> {
     match begun {
         Ok(()) => None,
         Err((_, fault)) => Some(fault.number()),
@@ -212,7 +212,7 @@ impl Seats {
             return Err(NO_SEAT);
         }
         let call = calls::read(alloc, words, moment)?;
-        let refused = refusal(self.kernel.begin(seat, call));
+        let refused = refusal(&self.kernel.begin(seat, call));
         if refused.is_none() {
             self.note(seat, None);
         }
@@ -252,7 +252,7 @@ impl Seats {
         if !has_seat(&self.kernel, seat) {
             return Err(NO_SEAT);
         }
-        tell_withdrawn(line, self.kernel.withdraw(seat));
+        tell_withdrawn(line, &self.kernel.withdraw(seat));
         Ok(())
     }
 

@@ -136,9 +136,9 @@ fn tell_info(line: &mut Line, info: &QueueInfo) {
 }
 
 /// The call that was taken back, if there was one.
-pub fn tell_withdrawn(line: &mut Line, call: Option<Call>) {
+pub fn tell_withdrawn(line: &mut Line, call: &Option<Call>) {
     match call {
-        Some(call) => tell_call(line, &call),
+        Some(call) => tell_call(line, call),
         None => line.word("none"),
     }
 }
