@@ -36,10 +36,7 @@ impl Lists {
 
     /// Another user sits at a seat.
     pub fn seat(&mut self, seat: u8, uid: u32, gid: u32) {
-        let Some(place) = usize::from(seat).checked_sub(1) else {
-            return;
-        };
-        if let Some(caller) = self.callers.get_mut(place) {
+        if let Some(caller) = self.callers.get_mut(usize::from(seat).saturating_sub(1)) {
             caller.uid = uid;
             caller.gid = gid;
         }
@@ -80,13 +77,13 @@ impl Lists {
 
     /// Whether plain lists give this answer to a call of a seat.
     fn answers(&mut self, seat: u8, call: &Call, answer: &Answer) -> bool {
-        let Some(place) = usize::from(seat).checked_sub(1) else {
-            return false;
-        };
-        let Some(caller) = self.callers.get(place) else {
-            return false;
-        };
-        is_answer(&self.system.apply(*caller, call), answer)
+        match self.callers(seat).last() {
+            Some(caller) => {
+                let caller = *caller;
+                is_answer(&self.system.apply(caller, call), answer)
+            }
+            None => false,
+        }
     }
 }
 

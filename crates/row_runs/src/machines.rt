@@ -9,7 +9,6 @@ use crate::words::{Words, Wrong};
 use file_pages::FileFault;
 use machine_trials::{Trial, Value};
 use page_device::MemDevice;
-use page_locks::MAX_SEATS;
 use record_file::Tried;
 use step_rules::{Kind, Progress};
 
@@ -42,7 +41,7 @@ pub const OPERATIONS: [(&[u8], Operation); 4] = [
 #[derive(Drop)]
 pub struct Machines {
     pub trial: Trial<MemDevice, Keys>,
-    made: [Made; MAX_SEATS as usize],
+    made: Made,
 }
 
 impl Machines {
@@ -50,7 +49,7 @@ impl Machines {
     pub fn new(trial: Trial<MemDevice, Keys>) -> Machines {
         Machines {
             trial,
-            made: [Made::NONE; MAX_SEATS as usize],
+            made: Made::NONE,
         }
     }
 
@@ -130,10 +129,7 @@ impl Machines {
     /// Tells how many steps of a kind a seat has made since its work began.
     fn count(&self, seat: u8, words: &mut Words<'_>, line: &mut Line) -> Result<(), Wrong> {
         let kind = words.kind()?;
-        let Some(made) = self.made.get(usize::from(seat).saturating_sub(1)) else {
-            return Err(NO_SEAT);
-        };
-        line.number(u64::from(made.of(kind)));
+        line.number(u64::from(self.made.of(seat, kind)));
         Ok(())
     }
 
@@ -149,9 +145,7 @@ impl Machines {
     fn step(&mut self, seat: u8) -> Result<Progress<FileFault>, Wrong> {
         let did = self.trial.step(seat).ok_or(NO_SEAT)?;
         if let Progress::Moved(kind) = did {
-            if let Some(made) = self.made.get_mut(usize::from(seat).saturating_sub(1)) {
-                made.note(kind);
-            }
+            self.made.note(seat, kind);
         }
         Ok(did)
     }

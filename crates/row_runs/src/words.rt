@@ -54,7 +54,7 @@ pub struct Words<'a> {
 }
 
 /// What stands before the first byte that is this one, and what follows it.
-fn cut(text: &[u8], mark: u8) -> (&[u8], &[u8]) {
+pub fn cut(text: &[u8], mark: u8) -> (&[u8], &[u8]) {
     match memchr(mark, text) {
         Some(end) => {
             let (before, after) = text.split_at(end);
@@ -129,13 +129,14 @@ impl<'a> Words<'a> {
 
     /// The next word.
     pub fn next(&mut self) -> Option<&'a [u8]> {
-        let Some(start) = self.rest.iter().position(|byte| *byte != b' ') else {
-            self.rest = b"";
-            return None;
-        };
-        let (word, rest) = cut(self.rest.get(start..).unwrap_or(b""), b' ');
-        self.rest = rest;
-        Some(word)
+        for _ in 0..self.rest.len() {
+            let (word, rest) = cut(self.rest, b' ');
+            self.rest = rest;
+            if !word.is_empty() {
+                return Some(word);
+            }
+        }
+        None
     }
 
     /// The words up to the next comma, if there are any.
