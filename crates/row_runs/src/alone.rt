@@ -22,6 +22,17 @@ const DIRECTORY: Lock = Lock {
     kind: LockKind::Read,
 };
 
+/// What is seen of a call between two of its steps.
+#[derive(Clone, Copy)]
+struct Seen {
+    has_concluded: bool,
+    /// How many searches it has begun.
+    finds: u32,
+    /// Whether it holds a lock, and whether the last one is what a search asks for first.
+    has_lock: bool,
+    has_directory: bool,
+}
+
 /// A call over the pages of a file, of which the one seat holds what the call says.
 #[derive(Drop)]
 pub struct Alone {
@@ -70,24 +81,38 @@ impl Alone {
     /// Makes the call to its end, and tells how many searches it has begun before its Decide: after
     /// each of its steps it tells as many as were seen so far.
     pub fn run(&mut self, keys: Keys, line: &mut Line) {
-        let mut seen: u32 = 0;
+        let mut searches: u32 = 0;
+        let mut before = self.seen();
         for _ in 0..MOST_STEPS {
-            let is_undecided = !self.machine.has_concluded();
             let Some(kind) = self.step(keys) else {
                 break;
             };
-            if is_undecided && kind == Kind::Grant && self.locks.last(1) == Some(DIRECTORY) {
-                seen = seen.saturating_add(1);
+            let seen = self.seen();
+            if !before.has_concluded && kind == Kind::Grant && seen.has_directory {
+                searches = searches.saturating_add(1);
             }
-            if self.machine.finds() != seen {
+            if seen.finds != searches {
                 line.word("miscounted");
             }
+            before = seen;
         }
-        if !self.machine.has_concluded() || self.locks.last(1).is_some() {
+        let seen = self.seen();
+        if !seen.has_concluded || seen.has_lock {
             line.word("unended");
         }
-        line.number(u64::from(seen));
+        line.number(u64::from(searches));
         line.word("searches");
+    }
+
+    /// What is seen of it now.
+    fn seen(&self) -> Seen {
+        let last = self.locks.last(1);
+        Seen {
+            has_concluded: self.machine.has_concluded(),
+            finds: self.machine.finds(),
+            has_lock: last.is_some(),
+            has_directory: last == Some(DIRECTORY),
+        }
     }
 
     /// The kind of its next step; none where it makes none.

@@ -14,7 +14,10 @@ const TOMBSTONE: u64 = 4;
 const FREE: u64 = 5;
 
 /// Where the records of a bucket and the entries of a directory page begin.
-const FIELDS: usize = 16;
+pub(crate) const FIELDS: usize = 16;
+
+/// The bytes of a record before its value: the length of the value, and the key.
+pub(crate) const RECORD_HEAD: usize = 15;
 
 /// The number in so many bytes at a place, the highest byte first; 0 where there are none.
 pub fn number_at(payload: &Payload, at: usize, bytes: usize) -> u64 {
@@ -64,20 +67,23 @@ pub fn tell_header(payload: &Payload, line: &mut Line) {
     line.number(number_at(payload, 16, 4));
 }
 
+/// What is told of a bucket: where each number stands, and in how many bytes.
+const BUCKET_FIELDS: [(&str, usize, usize); 5] = [
+    ("bucket depth", 1, 1),
+    ("pattern", 4, 4),
+    ("next", 8, 4),
+    ("records", 2, 2),
+    ("bytes", 12, 2),
+];
+
 /// Tells a page but for its records and entries.
 pub fn tell_page(payload: &Payload, line: &mut Line) {
     match number_at(payload, 0, 1) {
         DIRECTORY => line.word("directory"),
         BUCKET => {
-            for (name, at, bytes) in [
-                ("bucket depth", 1, 1),
-                ("pattern", 4, 4),
-                ("next", 8, 4),
-                ("records", 2, 2),
-                ("bytes", 12, 2),
-            ] {
-                line.word(name);
-                line.number(number_at(payload, at, bytes));
+            for (name, at, bytes) in &BUCKET_FIELDS {
+                line.word(*name);
+                line.number(number_at(payload, *at, *bytes));
             }
         }
         TOMBSTONE => {
@@ -104,7 +110,7 @@ struct Spot<'a> {
 /// The record that begins at a place.
 fn record_at(payload: &Payload, at: usize) -> Spot<'_> {
     let bytes = number_at(payload, at, 2) as usize;
-    let value = at.saturating_add(15);
+    let value = at.saturating_add(RECORD_HEAD);
     Spot {
         key: RecordKey {
             kind: u8::try_from(number_at(payload, at.saturating_add(2), 1)).unwrap_or(u8::MAX),

@@ -62,17 +62,24 @@ fn get(words: &mut Words<'_>, moment: u64) -> Result<Call, Wrong> {
         moment,
     };
     for _ in 0..MOST_OPTIONS {
-        match words.next() {
-            None => break,
-            Some(b"create") => arguments.create = true,
-            Some(b"excl") => arguments.excl = true,
-            Some(word) => {
-                let digits = word.strip_prefix(b"mode=").ok_or(wrong)?;
-                arguments.mode = mode(digits).ok_or(wrong)?;
-            }
-        }
+        let Some(word) = words.next() else {
+            break;
+        };
+        add_to_get(&mut arguments, word).ok_or(wrong)?;
     }
     Ok(Call::Get(arguments))
+}
+
+/// Adds an option to a `get`, if it has such.
+fn add_to_get(arguments: &mut GetArguments, word: &[u8]) -> Option<()> {
+    if word == b"create".as_slice() {
+        arguments.create = true;
+    } else if word == b"excl".as_slice() {
+        arguments.excl = true;
+    } else {
+        arguments.mode = mode(word.strip_prefix(b"mode=")?)?;
+    }
+    Some(())
 }
 
 /// The type of a message.
@@ -86,18 +93,22 @@ fn send(alloc: Global, words: &mut Words<'_>, moment: u64) -> Result<Call, Wrong
     let id = words.number("a queue")?;
     let mtype = mtype(words)?;
     let body = words.bytes(alloc)?;
-    let nowait = match words.next() {
-        None => false,
-        Some(b"nowait") => true,
-        Some(_) => return Err(Wrong::Wanted("nowait or nothing")),
-    };
     Ok(Call::Send(SendArguments {
         id,
         mtype,
         body,
-        nowait,
+        nowait: is_nowait(words)?,
         moment,
     }))
+}
+
+/// Whether the next word, the last one, is `nowait`.
+fn is_nowait(words: &mut Words<'_>) -> Result<bool, Wrong> {
+    match words.next() {
+        None => Ok(false),
+        Some(word) if word == b"nowait".as_slice() => Ok(true),
+        Some(_) => Err(Wrong::Wanted("nowait or nothing")),
+    }
 }
 
 /// `ID SIZE TYPE`, then any of `nowait`, `noerror`.
@@ -113,11 +124,15 @@ fn receive(words: &mut Words<'_>, moment: u64) -> Result<Call, Wrong> {
         moment,
     };
     for _ in 0..MOST_OPTIONS {
-        match words.next() {
-            None => break,
-            Some(b"nowait") => arguments.nowait = true,
-            Some(b"noerror") => arguments.noerror = true,
-            Some(_) => return Err(Wrong::Wanted("nowait, noerror or nothing")),
+        let Some(word) = words.next() else {
+            break;
+        };
+        if word == b"nowait".as_slice() {
+            arguments.nowait = true;
+        } else if word == b"noerror".as_slice() {
+            arguments.noerror = true;
+        } else {
+            return Err(Wrong::Wanted("nowait, noerror or nothing"));
         }
     }
     Ok(Call::Receive(arguments))
@@ -139,14 +154,19 @@ fn set(words: &mut Words<'_>, moment: u64) -> Result<Call, Wrong> {
         let Some(word) = words.next() else {
             break;
         };
-        if let Some(digits) = word.strip_prefix(b"uid=") {
-            arguments.uid = Some(number(digits).ok_or(wrong)?);
-        } else if let Some(digits) = word.strip_prefix(b"gid=") {
-            arguments.gid = Some(number(digits).ok_or(wrong)?);
-        } else {
-            let digits = word.strip_prefix(b"mode=").ok_or(wrong)?;
-            arguments.mode = Some(mode(digits).ok_or(wrong)?);
-        }
+        add_to_set(&mut arguments, word).ok_or(wrong)?;
     }
     Ok(Call::Set(arguments))
+}
+
+/// Adds an option to a `set`, if it has such.
+fn add_to_set(arguments: &mut SetArguments, word: &[u8]) -> Option<()> {
+    if let Some(digits) = word.strip_prefix(b"uid=") {
+        arguments.uid = Some(number(digits)?);
+    } else if let Some(digits) = word.strip_prefix(b"gid=") {
+        arguments.gid = Some(number(digits)?);
+    } else {
+        arguments.mode = Some(mode(word.strip_prefix(b"mode=")?)?);
+    }
+    Some(())
 }

@@ -108,9 +108,21 @@ pub fn play_file(
         return Err(NO_SEAT);
     }
     let file = mem::replace(device, MemDevice::new(alloc));
-    match play_on(alloc, file, keys, callers, FRAMES, events) {
+    let played = play_on(alloc, file, keys, callers, FRAMES, events);
+    put_back(device, played, lists, line)
+}
+
+/// The file is there again, and it is told what came of each event, or why it was not opened.
+fn put_back(
+    device: &mut MemDevice,
+    played: Result<Played<MemDevice>, (MemDevice, OpenFault)>,
+    lists: &mut Lists,
+    line: &mut Line,
+) -> Result<(), Wrong> {
+    match played {
         Ok(played) => {
-            *device = tell_played(played, lists, line);
+            tell_played(&played, lists, line);
+            *device = played.device;
             Ok(())
         }
         Err((file, fault)) => {
@@ -130,18 +142,11 @@ fn tell_refusal(fault: OpenFault, line: &mut Line) -> Result<(), Wrong> {
 }
 
 /// Tells what came of each event, how many entries there are, and why the file was not closed well.
-fn tell_played(played: Played<MemDevice>, lists: &mut Lists, line: &mut Line) -> MemDevice {
-    let Played {
-        device,
-        outcomes,
-        journal,
-        fault,
-    } = played;
-    tell_outcomes(line, outcomes.as_slice());
+fn tell_played(played: &Played<MemDevice>, lists: &mut Lists, line: &mut Line) {
+    tell_outcomes(line, played.outcomes.as_slice());
     line.mark(",");
-    lists.tell(journal.as_slice(), line);
-    tell_end(fault, line);
-    device
+    lists.tell(played.journal.as_slice(), line);
+    tell_end(played.fault, line);
 }
 
 /// Tells why a file was not closed well.

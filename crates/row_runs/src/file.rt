@@ -1,6 +1,6 @@
 //! A file in memory is changed, byte by byte or record by record.
 
-use crate::bytes::{number_at, place_of};
+use crate::bytes::{FIELDS, RECORD_HEAD, number_at, place_of};
 use bucket_page::RecordKey;
 use page_device::{
     DeviceFault, MemDevice, PAGE_BYTES, PAYLOAD_BYTES, PageDevice, Payload, seal, unseal,
@@ -73,16 +73,26 @@ pub fn put(alloc: Global, device: &mut MemDevice, page: u32, key: RecordKey, val
     let Ok(payload) = payload_of(device, page) else {
         return false;
     };
-    let Ok(record) = spelled(alloc, key, value) else {
-        return false;
-    };
     let (at, _) = place_of(&payload, key);
-    let Ok(records) = spliced(alloc, &payload, at, at, record.as_slice()) else {
+    let head = two(value.len() as u64);
+    let spelled = key.to_bytes();
+    let mut records = Vec::new(alloc);
+    let Ok(()) = join(
+        &mut records,
+        &[
+            before(&payload, at),
+            head.as_slice(),
+            spelled.as_slice(),
+            value,
+            behind(&payload, at),
+        ],
+    ) else {
         return false;
     };
     let many = number_at(&payload, 2, 2).saturating_add(1);
-    let bytes = number_at(&payload, 12, 2).saturating_add(record.len() as u64);
-    set(device, page, 16, records.as_slice()) && count(device, page, many, bytes)
+    let length = value.len().saturating_add(RECORD_HEAD) as u64;
+    let bytes = number_at(&payload, 12, 2).saturating_add(length);
+    set(device, page, FIELDS, records.as_slice()) && count(device, page, many, bytes)
 }
 
 /// Takes the record of a key out of a bucket, and seals the page again. Whether it was there.
@@ -91,39 +101,35 @@ pub fn take(alloc: Global, device: &mut MemDevice, page: u32, key: RecordKey) ->
         return false;
     };
     let (at, next) = place_of(&payload, key);
-    let Ok(records) = spliced(alloc, &payload, at, next, b"") else {
+    let mut records = Vec::new(alloc);
+    let Ok(()) = join(
+        &mut records,
+        &[before(&payload, at), behind(&payload, next)],
+    ) else {
         return false;
     };
     let taken = next.saturating_sub(at) as u64;
     let many = number_at(&payload, 2, 2).saturating_sub(1);
     let bytes = number_at(&payload, 12, 2).saturating_sub(taken);
-    taken > 0 && set(device, page, 16, records.as_slice()) && count(device, page, many, bytes)
+    taken > 0 && set(device, page, FIELDS, records.as_slice()) && count(device, page, many, bytes)
 }
 
-/// The bytes of a record: the length of its value, its key and its value.
-fn spelled(alloc: Global, key: RecordKey, value: &[u8]) -> Result<Vec<u8>, AllocError> {
-    let mut record = Vec::new(alloc);
-    record.extend_from_slice(&two(value.len() as u64))?;
-    record.extend_from_slice(&key.to_bytes())?;
-    record.extend_from_slice(value)?;
-    Ok(record)
+/// The bytes of a bucket's records that stand before a place.
+fn before(payload: &Payload, place: usize) -> &[u8] {
+    payload.get(FIELDS..place).unwrap_or(b"")
 }
 
-/// The bytes behind the fields of a bucket, in which a record stands in the place of what stood
-/// between two places, up to the end of the payload.
-fn spliced(
-    alloc: Global,
-    payload: &Payload,
-    from: usize,
-    to: usize,
-    record: &[u8],
-) -> Result<Vec<u8>, AllocError> {
-    let mut records = Vec::new(alloc);
-    records.extend_from_slice(payload.get(16..from).unwrap_or(b""))?;
-    records.extend_from_slice(record)?;
-    records.extend_from_slice(payload.get(to..).unwrap_or(b""))?;
-    records.resize(PAYLOAD_BYTES - 16, 0)?;
-    Ok(records)
+/// The bytes of a payload from a place on.
+fn behind(payload: &Payload, place: usize) -> &[u8] {
+    payload.get(place..).unwrap_or(b"")
+}
+
+/// Joins the bytes behind the fields of a bucket, up to the end of the payload.
+fn join(records: &mut Vec<u8>, parts: &[&[u8]]) -> Result<(), AllocError> {
+    for part in parts {
+        records.extend_from_slice(*part)?;
+    }
+    records.resize(PAYLOAD_BYTES - FIELDS, 0)
 }
 
 /// Writes how many records a bucket has, and how many bytes.

@@ -1,5 +1,6 @@
 //! Kinds of step by the names of docs/STEPS.md, and how many of each a seat has made.
 
+use page_locks::MAX_SEATS;
 use step_rules::Kind;
 
 /// How many kinds there are.
@@ -40,30 +41,45 @@ pub fn kind_named(name: &[u8]) -> Option<Kind> {
     None
 }
 
-/// How many steps of each kind a seat has made since its work began.
+/// How many steps of each kind each seat has made since its work began.
 #[derive(Clone, Copy)]
 pub struct Made {
-    steps: [u32; KINDS],
+    steps: [[u32; KINDS]; MAX_SEATS as usize],
 }
 
 impl Made {
     /// None.
-    pub const NONE: Made = Made { steps: [0; KINDS] };
+    pub const NONE: Made = Made {
+        steps: [[0; KINDS]; MAX_SEATS as usize],
+    };
 
-    /// One step more.
-    pub fn note(&mut self, kind: Kind) {
-        for (steps, its) in self.steps.iter_mut().zip(&ALL) {
+    /// The work of a seat begins.
+    pub fn begin(&mut self, seat: u8) {
+        if let Some(steps) = self.steps.get_mut(usize::from(seat).saturating_sub(1)) {
+            *steps = [0; KINDS];
+        }
+    }
+
+    /// A seat has made one step more.
+    pub fn note(&mut self, seat: u8, kind: Kind) {
+        let Some(steps) = self.steps.get_mut(usize::from(seat).saturating_sub(1)) else {
+            return;
+        };
+        for (made, its) in steps.iter_mut().zip(&ALL) {
             if *its == kind {
-                *steps = steps.saturating_add(1);
+                *made = made.saturating_add(1);
             }
         }
     }
 
-    /// How many are of a kind.
-    pub fn of(&self, kind: Kind) -> u32 {
-        for (steps, its) in self.steps.iter().zip(&ALL) {
+    /// How many of a kind a seat has made.
+    pub fn of(&self, seat: u8, kind: Kind) -> u32 {
+        let Some(steps) = self.steps.get(usize::from(seat).saturating_sub(1)) else {
+            return 0;
+        };
+        for (made, its) in steps.iter().zip(&ALL) {
             if *its == kind {
-                return *steps;
+                return *made;
             }
         }
         0

@@ -102,8 +102,8 @@ impl Line {
     /// Adds nine bits as three octal digits.
     pub fn mode(&mut self, mode: u16) {
         self.word("");
-        for bits in [mode / 64, mode / 8, mode] {
-            self.put(&[digit((bits % 8) as u8)]);
+        for bits in &[mode / 64, mode / 8, mode] {
+            self.put(&[digit((*bits % 8) as u8)]);
         }
     }
 }

@@ -2,7 +2,7 @@
 
 use crate::line::Line;
 use page_locks::MAX_SEATS;
-use queue_model::{Applied, Caller, Entry, System};
+use queue_model::{Answer, Applied, Call, Caller, Entry, System};
 use std::alloc::Global;
 
 /// Who sits at the seats, and the system after all entries so far.
@@ -36,10 +36,7 @@ impl Lists {
 
     /// Another user sits at a seat.
     pub fn seat(&mut self, seat: u8, uid: u32, gid: u32) {
-        let Some(place) = usize::from(seat).checked_sub(1) else {
-            return;
-        };
-        if let Some(caller) = self.callers.get_mut(place) {
+        if let Some(caller) = self.callers.get_mut(usize::from(seat).saturating_sub(1)) {
             caller.uid = uid;
             caller.gid = gid;
         }
@@ -69,22 +66,31 @@ impl Lists {
 
     /// Whether an entry is what plain lists answer now.
     fn follows(&mut self, entry: &Entry) -> bool {
-        let (seat, call, answer) = match entry {
+        match entry {
             Entry::Stopped => {
                 self.system.stop();
-                return true;
+                true
             }
-            Entry::Decided { seat, call, answer } => (*seat, call, answer),
-        };
-        let Some(place) = usize::from(seat).checked_sub(1) else {
-            return false;
-        };
-        let Some(caller) = self.callers.get(place) else {
-            return false;
-        };
-        match self.system.apply(*caller, call) {
-            Applied::Answer(given) => given == *answer,
-            Applied::Waits | Applied::NoMemory => false,
+            Entry::Decided { seat, call, answer } => self.answers(*seat, call, answer),
         }
+    }
+
+    /// Whether plain lists give this answer to a call of a seat.
+    fn answers(&mut self, seat: u8, call: &Call, answer: &Answer) -> bool {
+        match self.callers(seat).last() {
+            Some(caller) => {
+                let caller = *caller;
+                is_answer(&self.system.apply(caller, call), answer)
+            }
+            None => false,
+        }
+    }
+}
+
+/// Whether plain lists gave this answer.
+fn is_answer(applied: &Applied, answer: &Answer) -> bool {
+    match applied {
+        Applied::Answer(given) => given == answer,
+        Applied::Waits | Applied::NoMemory => false,
     }
 }

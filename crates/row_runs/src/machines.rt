@@ -9,7 +9,6 @@ use crate::words::{Words, Wrong};
 use file_pages::FileFault;
 use machine_trials::{Trial, Value};
 use page_device::MemDevice;
-use page_locks::MAX_SEATS;
 use record_file::Tried;
 use step_rules::{Kind, Progress};
 
@@ -42,7 +41,7 @@ pub const OPERATIONS: [(&[u8], Operation); 4] = [
 #[derive(Drop)]
 pub struct Machines {
     pub trial: Trial<MemDevice, Keys>,
-    made: [Made; MAX_SEATS as usize],
+    made: Made,
 }
 
 impl Machines {
@@ -50,7 +49,7 @@ impl Machines {
     pub fn new(trial: Trial<MemDevice, Keys>) -> Machines {
         Machines {
             trial,
-            made: [Made::NONE; MAX_SEATS as usize],
+            made: Made::NONE,
         }
     }
 
@@ -99,48 +98,54 @@ impl Machines {
     ) -> Result<(), Wrong> {
         let seat = words.seat()?;
         match deed {
-            SeatDeed::Step => {
-                let did = self.step(seat)?;
+            SeatDeed::Made => self.count(seat, words, line),
+            SeatDeed::Searched => self.tell_search(seat, line),
+            _ => {
+                let did = self.go(deed, seat, words)?;
                 self.tell(seat, did, line);
+                Ok(())
             }
-            SeatDeed::Run => {
-                let did = self.run(seat, None)?;
-                self.tell(seat, did, line);
-            }
+        }
+    }
+
+    /// A seat makes steps. What the last one came to.
+    fn go(
+        &mut self,
+        deed: SeatDeed,
+        seat: u8,
+        words: &mut Words<'_>,
+    ) -> Result<Progress<FileFault>, Wrong> {
+        match deed {
+            SeatDeed::Step => self.step(seat),
+            SeatDeed::Run => self.run(seat, None),
             SeatDeed::Reach => {
                 let kind = words.kind()?;
-                let did = self.run(seat, Some(kind))?;
-                self.tell(seat, did, line);
+                self.run(seat, Some(kind))
             }
-            SeatDeed::Made => {
-                let kind = words.kind()?;
-                line.number(u64::from(self.made(seat, kind)?));
-            }
-            SeatDeed::Searched => {
-                let hops = self.trial.hops(seat).ok_or(NO_SEAT)?;
-                line.word("hops");
-                line.number(hops);
-            }
-            _ => return Err(Wrong::Elsewhere("a kernel")),
+            _ => Err(Wrong::Elsewhere("a kernel")),
         }
+    }
+
+    /// Tells how many steps of a kind a seat has made since its work began.
+    fn count(&self, seat: u8, words: &mut Words<'_>, line: &mut Line) -> Result<(), Wrong> {
+        let kind = words.kind()?;
+        line.number(u64::from(self.made.of(seat, kind)));
         Ok(())
     }
 
-    /// How many steps of a kind a seat has made since its work began.
-    fn made(&self, seat: u8, kind: Kind) -> Result<u32, Wrong> {
-        match self.made.get(usize::from(seat).saturating_sub(1)) {
-            Some(made) => Ok(made.of(kind)),
-            None => Err(NO_SEAT),
-        }
+    /// Tells the hops of a seat's search.
+    fn tell_search(&self, seat: u8, line: &mut Line) -> Result<(), Wrong> {
+        let hops = self.trial.hops(seat).ok_or(NO_SEAT)?;
+        line.word("hops");
+        line.number(hops);
+        Ok(())
     }
 
     /// One step of a seat, which is counted where it moves.
     fn step(&mut self, seat: u8) -> Result<Progress<FileFault>, Wrong> {
         let did = self.trial.step(seat).ok_or(NO_SEAT)?;
         if let Progress::Moved(kind) = did {
-            if let Some(made) = self.made.get_mut(usize::from(seat).saturating_sub(1)) {
-                made.note(kind);
-            }
+            self.made.note(seat, kind);
         }
         Ok(did)
     }

@@ -25,7 +25,7 @@ use std::alloc::Global;
 use std::io;
 use std::io::{BufWriter, Eprint, Read, Write};
 use std::process::ExitCode;
-use words::{Words, Wrong};
+use words::{Words, Wrong, cut};
 
 fn main(rt: HostRuntime) -> ExitCode {
     let mut text = Vec::new(rt.alloc());
@@ -67,15 +67,21 @@ fn rows_on<W: Write>(
     output: &mut W,
 ) -> Result<(), (u64, Wrong)> {
     let mut number: u64 = 0;
-    for line in text.split(|byte| *byte == b'\n') {
+    let mut rest = text;
+    for _ in 0..text.len() {
+        if rest.is_empty() {
+            break;
+        }
+        let (line, others) = cut(rest, b'\n');
+        rest = others;
         number = number.wrapping_add(1);
         told.clear();
-        match does(alloc, bench, line, told) {
-            Ok(true) => {}
-            Ok(false) => continue,
-            Err(wrong) => return Err((number, wrong)),
-        }
-        if let Err(wrong) = print(number, told, output) {
+        let done = match does(alloc, bench, line, told) {
+            Ok(true) => print(alloc, number, told, output),
+            Ok(false) => Ok(()),
+            Err(wrong) => Err(wrong),
+        };
+        if let Err(wrong) = done {
             return Err((number, wrong));
         }
     }
@@ -83,21 +89,18 @@ fn rows_on<W: Write>(
 }
 
 /// Prints a line behind its number.
-fn print<W: Write>(number: u64, told: &Line, output: &mut W) -> Result<(), Wrong> {
-    let Some(words) = told.text() else {
+fn print<W: Write>(alloc: Global, number: u64, told: &Line, output: &mut W) -> Result<(), Wrong> {
+    let mut line = Line::new(alloc);
+    line.number(number);
+    line.add(told);
+    line.mark("\n");
+    let Some(words) = line.text() else {
         return Err(Wrong::NoMemory);
     };
-    match write_line(number, words, output) {
+    match output.write_all(words) {
         Ok(()) => Ok(()),
         Err(_) => Err(Wrong::Unwritten),
     }
-}
-
-/// Writes words behind a number.
-fn write_line<W: Write>(number: u64, words: &[u8], output: &mut W) -> io::Result<()> {
-    write!(output, "{number} ")?;
-    output.write_all(words)?;
-    output.write_all(b"\n")
 }
 
 /// Whether a line has a deed. That is done, and it is told what it came to.

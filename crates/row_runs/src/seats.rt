@@ -12,7 +12,7 @@ use crate::told::{tell_fault, tell_move, tell_step, tell_truth, tell_withdrawn};
 use crate::words::{Words, Wrong};
 use interleaving_core::{BeginFault, Kernel, Step};
 use page_device::MemDevice;
-use page_locks::{Lock, MAX_SEATS};
+use page_locks::Lock;
 use queue_model::Call;
 use std::alloc::Global;
 use step_rules::Kind;
@@ -88,7 +88,7 @@ enum Came {
 #[derive(Drop)]
 pub struct Seats {
     pub kernel: FileKernel,
-    made: [Made; MAX_SEATS as usize],
+    made: Made,
 }
 
 /// Whether the kernel has this seat.
@@ -99,7 +99,7 @@ fn has_seat(kernel: &FileKernel, seat: u8) -> bool
 }
 
 /// The number of the fault by which a call is refused.
-fn refusal(begun: Result<(), (Call, BeginFault)>) -> Option<u8> {
+fn refusal(begun: &Result<(), (Call, BeginFault)>) -> Option<u8> {
     match begun {
         Ok(()) => None,
         Err((_, fault)) => Some(fault.number()),
@@ -128,7 +128,7 @@ impl Seats {
     pub fn new(kernel: FileKernel) -> Seats {
         Seats {
             kernel,
-            made: [Made::NONE; MAX_SEATS as usize],
+            made: Made::NONE,
         }
     }
 
@@ -212,9 +212,9 @@ impl Seats {
             return Err(NO_SEAT);
         }
         let call = calls::read(alloc, words, moment)?;
-        let refused = refusal(self.kernel.begin(seat, call));
+        let refused = refusal(&self.kernel.begin(seat, call));
         if refused.is_none() {
-            self.note(seat, None);
+            self.made.begin(seat);
         }
         Ok(refused)
     }
@@ -223,10 +223,7 @@ impl Seats {
     fn count(&self, words: &mut Words<'_>, line: &mut Line) -> Result<(), Wrong> {
         let seat = words.seat()?;
         let kind = words.kind()?;
-        let Some(made) = self.made.get(usize::from(seat).saturating_sub(1)) else {
-            return Err(NO_SEAT);
-        };
-        line.number(u64::from(made.of(kind)));
+        line.number(u64::from(self.made.of(seat, kind)));
         Ok(())
     }
 
@@ -252,19 +249,8 @@ impl Seats {
         if !has_seat(&self.kernel, seat) {
             return Err(NO_SEAT);
         }
-        tell_withdrawn(line, self.kernel.withdraw(seat));
+        tell_withdrawn(line, &self.kernel.withdraw(seat));
         Ok(())
-    }
-
-    /// A seat has made one step more of a kind, or none yet.
-    fn note(&mut self, seat: u8, kind: Option<Kind>) {
-        let Some(made) = self.made.get_mut(usize::from(seat).saturating_sub(1)) else {
-            return;
-        };
-        match kind {
-            Some(kind) => made.note(kind),
-            None => *made = Made::NONE,
-        }
     }
 
     /// One step of a seat, which is counted where it moves; else it is told what it came to.
@@ -275,7 +261,7 @@ impl Seats {
         let step = self.kernel.step(seat);
         let came = came_of(&step);
         match came {
-            Came::Moved(kind) => self.note(seat, Some(kind)),
+            Came::Moved(kind) => self.made.note(seat, kind),
             _ => tell_step(line, &step, None),
         }
         Ok(came)

@@ -116,7 +116,7 @@ fn tell_info(line: &mut Line, info: &QueueInfo) {
     line.word("info");
     line.number(u64::from(info.id));
     tell_key(line, info.key);
-    for number in [
+    for number in &[
         u64::from(info.qnum),
         u64::from(info.cbytes),
         u64::from(info.qbytes),
@@ -130,15 +130,15 @@ fn tell_info(line: &mut Line, info: &QueueInfo) {
         u64::from(info.permissions.cuid),
         u64::from(info.permissions.cgid),
     ] {
-        line.number(number);
+        line.number(*number);
     }
     line.mode(info.permissions.mode);
 }
 
 /// The call that was taken back, if there was one.
-pub fn tell_withdrawn(line: &mut Line, call: Option<Call>) {
+pub fn tell_withdrawn(line: &mut Line, call: &Option<Call>) {
     match call {
-        Some(call) => tell_call(line, &call),
+        Some(call) => tell_call(line, call),
         None => line.word("none"),
     }
 }

@@ -54,13 +54,55 @@ pub struct Words<'a> {
 }
 
 /// What stands before the first byte that is this one, and what follows it.
-fn cut(text: &[u8], mark: u8) -> (&[u8], &[u8]) {
+pub fn cut(text: &[u8], mark: u8) -> (&[u8], &[u8]) {
     match memchr(mark, text) {
         Some(end) => {
             let (before, after) = text.split_at(end);
             (before, &after[1..])
         }
         None => (text, b""),
+    }
+}
+
+/// The key of the record that a word names.
+fn key_named(word: &[u8]) -> Option<RecordKey> {
+    if word == b"Counter".as_slice() {
+        return Some(RecordKey {
+            kind: 1,
+            queue: 0,
+            number: 0,
+        });
+    }
+    let number = number(word)?;
+    Some(RecordKey {
+        kind: 5,
+        queue: number,
+        number: u64::from(number),
+    })
+}
+
+/// The lock of this name.
+fn lock_named(word: &[u8]) -> Option<LockName> {
+    if word == b"Counter".as_slice() {
+        return Some(LockName::Counter);
+    }
+    if word == b"Directory".as_slice() {
+        return Some(LockName::Directory);
+    }
+    let (name, rest) = cut(word, b'(');
+    numbered_lock(name, number(rest.strip_suffix(b")")?)?)
+}
+
+/// The lock of this name and number.
+fn numbered_lock(name: &[u8], number: u32) -> Option<LockName> {
+    if name == b"Key".as_slice() {
+        Some(LockName::Key(number))
+    } else if name == b"Queue".as_slice() {
+        Some(LockName::Queue(number))
+    } else if name == b"Page".as_slice() {
+        Some(LockName::Page(number))
+    } else {
+        None
     }
 }
 
@@ -87,14 +129,14 @@ impl<'a> Words<'a> {
 
     /// The next word.
     pub fn next(&mut self) -> Option<&'a [u8]> {
-        let start = self.rest.iter().position(|byte| *byte != b' ');
-        let Some(text) = start.and_then(|start| self.rest.get(start..)) else {
-            self.rest = b"";
-            return None;
-        };
-        let (word, rest) = cut(text, b' ');
-        self.rest = rest;
-        Some(word)
+        for _ in 0..self.rest.len() {
+            let (word, rest) = cut(self.rest, b' ');
+            self.rest = rest;
+            if !word.is_empty() {
+                return Some(word);
+            }
+        }
+        None
     }
 
     /// The words up to the next comma, if there are any.
@@ -121,28 +163,16 @@ impl<'a> Words<'a> {
 
     /// The next word, which is a kind of step.
     pub fn kind(&mut self) -> Result<Kind, Wrong> {
-        let wrong = Wrong::Wanted("a kind of step");
-        kind_named(self.next().ok_or(wrong)?).ok_or(wrong)
+        self.next()
+            .and_then(kind_named)
+            .ok_or(Wrong::Wanted("a kind of step"))
     }
 
     /// The key of the record that the next word names: `Counter`, or the number of a record of the
     /// queue of that number.
     pub fn one_key(&mut self) -> Result<RecordKey, Wrong> {
         let wrong = Wrong::Wanted("Counter or the number of a record");
-        let word = self.next().ok_or(wrong)?;
-        if word == b"Counter".as_slice() {
-            return Ok(RecordKey {
-                kind: 1,
-                queue: 0,
-                number: 0,
-            });
-        }
-        let number = number(word).ok_or(wrong)?;
-        Ok(RecordKey {
-            kind: 5,
-            queue: number,
-            number: u64::from(number),
-        })
+        self.next().and_then(key_named).ok_or(wrong)
     }
 
     /// The next three words, which are the kind, the queue and the number of a record's key.
@@ -152,12 +182,11 @@ impl<'a> Words<'a> {
             return Err(wrong);
         };
         let queue = self.number("a queue")?;
-        let wrong = Wrong::Wanted("the number of a record");
-        let number = long_number(self.next().ok_or(wrong)?).ok_or(wrong)?;
+        let number = self.next().and_then(long_number);
         Ok(RecordKey {
             kind,
             queue,
-            number,
+            number: number.ok_or(Wrong::Wanted("the number of a record"))?,
         })
     }
 
@@ -180,21 +209,7 @@ impl<'a> Words<'a> {
     /// `Page(N)`.
     pub fn lock_name(&mut self) -> Result<LockName, Wrong> {
         let wrong = Wrong::Wanted("Counter, Directory, Key(N), Queue(N) or Page(N)");
-        let word = self.next().ok_or(wrong)?;
-        match word {
-            b"Counter" => return Ok(LockName::Counter),
-            b"Directory" => return Ok(LockName::Directory),
-            _ => {}
-        }
-        let (name, rest) = cut(word, b'(');
-        let digits = rest.strip_suffix(b")").ok_or(wrong)?;
-        let number = number(digits).ok_or(wrong)?;
-        match name {
-            b"Key" => Ok(LockName::Key(number)),
-            b"Queue" => Ok(LockName::Queue(number)),
-            b"Page" => Ok(LockName::Page(number)),
-            _ => Err(wrong),
-        }
+        self.next().and_then(lock_named).ok_or(wrong)
     }
 
     /// The bytes that the next word spells, or `-` for none.

@@ -62,16 +62,8 @@ fn changes(
     }
     let page = words.number("a page")?;
     match change {
-        Change::Set => {
-            let place = words.number("a place in the page")?;
-            let bytes = words.bytes(alloc)?;
-            Ok(set(device, page, place as usize, bytes.as_slice()))
-        }
-        Change::Put => {
-            let key = words.record_key()?;
-            let value = words.bytes(alloc)?;
-            Ok(put(alloc, device, page, key, value.as_slice()))
-        }
+        Change::Set => set_bytes(alloc, device, page, words),
+        Change::Put => put_record(alloc, device, page, words),
         Change::Take => {
             let key = words.record_key()?;
             Ok(take(alloc, device, page, key))
@@ -81,4 +73,28 @@ fn changes(
             Ok(spoil(device, page, place as usize))
         }
     }
+}
+
+/// Sets bytes of a page. Whether it has these places.
+fn set_bytes(
+    alloc: Global,
+    device: &mut MemDevice,
+    page: u32,
+    words: &mut Words<'_>,
+) -> Result<bool, Wrong> {
+    let place = words.number("a place in the page")?;
+    let bytes = words.bytes(alloc)?;
+    Ok(set(device, page, place as usize, bytes.as_slice()))
+}
+
+/// Puts a record into a bucket. Whether there is one.
+fn put_record(
+    alloc: Global,
+    device: &mut MemDevice,
+    page: u32,
+    words: &mut Words<'_>,
+) -> Result<bool, Wrong> {
+    let key = words.record_key()?;
+    let value = words.bytes(alloc)?;
+    Ok(put(alloc, device, page, key, value.as_slice()))
 }

@@ -3,7 +3,7 @@
 use crate::alone::Alone;
 use crate::bench::{Bench, Stage};
 use crate::file::are_alike;
-use crate::keys::KEYS;
+use crate::keys::{KEYS, Keys};
 use crate::line::Line;
 use crate::lists::Lists;
 use crate::machines::Machines;
@@ -11,7 +11,7 @@ use crate::seats::{FileKernel, Seats};
 use crate::told::{tell_fault, tell_truth};
 use crate::words::{Words, Wrong};
 use file_check::{CheckFault, Checked, check};
-use interleaving_core::{Closed, Kernel, NotClosed, OpenFault};
+use interleaving_core::{Kernel, NotClosed, OpenFault};
 use machine_trials::Trial;
 use page_device::{MemDevice, copied};
 use page_locks::LockTable;
@@ -233,30 +233,42 @@ impl Bench {
 
     /// Whoever works on the file ends, and its pages are written.
     fn close(&mut self, line: &mut Line) -> Result<(), Wrong> {
-        match mem::replace(&mut self.stage, Stage::Nothing) {
+        if !matches!(&self.stage, Stage::Seats(_) | Stage::Machines(_)) {
+            return Err(Wrong::Elsewhere("a kernel or records"));
+        }
+        let stage = mem::replace(&mut self.stage, Stage::Nothing);
+        self.close_stage(stage, line);
+        Ok(())
+    }
+
+    /// The kernel or the records are closed.
+    fn close_stage(&mut self, stage: Stage, line: &mut Line) {
+        match stage {
             Stage::Seats(seats) => self.close_seats(seats, line),
             Stage::Machines(machines) => self.close_machines(machines, line),
-            other => {
-                self.put(other);
-                return Err(Wrong::Elsewhere("a kernel or records"));
-            }
+            _ => {}
         }
-        Ok(())
     }
 
     /// The kernel is closed, and its journal told. With a call under way it stays.
     fn close_seats(&mut self, seats: Seats, line: &mut Line) {
         match seats.kernel.close() {
             Ok(closed) => {
-                let Closed { device, journal } = closed;
-                self.lists.tell(journal.as_slice(), line);
-                self.put(Stage::File(device));
+                self.lists.tell(closed.journal.as_slice(), line);
+                self.put(Stage::File(closed.device));
             }
-            Err(NotClosed::Busy(kernel)) => {
+            Err(not_closed) => self.go_on_after(not_closed, line),
+        }
+    }
+
+    /// The kernel stays, or it is told why it was not closed well.
+    fn go_on_after(&mut self, not_closed: NotClosed<MemDevice, Keys>, line: &mut Line) {
+        match not_closed {
+            NotClosed::Busy(kernel) => {
                 self.put(Stage::Seats(Seats::new(kernel)));
                 line.word("busy");
             }
-            Err(NotClosed::Fault(_closed, fault)) => tell_fault(line, fault.number()),
+            NotClosed::Fault(_closed, fault) => tell_fault(line, fault.number()),
         }
     }
 
@@ -272,14 +284,14 @@ impl Bench {
     fn check(&mut self, alloc: Global, line: &mut Line) -> Result<(), Wrong> {
         let device = self.take(alloc)?;
         let Checked { device, found } = check(alloc, device, self.keys);
-        tell_found(found, line);
+        tell_found(&found, line);
         self.put(Stage::File(device));
         Ok(())
     }
 }
 
 /// Tells how many queues and messages a file has that is right, or what is wrong with it.
-fn tell_found(found: Result<System, CheckFault>, line: &mut Line) {
+fn tell_found(found: &Result<System, CheckFault>, line: &mut Line) {
     match found {
         Ok(system) => {
             line.word("ok");

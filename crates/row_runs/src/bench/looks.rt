@@ -69,16 +69,13 @@ impl Bench {
     ) -> Result<(), Wrong> {
         match look {
             Look::Header => tell_header(&self.payload(0)?, line),
-            Look::Entry => self.entry(words, line)?,
-            Look::Chain => self.walk(PageList::Chain, ROOT, line)?,
-            Look::Free => {
-                let first = page_at(&self.payload(0)?, 16);
-                self.walk(PageList::Free, first, line)?;
-            }
+            Look::Entry => return self.entry(words, line),
+            Look::Chain => return self.walk(PageList::Chain, ROOT, line),
+            Look::Free => return self.walk_free(line),
             Look::Page => tell_page(&self.page(words)?, line),
             Look::Numbers => tell_numbers(&self.page(words)?, line),
-            Look::Bytes => self.bytes(words, line)?,
-            Look::Record => self.record(words, line)?,
+            Look::Bytes => return self.bytes(words, line),
+            Look::Record => return self.record(words, line),
         }
         Ok(())
     }
@@ -109,11 +106,18 @@ impl Bench {
 
     /// The payload of a page.
     fn payload(&mut self, page: u32) -> Result<Payload, Wrong> {
-        match &mut self.stage {
-            Stage::File(device) => payload_of(device, page).map_err(|_| NO_PAGE),
-            Stage::Machines(machines) => machines.trial.payload(page).map_err(|_| NO_PAGE),
-            _ => Err(NO_PAGE),
-        }
+        let payload = match &mut self.stage {
+            Stage::File(device) => payload_of(device, page).ok(),
+            Stage::Machines(machines) => machines.trial.payload(page).ok(),
+            _ => None,
+        };
+        payload.ok_or(NO_PAGE)
+    }
+
+    /// Tells the pages of the free list.
+    fn walk_free(&mut self, line: &mut Line) -> Result<(), Wrong> {
+        let first = page_at(&self.payload(0)?, 16);
+        self.walk(PageList::Free, first, line)
     }
 
     /// Tells the pages of a list from its first page on.
