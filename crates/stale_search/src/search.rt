@@ -1,7 +1,7 @@
 //! The machine.
 //!
-//! `step` is a match on the places. A hop alone does two things (`hop_on`): it looks at the page again,
-//! which may answer by now, and where it does not, the next one is locked in its place.
+//! `step` is a match on the places. A hop alone does two things: it looks at the page again, which
+//! may answer by now, and where it does not, the next one is locked in its place.
 
 ghost use Rattle.std.specs.Prelude.{◌≡◌, IfSome, IsSome};
 ghost use Rattle.page_locks.specs.Table.{IsSeat, row_of};
@@ -149,92 +149,39 @@ impl Search {
                 self.place = SearchPlace::Look(page);
                 Progress::Moved(Kind::Release)
             }
-            SearchPlace::Look(page) => self.look_on(page, pool, locks, seat),
-            SearchPlace::Hop(page) => self.hop_on(page, pool, locks, seat),
-            SearchPlace::Found(_, _) => Progress::Ended,
-        }
-    }
-
-    /// One step at a page that is to be looked at.
-    fn look_on<D: PageDevice>(
-        &mut self,
-        page: u32,
-        pool: &mut Pool<D>,
-        locks: &LockTable,
-        seat: u8,
-    ) -> Progress<FileFault>
-        requires seat { IsSeat locks.now seat }
-        requires ready { IsReady pool.old }
-        requires row { HasRow self.old (row_of locks.now seat) }
-        requires place { self.old.place ≡ SearchPlace.Look page }
-        ensures reads { ReadsPages result pool.old pool.new }
-        ensures aim { KeepsAim result pool.old self.old self.new }
-        ensures row { FollowsRow seat (search_locks self.old) (search_locks self.new)
-            locks.now locks.now }
-        ensures progress { Advances seat (search_facts self.old) result (left_in self.old pool.old)
-            (left_in self.new pool.new) pool.old pool.new locks.now }
-        ensures step { MakesStep seat (search_locks self.old) (search_facts self.old)
-            (search_facts self.new) (search_turn self.old) result pool.old pool.new
-            locks.now locks.now }
-        ensures answer { GivesAnswer seat result self.old self.new pool.old locks.now }
-    {
-        match look(pool, page, self.pseudokey, &self.key) {
-            Ok(Sight::Covering(found)) => {
-                self.place = SearchPlace::Found(page, found);
-                Progress::Moved(Kind::Look)
-            }
-            Ok(Sight::Naming(_)) => {
-                self.place = SearchPlace::Hop(page);
-                Progress::Moved(Kind::Look)
-            }
-            Err(fault) => Progress::Fault(fault),
-        }
-    }
-
-    /// One step at a page that did not answer: it is looked at again, and where it still does not,
-    /// the next one is locked in its place.
-    fn hop_on<D: PageDevice>(
-        &mut self,
-        page: u32,
-        pool: &mut Pool<D>,
-        locks: &mut LockTable,
-        seat: u8,
-    ) -> Progress<FileFault>
-        requires seat { IsSeat locks.old seat }
-        requires ready { IsReady pool.old }
-        requires row { HasRow self.old (row_of locks.old seat) }
-        requires place { self.old.place ≡ SearchPlace.Hop page }
-        ensures reads { ReadsPages result pool.old pool.new }
-        ensures aim { KeepsAim result pool.old self.old self.new }
-        ensures row { FollowsRow seat (search_locks self.old) (search_locks self.new)
-            locks.old locks.new }
-        ensures progress { Advances seat (search_facts self.old) result (left_in self.old pool.old)
-            (left_in self.new pool.new) pool.old pool.new locks.old }
-        ensures step { MakesStep seat (search_locks self.old) (search_facts self.old)
-            (search_facts self.new) (search_turn self.old) result pool.old pool.new
-            locks.old locks.new }
-        ensures answer { GivesAnswer seat result self.old self.new pool.old locks.old }
-    {
-        match look(pool, page, self.pseudokey, &self.key) {
-            Ok(Sight::Covering(_)) => {
-                self.place = SearchPlace::Look(page);
-                Progress::Moved(Kind::Hop)
-            }
-            Ok(Sight::Naming(next)) => {
-                if next == page {
-                    return Progress::Fault(FileFault::Failed);
+            SearchPlace::Look(page) => match look(pool, page, self.pseudokey, &self.key) {
+                Ok(Sight::Covering(found)) => {
+                    self.place = SearchPlace::Found(page, found);
+                    Progress::Moved(Kind::Look)
                 }
-                match locks.try_grant(seat, LockName::Page(next), self.kind) {
-                    Grant::Granted => {
-                        locks.release(seat, LockName::Page(page));
-                        self.place = SearchPlace::Look(next);
-                        self.hops = self.hops.saturating_add(1);
-                        Progress::Moved(Kind::Hop)
+                Ok(Sight::Naming(_)) => {
+                    self.place = SearchPlace::Hop(page);
+                    Progress::Moved(Kind::Look)
+                }
+                Err(fault) => Progress::Fault(fault),
+            },
+            SearchPlace::Hop(page) => match look(pool, page, self.pseudokey, &self.key) {
+                Ok(Sight::Covering(_)) => {
+                    self.place = SearchPlace::Look(page);
+                    Progress::Moved(Kind::Hop)
+                }
+                Ok(Sight::Naming(next)) => {
+                    if next == page {
+                        return Progress::Fault(FileFault::Failed);
                     }
-                    Grant::Blocked(other) => Progress::Blocked(other),
+                    match locks.try_grant(seat, LockName::Page(next), self.kind) {
+                        Grant::Granted => {
+                            locks.release(seat, LockName::Page(page));
+                            self.place = SearchPlace::Look(next);
+                            self.hops = self.hops.saturating_add(1);
+                            Progress::Moved(Kind::Hop)
+                        }
+                        Grant::Blocked(other) => Progress::Blocked(other),
+                    }
                 }
-            }
-            Err(fault) => Progress::Fault(fault),
+                Err(fault) => Progress::Fault(fault),
+            },
+            SearchPlace::Found(_, _) => Progress::Ended,
         }
     }
 

@@ -1,21 +1,24 @@
-use Rattle.std.proofs.Common.{◌≡◌, refl, ap, ◌∙◌, subst, ℕ, ◌%◌, ◌^◌, ◌≤◌, List, [], ◌∷◌, ◌++◌, length, arith, None, Some}
+use Rattle.std.proofs.Common.{◌≡◌, refl, sym, ap, ◌∙◌, subst, ℕ, suc, ◌%◌, ◌^◌, ◌≤◌, List, [], ◌∷◌, ◌++◌, length, arith, None, Some}
 use Rattle.step_rules.proofs.OwnLemmas.{low_bits_below}
 use Rattle.std.proofs.lemmas.List.{length_push}
-use Rattle.step_rules.specs.Words.{Lock, Directory, Page, Read, Store, entry_at, distance}
-use Rattle.stale_search.specs.Words.{kind_of, lock_of, without, Table, row_of, with_row, IsReached, Deep, LeadsTo, ForEntry, store_of}
+use Rattle.step_rules.specs.Words.{Lock, Directory, Page, Read, Store, entry_at, distance, Answers}
+use Rattle.stale_search.specs.Words.{kind_of, lock_of, without, Table, row_of, with_row, without_lock, IsReached, Deep, LeadsTo, ForEntry, store_of}
+use Rattle.page_locks.proofs.ChangeLemmas.{with_row-own, without_lock-with_lock}
 use Rattle.page_locks.proofs.TableLemmas.{row_of-same}
 use Rattle.step_rules.specs.declared.kind.Kind.TheVariants as kinds
 use Rattle.step_rules.proofs.LockLemmas.{IsHeld-some}
 use Rattle.step_rules.proofs.OwnLemmas.{entry_read_leads}
+use Rattle.step_rules.proofs.BuddyLemmas.{hop_goes_elsewhere}
 use Rattle.step_rules.proofs.MachineLemmas.{directory_may, page_may}
 use Rattle.stale_search.specs.Steps.{world}
 use Rattle.stale_search.specs.Rows.{on_page}
-use Rattle.stale_search.proofs.RowLemmas.{directory_in, both_held, page_not_in, released}
-use Rattle.stale_search.proofs.LeftLemmas.{twice_below}
+use Rattle.stale_search.proofs.RowLemmas.{directory_in, both_held, page_not_in, released, other_not_on, hopped}
+use Rattle.stale_search.proofs.LeftLemmas.{twice_below, hop_falls}
 use Rattle.step_rules.specs.Searching.{ByEntry}
 use Rattle.step_rules.specs.Ways.{hops_between}
-use Rattle.step_rules.proofs.BoundLemmas.{depth_is_exact, entry_is_near}
-use Rattle.stale_search.proofs.StepLemmas.{granted, granted_page, kept_from, read, gave_back, stays_there}
+use Rattle.step_rules.proofs.BoundLemmas.{depth_is_exact, entry_is_near, hop_is_nearer}
+use Rattle.stale_search.proofs.StepLemmas.{granted, granted_page, kept_from, read, gave_back, stays_there, taken, hopped_back, hopped_on, hop_blocked}
+use Rattle.stale_search.proofs.LookLemmas.{look_leaves, read_fails}
 use Rattle.stale_search.proofs.search.Search.step.Goals as goal
 
 pub read_entry-requires-clause-within : goal.read_entry-requires-clause-within
@@ -164,3 +167,143 @@ returns-in-Ok-read_entry-clause-progress g c = λ hash change sees.
     let few = rw (← named) at near in
     rw (c.in-Ok-read_entry.ensures.reads.images sees'.honest)
     (twice_below (distance s c.in-Ok-read_entry.page k) (hops_between s c.in-ReadEntry.depth k) few))
+
+-- ---- at a Look
+
+pub returns-in-Ok-Covering-clause-step : goal.returns-in-Ok-Covering-clause-step
+returns-in-Ok-Covering-clause-step g c =
+    rw (← c.self.view_is, c.in-Look.is)
+    (look_leaves c.args.seat c.in-Look.page c.self.inside.pseudokey c.args.pool.now c.look.new.pool c.args.locks.now
+    c.self.inside.kind c.requires.seat c.in-Ok-Covering.ensures.reads)
+
+pub returns-in-Ok-Covering-clause-answer : goal.returns-in-Ok-Covering-clause-answer
+returns-in-Ok-Covering-clause-answer g c = λ hash change keyed sees _.
+    let sees' = rw (← c.self.view_is, c.in-Look.is) at sees in
+    let keyed' = rw (← c.self.view_is) at keyed in
+    let row' = rw (← c.self.view_is, c.in-Look.is) at c.requires.row in
+    let sight = rw c.in-Ok-Covering.field-0-is at (c.in-Ok-Covering.ensures.ok sees'.honest) in
+    rw (← c.self.view_is, c.in-Look.is) (
+      refl,
+      taken hash c.args.seat _ c.args.pool.now c.args.locks.now change sees' None c.look.new.pool
+          c.in-Ok-Covering.ensures.reads c.in-Look.page c.self.inside.pseudokey c.self.inside.kind row'.before row'.bare
+          c.requires.seat row'.is sees'.known.0.1
+          c.self.inside.key c.in-Ok-Covering.found keyed' (sight.0.bucket, sight.0.covers) sight.1,
+    )
+
+pub returns-in-Ok-Naming-clause-step : goal.returns-in-Ok-Naming-clause-step
+returns-in-Ok-Naming-clause-step g c =
+    rw (← c.self.view_is, c.in-Look.is)
+    (look_leaves c.args.seat c.in-Look.page c.self.inside.pseudokey c.args.pool.now c.look.new.pool c.args.locks.now
+    c.self.inside.kind c.requires.seat c.in-Ok-Naming.ensures.reads)
+
+pub returns-in-Err-look-clause-progress : goal.returns-in-Err-look-clause-progress
+returns-in-Err-look-clause-progress g c =
+    rw (← c.self.view_is, c.in-Look.is)
+    (read_fails c.args.seat c.in-Look.page c.self.inside.pseudokey c.args.pool.now c.look.new.pool c.args.locks.now
+    c.in-Err-look.fault c.in-Err-look.ensures.fault)
+
+-- ---- at a Hop
+
+pub returns-then-next-page-clause-progress : goal.returns-then-next-page-clause-progress
+returns-then-next-page-clause-progress g c = λ hash change sees.
+    let sees' = rw (← c.self.view_is, c.in-Hop.is) at sees in
+    let sight = rw c.in-Ok-Naming-look.field-0-is at (c.in-Ok-Naming-look.ensures.ok sees'.honest) in
+    absurd (hop_goes_elsewhere hash (world c.args.pool.now.images c.args.locks.now change) c.in-Hop.page
+    c.self.inside.pseudokey sees'.sound sees'.known.0.1
+    (λ answers. sight.0 (record { bucket = answers.0; covers = answers.1 })) (sight.1 ∙ c.if-next-page.true))
+
+pub try_grant-requires-in-Ok-Naming-look-clause-fresh : goal.try_grant-requires-in-Ok-Naming-look-clause-fresh
+try_grant-requires-in-Ok-Naming-look-clause-fresh g c =
+    let row = rw (← c.self.view_is, c.in-Hop.is) at c.requires.row in
+    ap (λ (locks : List Lock). kind_of locks (Page c.in-Ok-Naming-look.next)) row.is
+    ∙ other_not_on row.before row.bare c.in-Hop.page c.in-Ok-Naming-look.next c.self.inside.kind
+    (λ same. c.if-next-page.false (sym same))
+
+pub returns-in-Ok-Covering-look-clause-step : goal.returns-in-Ok-Covering-look-clause-step
+returns-in-Ok-Covering-look-clause-step g c = λ hash change write before bare row sees _.
+    let sees' = rw (← c.self.view_is, c.in-Hop.is) at sees in
+    let row' = rw (← c.self.view_is, c.in-Hop.is) at row in
+    let sight = rw c.in-Ok-Covering-look.field-0-is at (c.in-Ok-Covering-look.ensures.ok sees'.honest) in
+    rw (← c.self.view_is, c.in-Hop.is)
+    (hopped_back hash c.args.seat _ c.args.pool.now c.args.locks.now change sees' write c.look-in-Hop.new.pool
+    c.in-Ok-Covering-look.ensures.reads c.in-Hop.page c.self.inside.pseudokey c.self.inside.kind before bare
+    c.requires.seat row' sees'.known.0.1
+    (sight.0.bucket, sight.0.covers))
+
+pub returns-in-Granted-try_grant-2-clause-row : goal.returns-in-Granted-try_grant-2-clause-row
+returns-in-Granted-try_grant-2-clause-row g c = λ before bare row.
+    let row' = rw (← c.self.view_is, c.in-Hop.is) at row in
+    c.release-in-Granted-try_grant-2.ensures
+    ∙ ap (λ (t : Table). without_lock t c.args.seat (Page c.in-Hop.page)) c.in-Granted-try_grant-2.ensures.ok
+    ∙ without_lock-with_lock c.args.locks.now c.args.seat (Page c.in-Ok-Naming-look.next) c.self.inside.kind
+    (Page c.in-Hop.page) c.requires.seat
+    ∙ ap (with_row c.args.locks.now c.args.seat) (ap (λ (locks : List Lock). without
+    (locks ++ lock_of (Page c.in-Ok-Naming-look.next) c.self.inside.kind ∷ []) (Page c.in-Hop.page)) row'
+    ∙ hopped before bare c.in-Hop.page c.in-Ok-Naming-look.next c.self.inside.kind c.if-next-page.false)
+
+pub returns-in-Granted-try_grant-2-clause-step : goal.returns-in-Granted-try_grant-2-clause-step
+returns-in-Granted-try_grant-2-clause-step g c = λ hash change write before bare row sees _.
+    let sees' = rw (← c.self.view_is, c.in-Hop.is) at sees in
+    let row' = rw (← c.self.view_is, c.in-Hop.is) at row in
+    let room = (rw (← c.self.view_is, c.in-Hop.is) at c.requires.row) in
+    let sight = rw c.in-Ok-Naming-look.field-0-is at (c.in-Ok-Naming-look.ensures.ok sees'.honest) in
+    let back : c.release-in-Granted-try_grant-2.new.self ≡ with_row c.args.locks.now c.args.seat
+    (on_page c.in-Ok-Naming-look.next c.self.inside.kind before) =
+    c.release-in-Granted-try_grant-2.ensures
+    ∙ ap (λ (t : Table). without_lock t c.args.seat (Page c.in-Hop.page)) c.in-Granted-try_grant-2.ensures.ok
+    ∙ without_lock-with_lock c.args.locks.now c.args.seat (Page c.in-Ok-Naming-look.next) c.self.inside.kind
+    (Page c.in-Hop.page) c.requires.seat
+    ∙ ap (with_row c.args.locks.now c.args.seat) (ap (λ (locks : List Lock). without
+    (locks ++ lock_of (Page c.in-Ok-Naming-look.next) c.self.inside.kind ∷ []) (Page c.in-Hop.page)) row'
+    ∙ hopped before bare c.in-Hop.page c.in-Ok-Naming-look.next c.self.inside.kind c.if-next-page.false) in
+    rw (← c.self.view_is, c.in-Hop.is)
+    (hopped_on hash c.args.seat _ c.args.pool.now c.args.locks.now change sees' write c.look-in-Hop.new.pool
+    c.in-Ok-Naming-look.ensures.reads c.in-Hop.page c.self.inside.pseudokey c.self.inside.kind before bare
+    c.requires.seat row' sees'.known.0.1
+    c.release-in-Granted-try_grant-2.new.self c.in-Ok-Naming-look.next (sym sight.1)
+    (λ answers. sight.0 (record { bucket = answers.0; covers = answers.1 }))
+    (let few = room.room in let size = ap length room.is in let more = length_push room.before
+    (lock_of (Page c.in-Hop.page) c.self.inside.kind) in omega (arith, few, size, more))
+    c.if-next-page.false c.in-Granted-try_grant-2.ensures.busy.1
+    (c.release-in-Granted-try_grant-2.ensures ∙ ap (λ (t : Table). without_lock t c.args.seat
+    (Page c.in-Hop.page)) c.in-Granted-try_grant-2.ensures.ok)
+    (ap (λ (t : Table). row_of t c.args.seat) back ∙ row_of-same c.args.locks.now c.args.seat _ c.requires.seat))
+
+pub returns-in-Blocked-try_grant-2-clause-step : goal.returns-in-Blocked-try_grant-2-clause-step
+returns-in-Blocked-try_grant-2-clause-step g c = λ hash change write before bare row sees _.
+    let sees' = rw (← c.self.view_is, c.in-Hop.is) at sees in
+    let row' = rw (← c.self.view_is, c.in-Hop.is) at row in
+    let sight = rw c.in-Ok-Naming-look.field-0-is at (c.in-Ok-Naming-look.ensures.ok sees'.honest) in
+    rw (← c.self.view_is, c.in-Hop.is, c.in-Blocked-try_grant-2.ensures.same)
+    (hop_blocked hash c.args.seat _ c.args.pool.now c.args.locks.now change sees' write c.look-in-Hop.new.pool
+    c.in-Ok-Naming-look.ensures.reads c.in-Hop.page c.self.inside.pseudokey c.self.inside.kind before bare
+    c.requires.seat row' sees'.known.0.1
+    c.in-Blocked-try_grant-2.other c.in-Ok-Naming-look.next (sym sight.1)
+    (λ answers. sight.0 (record { bucket = answers.0; covers = answers.1 }))
+    c.in-Blocked-try_grant-2.ensures.blocked)
+
+pub returns-in-Err-look-2-clause-progress : goal.returns-in-Err-look-2-clause-progress
+returns-in-Err-look-2-clause-progress g c =
+    rw (← c.self.view_is, c.in-Hop.is)
+    (read_fails c.args.seat c.in-Hop.page c.self.inside.pseudokey c.args.pool.now c.look-in-Hop.new.pool
+    c.args.locks.now c.in-Err-look-2.fault c.in-Err-look-2.ensures.fault)
+
+pub returns-in-Granted-try_grant-2-clause-progress : goal.returns-in-Granted-try_grant-2-clause-progress
+returns-in-Granted-try_grant-2-clause-progress g c = λ hash change sees.
+    let sees' = rw (← c.self.view_is, c.in-Hop.is) at sees in
+    let sight = rw c.in-Ok-Naming-look.field-0-is at (c.in-Ok-Naming-look.ensures.ok sees'.honest) in
+    rw (← c.self.view_is, c.in-Hop.is)
+    (let s : Store = store_of c.args.pool.now.images in
+    let k : ℕ = c.self.inside.pseudokey in
+    let other : Answers s c.in-Hop.page k → ⊥ = λ answers. sight.0
+    (record { bucket = answers.0; covers = answers.1 }) in
+    let nearer = hop_is_nearer hash (world c.args.pool.now.images c.args.locks.now change) c.in-Hop.page k
+    sees'.sound sees'.known.0.1 other in
+    rw (c.in-Ok-Naming-look.ensures.reads.images sees'.honest)
+    (hop_falls s c.in-Hop.page c.in-Ok-Naming-look.next k other
+    (nearer ∙ ap (λ (n : ℕ). suc (distance s n k)) sight.1)))
+
+pub returns-in-Blocked-try_grant-2-clause-row : goal.returns-in-Blocked-try_grant-2-clause-row
+returns-in-Blocked-try_grant-2-clause-row g c = λ before bare row.
+    c.in-Blocked-try_grant-2.ensures.same ∙ sym (with_row-own c.args.locks.now c.args.seat) ∙ ap
+    (with_row c.args.locks.now c.args.seat) row
