@@ -9,7 +9,7 @@ use step_rules::Kind;
 /// What is counted of a seat's last search, from the step by which it was granted the directory on
 /// up to the Look by which a page answered it. It stays until the seat's next search. From
 /// `u64::MAX` on a number counts no more.
-#[derive(Clone, Copy, PartialEq, Eq)]
+#[derive(Clone, Copy)]
 pub struct SearchCount {
     /// The hops from one page to another.
     pub hops: u64,

@@ -6,7 +6,7 @@ ghost use Rattle.interleaving_core.specs.Counting.{change_after, is_nothing};
 use step_rules::Kind;
 
 /// The structure change that is under way, as the kinds of steps tell it.
-#[derive(Clone, Copy, PartialEq, Eq)]
+#[derive(Clone, Copy)]
 pub enum UnderWay {
     /// None.
     Nothing,
