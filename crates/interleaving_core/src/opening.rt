@@ -54,9 +54,9 @@ impl Seating {
         Ok(Seating {
             locks: LockTable::new(alloc, seats as u8)?,
             callers: copied(alloc, callers)?,
+            searches: SearchCounts::new(alloc, seats)?,
             seats: idle_seats(alloc, seats)?,
             journal,
-            searches: SearchCounts::new(alloc, seats)?,
         })
     }
 }
