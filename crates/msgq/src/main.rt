@@ -6,22 +6,18 @@
 mod answered;
 mod crew;
 mod fixed;
-mod input;
-mod own_ids;
 mod runs;
 mod scripts;
-mod shell;
 mod stack;
-mod trouble;
 
 use answered::{Progress, Watched};
 use clap::Error;
 use clap::error::ErrorKind;
-use command_runs::read_command;
 use fixed::fixed;
 use msgq_cli::{Output, print_fault, read_command_line, with_waits};
 use numbers::faults;
-use shell::shell;
+use shell_commands::command_runs::read_command;
+use shell_commands::shell;
 use stack::has_stack;
 use std::fs::{File, OpenOptions};
 use std::io::{BufWriter, Eprint, IsTerminal, Write};
