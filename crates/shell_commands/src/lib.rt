@@ -3,10 +3,12 @@
 
 #![tactic(auto)]
 
+mod commands;
 mod input;
+mod looking;
 mod own_ids;
-mod shell;
 mod trouble;
+mod waiting;
 
 pub use command_runs;
-pub use shell::shell;
+pub use commands::shell;
