@@ -3,13 +3,13 @@
 ghost use Rattle.std.specs.Prelude.{◌≡◌, OnOk};
 ghost use Rattle.serving.specs.Serving.{GoesOn};
 
-use crate::client::{client_of, connection_of, is_own};
+use crate::came::{Came, came_of};
+use crate::client::{client_of, connection_of};
 use crate::durability::Durability;
 use crate::note::{Note, refusal_code};
 use crate::server::Server;
 use crate::trouble::Unheard;
-use durable_desk::desk::session::Unanswered;
-use durable_desk::desk::session::queue_model::{Answer, Call, Caller, Errno};
+use durable_desk::desk::session::queue_model::{Call, Caller, Errno};
 use durable_desk::safe_device::PagePair;
 use frames::{
     CANCELLED, Counts, DONE, Incoming, Kind, NO_MEMORY, Operation, Request, Unread, WRONG, read,
@@ -38,16 +38,22 @@ impl<P: PagePair> Server<P> {
         self.now = moment;
         match read(self.alloc, record, moment) {
             Ok(incoming) => self.attend(incoming, moment),
-            Err(Unread::Broken) => Err(Unheard::Broken),
-            Err(Unread::Wrong { connection, number }) => {
-                self.say_code(client_of(connection, number), WRONG)?;
-                Ok(Heard::Going)
-            }
-            Err(Unread::NoMemory { connection, number }) => {
-                self.say_code(client_of(connection, number), NO_MEMORY)?;
-                Ok(Heard::Going)
-            }
+            Err(why) => self.say_unread(why),
         }
+    }
+
+    /// A client is told why its record was not read.
+    fn say_unread(&mut self, why: Unread) -> Result<Heard, Unheard>
+        ensures { OnOk result (GoesOn P.is_honest P.moment P.left_since P.may_leave
+            self.old self.new) }
+    {
+        let (client, code) = match why {
+            Unread::Broken => return Err(Unheard::Broken),
+            Unread::Wrong { connection, number } => (client_of(connection, number), WRONG),
+            Unread::NoMemory { connection, number } => (client_of(connection, number), NO_MEMORY),
+        };
+        self.say_code(client, code)?;
+        Ok(Heard::Going)
     }
 
     /// What the relay tells.
@@ -115,7 +121,7 @@ impl<P: PagePair> Server<P> {
         ensures { OnOk result (GoesOn P.is_honest P.moment P.left_since P.may_leave
             self.old self.new) }
     {
-        let _ = self.make(client, caller, call)?;
+        self.make(client, caller, call)?;
         self.settle(moment)
     }
 
@@ -174,12 +180,8 @@ impl<P: PagePair> Server<P> {
     }
 
     /// A call is made, whose client is told what came of it; and it is noted which queues are alive.
-    pub(crate) fn make(
-        &mut self,
-        client: u64,
-        caller: Caller,
-        call: Call,
-    ) -> Result<Result<Answer, Unanswered>, Unheard>
+    /// What came of it in short.
+    pub(crate) fn make(&mut self, client: u64, caller: Caller, call: Call) -> Result<Came, Unheard>
         ensures { OnOk result (GoesOn P.is_honest P.moment P.left_since P.may_leave
             self.old self.new) }
     {
@@ -187,25 +189,32 @@ impl<P: PagePair> Server<P> {
             Call::Remove { id } => Some(*id),
             _ => None,
         };
-        let reply = self.ask(client, caller, call)?;
-        if self.note_alive(&reply, removed) {
-            Ok(reply)
+        let came = self.ask_in_short(client, caller, call)?;
+        if self.note_alive(came, removed) {
+            Ok(came)
         } else {
             Err(Unheard::NoMemory)
         }
     }
 
+    /// A call is asked for; what came of it in short.
+    fn ask_in_short(&mut self, client: u64, caller: Caller, call: Call) -> Result<Came, Unheard>
+        ensures { OnOk result (GoesOn P.is_honest P.moment P.left_since P.may_leave
+            self.old self.new) }
+    {
+        let reply = self.ask(client, caller, call)?;
+        Ok(came_of(&reply))
+    }
+
     /// Notes which queue is alive by what a call came to, or is no more where it was to be removed;
     /// false where there is no memory.
-    fn note_alive(&mut self, reply: &Result<Answer, Unanswered>, removed: Option<u32>) -> bool
+    fn note_alive(&mut self, came: Came, removed: Option<u32>) -> bool
         ensures { self.new ≡ self.old }
     {
-        match reply {
-            Ok(Answer::Id(id)) => self.queues.insert(*id).is_ok(),
-            Ok(Answer::Done) => {
-                if let Some(id) = removed {
-                    self.queues.remove(id);
-                }
+        match (came, removed) {
+            (Came::Id(id), _) => self.queues.insert(id).is_ok(),
+            (Came::Done, Some(id)) => {
+                self.queues.remove(id);
                 true
             }
             _ => true,
@@ -246,9 +255,6 @@ impl<P: PagePair> Server<P> {
         let Some(told) = self.next()? else {
             return Ok(false);
         };
-        if !is_own(told.client) {
-            return Ok(true);
-        }
         self.go_on_with(told, moment)?;
         Ok(true)
     }

@@ -1,6 +1,9 @@
 //! Messages in hand.
 
-use durable_desk::desk::session::queue_model::{Caller, SUPERUSER};
+use crate::note::refusal_code;
+use durable_desk::desk::session::queue_model::{Caller, Errno, SUPERUSER};
+use frames::DONE;
+use std::alloc::{AllocError, Global};
 
 /// The type of the message by which a holding queue tells from which queue its message comes, so that
 /// this is known behind a kill: "msgqhold", in bytes.
@@ -61,9 +64,16 @@ pub struct Holdings {
 }
 
 impl Holdings {
-    /// Those on this list.
-    pub fn new(items: Vec<Holding>) -> Holdings {
-        Holdings { items }
+    /// None.
+    pub fn new(alloc: Global) -> Holdings {
+        Holdings {
+            items: Vec::new(alloc),
+        }
+    }
+
+    /// Takes memory for so many more.
+    pub fn reserve(&mut self, many: usize) -> Result<(), AllocError> {
+        self.items.reserve(many)
     }
 
     /// One more; false where there is no memory.
@@ -101,6 +111,20 @@ impl Holdings {
             if holding.queue == queue {
                 holding.stage = stage;
             }
+        }
+    }
+
+    /// A message in hand goes back, where this caller may have it so. What its client is told.
+    pub fn send_back(&mut self, queue: u32, caller: Caller) -> u32 {
+        match self.of(queue) {
+            Some(holding) if holding.stage == Stage::Held => {
+                if caller.uid != holding.caller.uid && caller.uid != SUPERUSER {
+                    return refusal_code(Errno::EPERM);
+                }
+                self.set(queue, Stage::GoesBack);
+                DONE
+            }
+            _ => refusal_code(Errno::EINVAL),
         }
     }
 

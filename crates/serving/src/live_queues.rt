@@ -9,10 +9,16 @@ pub struct LiveQueues {
 }
 
 impl LiveQueues {
-    /// None. Memory is taken for so many.
-    pub fn new(alloc: Global, most: usize) -> Result<LiveQueues, AllocError> {
-        let ids = Vec::with_capacity(alloc, most)?;
-        Ok(LiveQueues { ids })
+    /// None.
+    pub fn new(alloc: Global) -> LiveQueues {
+        LiveQueues {
+            ids: Vec::new(alloc),
+        }
+    }
+
+    /// Takes memory for so many more.
+    pub fn reserve(&mut self, many: usize) -> Result<(), AllocError> {
+        self.ids.reserve(many)
     }
 
     /// A queue is alive. A new one has an id above all others.

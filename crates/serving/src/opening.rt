@@ -40,25 +40,38 @@ impl<P: PagePair> Server<P> {
         P: Drop,
         requires { IsTrue P.is_honest → IsReady P.may_leave device }
     {
-        let (outbox, queues, holdings) = nothing_yet(alloc)?;
         let mut seen = Vec::new(alloc);
         let desk = DurableDesk::open(alloc, device, most, room_of(durability), &mut seen)?;
         let mut server = Server {
             alloc,
             desk,
-            outbox,
+            outbox: Outbox::new(Vec::new(alloc)),
             durability,
-            queues,
-            holdings,
+            queues: LiveQueues::new(alloc),
+            holdings: Holdings::new(alloc),
             answered: 0,
             saves: 0,
             now: moment,
             checkpointed: moment,
         };
-        seen.sort_unstable();
-        seen.dedup();
-        server.find_all(&seen, moment)?;
+        server.begin(&mut seen, moment)?;
         Ok(server)
+    }
+
+    /// Takes memory for what it is to note, and finds what is alive among the queues of these ids.
+    fn begin(&mut self, ids: &mut Vec<u32>, moment: u64) -> Result<(), Unopened> {
+        self.take_room()?;
+        ids.sort_unstable();
+        ids.dedup();
+        self.find_all(ids, moment)?;
+        Ok(())
+    }
+
+    /// Takes memory for records, queues and messages in hand.
+    fn take_room(&mut self) -> Result<(), AllocError> {
+        self.outbox.reserve(HELD_BYTES)?;
+        self.queues.reserve(MAX_QUEUES as usize)?;
+        self.holdings.reserve(MAX_QUEUES as usize)
     }
 
     /// Finds what is alive among the queues of these ids, and lets messages go back.
@@ -106,8 +119,16 @@ impl<P: PagePair> Server<P> {
         let Some(message) = self.take_out(info.id, ORIGIN_TYPE, moment)? else {
             return Ok(());
         };
-        self.note_holding(info.id, &message)?;
-        self.put_surely(info.id, &message, moment)
+        self.find_origin(info.id, &message, moment)
+    }
+
+    /// The message that names where another comes from is kept, last, and so is what it says.
+    fn find_origin(&mut self, queue: u32, message: &Message, moment: u64) -> Result<(), Unheard>
+        ensures { OnOk result (GoesOn P.is_honest P.moment P.left_since P.may_leave
+            self.old self.new) }
+    {
+        self.note_holding(queue, message)?;
+        self.put_surely(queue, message, moment)
     }
 
     /// The message of a holding queue is to go back where it is said to come from.
@@ -130,14 +151,6 @@ impl<P: PagePair> Server<P> {
             Err(Unheard::NoMemory)
         }
     }
-}
-
-/// No records, no queues and no messages in hand.
-fn nothing_yet(alloc: Global) -> Result<(Outbox, LiveQueues, Holdings), AllocError> {
-    let outbox = Outbox::new(Vec::with_capacity(alloc, HELD_BYTES)?);
-    let queues = LiveQueues::new(alloc, MAX_QUEUES as usize)?;
-    let holdings = Holdings::new(Vec::with_capacity(alloc, MAX_QUEUES as usize)?);
-    Ok((outbox, queues, holdings))
 }
 
 /// So many bytes of calls may be noted at once: none where each save brings the pages.

@@ -10,6 +10,7 @@ use crate::note::Note;
 use durable_desk::desk::session::Unanswered;
 use durable_desk::desk::session::queue_model::{Answer, Errno, NoMemory};
 use frames::{ENDS, NO_MEMORY, NO_ROOM, Reply, put};
+use std::alloc::AllocError;
 use std::marker::Model;
 
 /// Records, one behind the other.
@@ -32,6 +33,11 @@ impl Outbox {
         ensures { result ≡ held.items }
     {
         Outbox { held }
+    }
+
+    /// Takes memory for so many more bytes.
+    pub fn reserve(&mut self, bytes: usize) -> Result<(), AllocError> {
+        self.held.reserve(bytes)
     }
 
     /// The bytes in order.
@@ -83,7 +89,7 @@ impl Outbox {
     }
 
     /// A client is told a code, and a value where that is 0.
-    fn put_code(&mut self, client: u64, code: u32, value: u32) -> Result<(), NoMemory>
+    pub fn put_code(&mut self, client: u64, code: u32, value: u32) -> Result<(), NoMemory>
         ensures { OnOk result (self.new ≡ self.old ++ record_to client (code_parts code value)) }
     {
         self.put(client, &Reply::Number { code, value })

@@ -5,7 +5,7 @@ ghost use Rattle.std.specs.Prelude.{OnOk};
 ghost use Rattle.serving.specs.Serving.{GoesOn};
 
 use crate::came::{Came, came_of};
-use crate::client::number_of;
+use crate::client::{is_own, number_of};
 use crate::holding::{HOLDING_MODE, Holding, KEEPER, ORIGIN_TYPE, Stage, carrier};
 use crate::note::{Note, refusal_code};
 use crate::server::{ITSELF, Server};
@@ -83,8 +83,7 @@ impl<P: PagePair> Server<P> {
         ensures { OnOk result (GoesOn P.is_honest P.moment P.left_since P.may_leave
             self.old self.new) }
     {
-        let reply = self.make(ITSELF, caller, call)?;
-        Ok(came_of(&reply))
+        self.make(ITSELF, caller, call)
     }
 
     /// A message is reserved in a holding queue that was made for it.
@@ -152,12 +151,17 @@ impl<P: PagePair> Server<P> {
         self.keep(queue, reply, wanted.moment)
     }
 
-    /// The receive of a reservation is over that waited.
+    /// A call is over that waited: where it is the receive of a reservation, this goes on.
     pub(crate) fn go_on_with(&mut self, told: Told, moment: u64) -> Result<(), Unheard>
         ensures { OnOk result (GoesOn P.is_honest P.moment P.left_since P.may_leave
             self.old self.new) }
     {
-        self.keep(number_of(told.client), told.reply, moment)
+        let Told { client, reply } = told;
+        if is_own(client) {
+            self.keep(number_of(client), reply, moment)
+        } else {
+            Ok(())
+        }
     }
 
     /// What the receive of a reservation came to: its message is put into the holding queue, and its
@@ -194,14 +198,30 @@ impl<P: PagePair> Server<P> {
         ensures { OnOk result (GoesOn P.is_honest P.moment P.left_since P.may_leave
             self.old self.new) }
     {
+        match self.put_in_hand(queue, &message, moment)? {
+            Some(client) => self.say(client, &Note::Held { queue, message }),
+            None => Ok(()),
+        }
+    }
+
+    /// The same. The client that is to be told, where it is in the holding queue.
+    fn put_in_hand(
+        &mut self,
+        queue: u32,
+        message: &Message,
+        moment: u64,
+    ) -> Result<Option<u64>, Unheard>
+        ensures { OnOk result (GoesOn P.is_honest P.moment P.left_since P.may_leave
+            self.old self.new) }
+    {
         let Some(holding) = self.holdings.of(queue) else {
-            return Ok(());
+            return Ok(None);
         };
-        if !self.is_put(holding, &message, moment)? {
-            return Ok(());
+        if !self.is_put(holding, message, moment)? {
+            return Ok(None);
         }
         self.holdings.set(queue, Stage::Held);
-        self.say(holding.client, &Note::Held { queue, message })
+        Ok(Some(holding.client))
     }
 
     /// Whether a message was put into the holding queue; else the reservation is over.
@@ -277,17 +297,8 @@ impl<P: PagePair> Server<P> {
         ensures { OnOk result (GoesOn P.is_honest P.moment P.left_since P.may_leave
             self.old self.new) }
     {
-        let Some(holding) = self.holdings.of(queue) else {
-            return self.say_code(client, refusal_code(Errno::EINVAL));
-        };
-        if holding.stage != Stage::Held {
-            return self.say_code(client, refusal_code(Errno::EINVAL));
-        }
-        if caller.uid != holding.caller.uid && caller.uid != SUPERUSER {
-            return self.say_code(client, refusal_code(Errno::EPERM));
-        }
-        self.holdings.set(queue, Stage::GoesBack);
-        self.say_code(client, DONE)
+        let code = self.holdings.send_back(queue, caller);
+        self.say_code(client, code)
     }
 
     /// Whether a message is in hand in this queue.

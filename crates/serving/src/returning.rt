@@ -8,6 +8,7 @@ use crate::client::connection_of;
 use crate::holding::{Holding, ORIGIN_BYTES, ORIGIN_TYPE, Stage, carrier};
 use crate::server::{ITSELF, Server};
 use crate::trouble::Unheard;
+use durable_desk::desk::session::Unanswered;
 use durable_desk::desk::session::queue_model::{
     Answer, Call, MAX_BODY, MAX_MESSAGES, Message, QueueInfo, ReceiveArguments,
 };
@@ -74,22 +75,34 @@ impl<P: PagePair> Server<P> {
             self.holdings.remove(holding.queue);
             return Ok(true);
         };
-        let Some(origin) = self.look_at(holding.origin)? else {
-            self.undo(holding.queue)?;
-            return Ok(true);
-        };
-        if held.qnum <= 1 {
-            self.undo(holding.queue)?;
-            return Ok(true);
-        }
-        if !has_room(&origin, &held) {
-            return Ok(false);
-        }
-        if !self.carry_back(holding, moment)? {
+        if !self.is_empty_now(holding, &held, moment)? {
             return Ok(false);
         }
         self.undo(holding.queue)?;
         Ok(true)
+    }
+
+    /// Whether nothing is left to go back of a holding queue: its queue is gone, or has its message
+    /// now.
+    fn is_empty_now(
+        &mut self,
+        holding: Holding,
+        held: &QueueInfo,
+        moment: u64,
+    ) -> Result<bool, Unheard>
+        ensures { OnOk result (GoesOn P.is_honest P.moment P.left_since P.may_leave
+            self.old self.new) }
+    {
+        let Some(origin) = self.look_at(holding.origin)? else {
+            return Ok(true);
+        };
+        if held.qnum <= 1 {
+            return Ok(true);
+        }
+        if !has_room(&origin, held) {
+            return Ok(false);
+        }
+        self.carry_back(holding, moment)
     }
 
     /// The message of a holding queue is taken out of it, and put back on its own. Where the file has
@@ -143,11 +156,9 @@ impl<P: PagePair> Server<P> {
             noerror: true,
             moment,
         });
-        match self.ask(ITSELF, carrier(0), receive)? {
-            Ok(Answer::Received(message)) => Ok(Some(message)),
-            Ok(_) => Ok(None),
-            Err(_) => Err(Unheard::NoMemory),
-        }
+        let reply = self.ask(ITSELF, carrier(0), receive)?;
+        let message = message_in(reply)?;
+        Ok(message)
     }
 
     /// What Stat tells of a queue, where it is alive.
@@ -155,11 +166,9 @@ impl<P: PagePair> Server<P> {
         ensures { OnOk result (GoesOn P.is_honest P.moment P.left_since P.may_leave
             self.old self.new) }
     {
-        match self.ask(ITSELF, carrier(0), Call::Stat { id: queue })? {
-            Ok(Answer::Info(info)) => Ok(Some(info)),
-            Ok(_) => Ok(None),
-            Err(_) => Err(Unheard::NoMemory),
-        }
+        let reply = self.ask(ITSELF, carrier(0), Call::Stat { id: queue })?;
+        let info = info_in(&reply)?;
+        Ok(info)
     }
 
     /// A reservation is over: its holding queue is removed.
@@ -170,6 +179,24 @@ impl<P: PagePair> Server<P> {
         self.holdings.remove(queue);
         self.make_for_itself(carrier(0), Call::Remove { id: queue })?;
         Ok(())
+    }
+}
+
+/// What a Stat was told, where the queue is alive.
+fn info_in(reply: &Result<Answer, Unanswered>) -> Result<Option<QueueInfo>, Unheard> {
+    match reply {
+        Ok(Answer::Info(info)) => Ok(Some(*info)),
+        Ok(_) => Ok(None),
+        Err(_) => Err(Unheard::NoMemory),
+    }
+}
+
+/// The message that a receive took, where there was one.
+fn message_in(reply: Result<Answer, Unanswered>) -> Result<Option<Message>, Unheard> {
+    match reply {
+        Ok(Answer::Received(message)) => Ok(Some(message)),
+        Ok(_) => Ok(None),
+        Err(_) => Err(Unheard::NoMemory),
     }
 }
 

@@ -16,7 +16,7 @@ use crate::outbox::Outbox;
 use crate::trouble::{Unheard, Unreleased};
 use durable_desk::desk::Told;
 use durable_desk::desk::session::Unanswered;
-use durable_desk::desk::session::queue_model::{Answer, Call, Caller};
+use durable_desk::desk::session::queue_model::{Answer, Call, Caller, NoMemory};
 use durable_desk::safe_device::PagePair;
 use durable_desk::{DurableDesk, Uncommitted};
 use frames::FAILED;
@@ -115,6 +115,17 @@ impl<P: PagePair> Server<P> {
         if self.durability == Durability::EachGroup {
             self.outbox.clear();
         }
+        let Ok(()) = self.tell_failures(client) else {
+            return Err(Unreleased::NoMemory);
+        };
+        output.write_all(self.outbox.as_slice())?;
+        output.flush()?;
+        self.outbox.clear();
+        Ok(())
+    }
+
+    /// This client and all who wait are told that the file has failed.
+    fn tell_failures(&mut self, client: u64) -> Result<(), NoMemory> {
         self.tell_failure(client)?;
         self.desk.stop();
         for _ in 0..=self.desk.waiting() {
@@ -122,14 +133,11 @@ impl<P: PagePair> Server<P> {
                 break;
             }
         }
-        output.write_all(self.outbox.as_slice())?;
-        output.flush()?;
-        self.outbox.clear();
         Ok(())
     }
 
     /// The first of those who wait is told that the file has failed. Whether there was one.
-    fn tell_next_failure(&mut self) -> Result<bool, Unreleased> {
+    fn tell_next_failure(&mut self) -> Result<bool, NoMemory> {
         let client = match self.desk.next() {
             Some(told) => told.client,
             None => return Ok(false),
@@ -139,7 +147,7 @@ impl<P: PagePair> Server<P> {
     }
 
     /// A client is told that the file has failed.
-    fn tell_failure(&mut self, client: u64) -> Result<(), Unreleased> {
+    fn tell_failure(&mut self, client: u64) -> Result<(), NoMemory> {
         let client = match self.holdings.of(crate::client::number_of(client)) {
             Some(holding) if is_own(client) => holding.client,
             _ => client,
@@ -147,10 +155,7 @@ impl<P: PagePair> Server<P> {
         if is_own(client) {
             return Ok(());
         }
-        let Ok(()) = self.outbox.note(client, &Note::code(FAILED)) else {
-            return Err(Unreleased::NoMemory);
-        };
-        Ok(())
+        self.outbox.put_code(client, FAILED, 0)
     }
 
     /// A call is asked for, and its client is told what came of it.
