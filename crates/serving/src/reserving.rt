@@ -17,7 +17,7 @@ use durable_desk::desk::session::queue_model::{
     SUPERUSER, SendArguments,
 };
 use durable_desk::safe_device::PagePair;
-use frames::{DONE, Operation};
+use frames::Operation;
 
 /// What a client asks to have reserved.
 #[derive(Clone, Copy)]
@@ -283,13 +283,11 @@ impl<P: PagePair> Server<P> {
         if !self.is_held(queue) {
             return self.say_code(client, refusal_code(Errno::EINVAL));
         }
-        match self.make_for_itself(caller, Call::Remove { id: queue })? {
-            Came::Done => {
-                self.holdings.remove(queue);
-                self.say_code(client, DONE)
-            }
-            came => self.say_code(client, came.code()),
+        let came = self.make_for_itself(caller, Call::Remove { id: queue })?;
+        if let Came::Done = came {
+            self.holdings.remove(queue);
         }
+        self.say_code(client, came.code())
     }
 
     /// A message in hand goes back, now or once there is room for it.
