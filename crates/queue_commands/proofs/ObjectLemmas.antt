@@ -1,5 +1,5 @@
 -- Objects put together one by one, and how deep they nest.
-use Rattle.std.proofs.Common.{false, ℤ, pos, negsuc, ◌≡◌, ◌∙◌, ◌<◌, ◌≤◌, ◌+◌, ℕ, zero, suc, List, [], ◌∷◌, ◌++◌, Option, Some, None, arith, take, map, refl, sym, ap}
+use Rattle.std.proofs.Common.{false, ℤ, pos, negsuc, ◌≡◌, ◌∙◌, ◌≤◌, ◌+◌, ℕ, zero, suc, List, [], ◌∷◌, ◌++◌, Option, Some, None, arith, take, map, refl, sym, ap}
 use Rattle.std.specs.Prelude.{slice_get}
 use Rattle.std.specs.Option.{option_map}
 use Rattle.std.proofs.lemmas.Int.{clamps}

@@ -100,7 +100,7 @@ fn info_object(alloc: Global, info: &QueueInfo) -> Result<Value, NoMemory>
     ensures { IfOk result (λ value. view value ≡ info_data info.now) }
 {
     let mut members = Map::new(alloc);
-    put_info(&mut members, alloc, info)?;
+    put_info(&mut members, alloc, *info)?;
     Ok(Value::Object(members))
 }
 
@@ -108,10 +108,10 @@ fn info_object(alloc: Global, info: &QueueInfo) -> Result<Value, NoMemory>
 fn put_info(
     members: &mut Map<String, Value>,
     alloc: Global,
-    info: &QueueInfo,
+    info: QueueInfo,
 ) -> Result<(), NoMemory>
     ensures { members_view members.old.entries ≡ no_members →
-        OnOk result (object (members_view members.new.entries) ≡ info_data info.now) }
+        OnOk result (object (members_view members.new.entries) ≡ info_data info) }
 {
     put_count(members, alloc, "id", u64::from(info.id))?;
     put(members, alloc, "key", key_value(info.key))?;
