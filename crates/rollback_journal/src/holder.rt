@@ -39,14 +39,19 @@ fn find_holder<R>(rt: &R, locked: &File) -> io::Result<Option<u32>>
 where
     R: Files<File = File> + AllocGlobal,
 {
-    let found = locked.metadata()?;
-    let node = node_of(rt.alloc(), found.dev(), found.ino())?;
+    let node = node_of(rt.alloc(), locked)?;
     let list = fs::read_to_string(rt, LOCKS)?;
     Ok(list.lines().find_map(|line| holder_in(line, node.as_str())))
 }
 
-/// A file as a list of locks names it.
-fn node_of(alloc: Global, device: u64, inode: u64) -> Result<String, AllocError> {
+/// An open file as a list of locks names it.
+fn node_of(alloc: Global, file: &File) -> io::Result<String> {
+    let found = file.metadata()?;
+    Ok(spell_node(alloc, found.dev(), found.ino())?)
+}
+
+/// A device and an inode as a list of locks names them.
+fn spell_node(alloc: Global, device: u64, inode: u64) -> Result<String, AllocError> {
     let major = device >> 32 & 0xffff_f000 | device >> 8 & 0xfff;
     let minor = device >> 12 & 0xffff_ff00 | device & 0xff;
     format!(in alloc; "{major:02x}:{minor:02x}:{inode}")

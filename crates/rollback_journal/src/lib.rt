@@ -5,6 +5,7 @@
 
 mod chain;
 mod holder;
+mod journal_file;
 mod layout;
 mod looking;
 mod opening;

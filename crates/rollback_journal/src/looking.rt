@@ -1,7 +1,7 @@
 //! What is told of a journal by who does not open its file to change it.
 
+use crate::journal_file::{journal_of, name_beside, unless};
 use crate::layout::FoundHead;
-use crate::opening::{SUFFIX, journal_of};
 use crate::system_file::SystemFile;
 use crate::system_pair::{SystemPair, find_head};
 use safe_device::PagePair;
@@ -27,19 +27,20 @@ pub fn is_left_behind<R>(rt: &R, path: &str) -> io::Result<bool>
 where
     R: Files<File = File> + AllocGlobal,
 {
-    let mut name = String::new(rt.alloc());
-    name.push_str(path)?;
-    name.push_str(SUFFIX)?;
-    match fs::symlink_metadata(rt, name.as_str()) {
+    let name = name_beside(rt.alloc(), path)?;
+    match unless(ErrorKind::NotFound, fs::symlink_metadata(rt, name.as_str()))? {
+        Some(found) if found.is_file() => has_head(rt, name.as_str()),
         // What is no file is no journal, and may be in the way of one.
-        Ok(found) if !found.is_file() => return Ok(found.len() > 0),
-        Ok(_) => {}
-        Err(error) if error.kind() == ErrorKind::NotFound => return Ok(false),
-        Err(error) => return Err(error),
+        Some(found) => Ok(found.len() > 0),
+        None => Ok(false),
     }
+}
+
+/// Whether a file begins with a whole head.
+fn has_head<R: Files<File = File>>(rt: &R, name: &str) -> io::Result<bool> {
     let mut how = OpenOptions::new();
     how.read(true);
-    let journal = SystemFile::new(how.open(rt, name.as_str())?)?;
+    let journal = SystemFile::new(how.open(rt, name)?)?;
     Ok(matches!(
         find_head(&journal)?,
         FoundHead::Whole(..) | FoundHead::OtherVersion
@@ -52,10 +53,15 @@ pub fn look<R>(rt: &R, path: &str) -> io::Result<Option<LeftOver>>
 where
     R: Files<File = File> + AllocGlobal,
 {
-    let Some(pair) = pair_to_look(rt, path)? else {
-        return Ok(None);
-    };
-    let left = left_in(&pair)?;
+    match pair_to_look(rt, path)? {
+        Some(pair) => look_in(&pair),
+        None => Ok(None),
+    }
+}
+
+/// What a session that was cut off has left, or nothing once that outlasts a crash.
+fn look_in(pair: &SystemPair<File>) -> io::Result<Option<LeftOver>> {
+    let left = left_in(pair)?;
     if left.is_none() {
         pair.settle_beside()?;
     }
@@ -67,10 +73,10 @@ pub fn is_under_way<R>(rt: &R, path: &str) -> io::Result<bool>
 where
     R: Files<File = File> + AllocGlobal,
 {
-    let Some(pair) = pair_to_look(rt, path)? else {
-        return Ok(false);
-    };
-    Ok(left_in(&pair)?.is_some())
+    match pair_to_look(rt, path)? {
+        Some(pair) => Ok(left_in(&pair)?.is_some()),
+        None => Ok(false),
+    }
 }
 
 /// A file and its journal, both open to be read alone, where there is a journal.
@@ -81,10 +87,8 @@ where
     let name = journal_of(rt, path)?;
     let mut how = OpenOptions::new();
     how.read(true);
-    let journal = match how.open(rt, name.as_str()) {
-        Ok(journal) => journal,
-        Err(error) if error.kind() == ErrorKind::NotFound => return Ok(None),
-        Err(error) => return Err(error),
+    let Some(journal) = unless(ErrorKind::NotFound, how.open(rt, name.as_str()))? else {
+        return Ok(None);
     };
     let file = how.open(rt, path)?;
     Ok(Some(SystemPair::new(rt.alloc(), file, journal)?))
@@ -92,12 +96,11 @@ where
 
 /// What a session that was cut off has left in a journal.
 fn left_in(pair: &SystemPair<File>) -> io::Result<Option<LeftOver>> {
-    let Some(found) = pair.find_journal()? else {
-        return Ok(None);
-    };
-    Ok(Some(LeftOver {
-        pages: found.count,
-        calls: found.calls,
-        images: found.images,
-    }))
+    Ok(
+        pair.find_journal()?.map(|found| LeftOver {
+            pages: found.count,
+            calls: found.calls,
+            images: found.images,
+        }),
+    )
 }

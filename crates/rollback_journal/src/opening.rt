@@ -1,25 +1,20 @@
 //! Files of the system opened with their journals.
 
 use crate::holder::{Holder, holder_of};
+use crate::journal_file::{Rights, find_journal, journal_of, make_or_find};
 use crate::refused::Refused;
 use crate::system_pair::SystemPair;
 use numbers::faults;
 use safe_device::page_device::{PAGE_BYTES, unseal};
 use safe_device::{PagePair, RecoveryFault, SafeDevice, recover};
-use std::alloc::AllocError;
-use std::fs::{File, Metadata, OpenOptions, Permissions, TryLockError};
+use std::alloc::{AllocError, Global};
+use std::fs::{File, OpenOptions, TryLockError};
 use std::io::{self, ErrorKind};
-use std::os::unix::fs::{FileExt, MetadataExt, OpenOptionsExt, PermissionsExt, chown};
+use std::os::unix::fs::{FileExt, MetadataExt};
 use std::rt::{Clock, Files};
 use std::time::{Duration, Instant};
 use std::{fs, thread};
 use thiserror::Error;
-
-/// What a journal's name has more than its file's.
-pub const SUFFIX: &str = ".journal";
-
-/// A journal is made with this mode, before it has its file's.
-const OWNER_ALONE: u32 = 0o600;
 
 /// So often a file is opened anew whose name another one has taken.
 const TRIES: u32 = 16;
@@ -144,17 +139,26 @@ where
     let begun = Instant::now(rt).map_err(Refused::Clock)?;
     for _ in 0..u64::MAX {
         let opened = try_open(rt, opening.path, calls);
-        let Err(OpenError::InUse(_)) = &opened else {
-            return opened;
-        };
-        let waited = begun.elapsed(rt).map_err(Refused::Clock)?;
-        let left = opening.wait.saturating_sub(waited);
-        if left.is_zero() {
+        if !is_in_use(&opened) || !nap(rt, begun, opening.wait).map_err(Refused::Clock)? {
             return opened;
         }
-        thread::sleep(rt, left.min(Duration::from_millis(NAP)));
     }
     Err(OpenError::InUse(Holder::Unknown))
+}
+
+/// Whether a file was not opened since another process has it open.
+fn is_in_use(opened: &Result<SafeDevice<SystemPair<File>>, OpenError>) -> bool {
+    matches!(opened, Err(OpenError::InUse(_)))
+}
+
+/// Sleeps before a file is tried again; not where the time that began there is over.
+fn nap<R: Clock>(rt: &R, begun: Instant, wait: Duration) -> io::Result<bool> {
+    let left = wait.saturating_sub(begun.elapsed(rt)?);
+    if left.is_zero() {
+        return Ok(false);
+    }
+    thread::sleep(rt, left.min(Duration::from_millis(NAP)));
+    Ok(true)
 }
 
 /// Opens a file to change it, once what a session that was cut off has left is undone. Where another
@@ -193,39 +197,75 @@ fn open_named<R>(
 where
     R: Files<File = File> + AllocGlobal,
 {
-    // A fifo would wait for a writer.
-    let found = fs::metadata(rt, path).map_err(Refused::File)?;
-    if !found.is_file() && !found.is_dir() {
+    let Some(file) = open_file(rt, path).map_err(Refused::File)? else {
         return Err(OpenError::NoFile);
+    };
+    let journal = open_journal(rt, path, &file)?;
+    lock(rt, &journal)?;
+    // Whoever had the lock may have put another file in the place of this one.
+    if has_name(rt, path, &file).map_err(Refused::File)? {
+        Ok(Some(begin(rt.alloc(), file, journal, calls)?))
+    } else {
+        Ok(None)
+    }
+}
+
+/// Opens a file to read and to write it; none where this is no file.
+fn open_file<R>(rt: &R, path: &str) -> io::Result<Option<File>>
+where
+    R: Files<File = File>,
+{
+    // A fifo would wait for a writer.
+    let found = fs::metadata(rt, path)?;
+    if !found.is_file() && !found.is_dir() {
+        return Ok(None);
     }
     let mut how = OpenOptions::new();
     how.read(true).write(true);
-    let file = how.open(rt, path).map_err(Refused::File)?;
-    let journal = open_journal(rt, path, &file)?;
+    Ok(Some(how.open(rt, path)?))
+}
+
+/// Locks a journal, or says who has it locked.
+fn lock<R>(rt: &R, journal: &File) -> Result<(), OpenError>
+where
+    R: Files<File = File> + AllocGlobal,
+{
     match journal.try_lock() {
-        Ok(()) => {}
-        Err(TryLockError::WouldBlock) => return Err(OpenError::InUse(holder_of(rt, &journal))),
-        Err(TryLockError::Error(error)) => return Err(Refused::Journal(error).into()),
+        Ok(()) => Ok(()),
+        Err(TryLockError::WouldBlock) => Err(OpenError::InUse(holder_of(rt, journal))),
+        Err(TryLockError::Error(error)) => Err(OpenError::Refused(Refused::Journal(error))),
     }
-    // Whoever had the lock may have put another file in the place of this one.
-    if !has_name(rt, path, &file).map_err(Refused::File)? {
-        return Ok(None);
+}
+
+/// A device over a file and its journal, which is locked.
+fn begin(
+    alloc: Global,
+    file: File,
+    journal: File,
+    calls: Calls,
+) -> Result<SafeDevice<SystemPair<File>>, OpenError> {
+    let mut pair = SystemPair::new(alloc, file, journal).map_err(Refused::File)?;
+    match undo(&mut pair, calls) {
+        Ok(true) => {}
+        Ok(false) => return Err(OpenError::HasCalls),
+        Err(fault) => return Err(OpenError::of_recovery(fault, pair.into_refused())),
     }
-    let mut pair = SystemPair::new(rt.alloc(), file, journal).map_err(Refused::File)?;
-    match pair.find_journal() {
-        Ok(Some(found)) if found.calls > 0 && calls == Calls::AreRefused => {
-            return Err(OpenError::HasCalls);
-        }
-        Ok(_) => {}
-        Err(error) => return Err(OpenError::of_recovery(error.into(), pair.into_refused())),
+    if pair.is_whole().map_err(Refused::File)? {
+        Ok(SafeDevice::new(alloc, pair)?)
+    } else {
+        Err(OpenError::NotWhole)
     }
-    if let Err(fault) = recover(&mut pair) {
-        return Err(OpenError::of_recovery(fault, pair.into_refused()));
+}
+
+/// Undoes what a session that was cut off has left. Not where calls stand in the journal that are
+/// not made.
+fn undo(pair: &mut SystemPair<File>, calls: Calls) -> Result<bool, RecoveryFault> {
+    let found = pair.find_journal()?;
+    if calls == Calls::AreRefused && found.is_some_and(|journal| journal.calls > 0) {
+        return Ok(false);
     }
-    if !pair.is_whole().map_err(Refused::File)? {
-        return Err(OpenError::NotWhole);
-    }
-    Ok(Some(SafeDevice::new(rt.alloc(), pair)?))
+    recover(pair)?;
+    Ok(true)
 }
 
 /// Whether a name is that of an open file.
@@ -238,40 +278,32 @@ where
     Ok(named.dev() == opened.dev() && named.ino() == opened.ino())
 }
 
-/// The journal's name: that of the file, where no link leads on, and the suffix.
-pub fn journal_of<R: Files + AllocGlobal>(rt: &R, path: &str) -> io::Result<String> {
-    let mut name = String::new(rt.alloc());
-    let real = fs::canonicalize(rt, path)?;
-    let Some(real) = real.to_str() else {
-        return Err(ErrorKind::InvalidFilename.into());
-    };
-    name.push_str(real)?;
-    name.push_str(SUFFIX)?;
-    Ok(name)
-}
-
 /// The journal of a file, which is made where there is none and the file begins with a page.
 fn open_journal<R>(rt: &R, path: &str, file: &File) -> Result<File, OpenError>
 where
     R: Files<File = File> + AllocGlobal,
 {
     let name = journal_of(rt, path).map_err(Refused::Journal)?;
-    if let Some(journal) = find_journal(rt, name.as_str(), file).map_err(Refused::Journal)? {
-        return Ok(journal);
+    let like = Rights::of(file).map_err(Refused::Journal)?;
+    match find_journal(rt, name.as_str(), like).map_err(Refused::Journal)? {
+        Some(journal) => Ok(journal),
+        None => begin_journal(rt, name.as_str(), file, like),
     }
+}
+
+/// The journal of a file that had none.
+fn begin_journal<R>(rt: &R, name: &str, file: &File, like: Rights) -> Result<File, OpenError>
+where
+    R: Files<File = File>,
+{
     let tested = test_beginning(file);
-    if tested.is_ok() {
-        match make_journal(rt, name.as_str(), file) {
-            Err(error) if error.kind() == ErrorKind::AlreadyExists => {}
-            made => return Ok(made.map_err(Refused::Journal)?),
+    match make_or_find(rt, name, like, tested.is_ok()).map_err(Refused::Journal)? {
+        Some(journal) => Ok(journal),
+        None => {
+            tested?;
+            Err(Refused::Journal(ErrorKind::NotFound.into()).into())
         }
     }
-    // Another process may have made it meanwhile, and may be writing page 0.
-    if let Some(journal) = find_journal(rt, name.as_str(), file).map_err(Refused::Journal)? {
-        return Ok(journal);
-    }
-    tested?;
-    Err(Refused::Journal(ErrorKind::NotFound.into()).into())
 }
 
 /// Tests that a file has whole pages, and that page 0 is sealed.
@@ -289,89 +321,4 @@ fn test_beginning(file: &File) -> Result<(), OpenError> {
         Ok(_) => Ok(()),
         Err(_) => Err(OpenError::BadDigest),
     }
-}
-
-/// The journal of a file, where there is one.
-fn find_journal<R>(rt: &R, name: &str, file: &File) -> io::Result<Option<File>>
-where
-    R: Files<File = File>,
-{
-    match fs::symlink_metadata(rt, name) {
-        Ok(found) => Ok(Some(open_found(rt, name, &found, file)?)),
-        Err(error) if error.kind() == ErrorKind::NotFound => Ok(None),
-        Err(error) => Err(error),
-    }
-}
-
-/// The journal that was found.
-fn open_found<R>(rt: &R, name: &str, found: &Metadata, file: &File) -> io::Result<File>
-where
-    R: Files<File = File>,
-{
-    if !found.is_file() || !may_write(found, &file.metadata()?) {
-        return Err(ErrorKind::PermissionDenied.into());
-    }
-    let mut how = OpenOptions::new();
-    how.read(true).write(true);
-    let journal = how.open(rt, name)?;
-    guard(rt, name, &journal, &file.metadata()?)?;
-    Ok(journal)
-}
-
-/// A journal where there is none.
-fn make_journal<R>(rt: &R, name: &str, file: &File) -> io::Result<File>
-where
-    R: Files<File = File>,
-{
-    let mut how = OpenOptions::new();
-    how.read(true)
-        .write(true)
-        .create_new(true)
-        .mode(OWNER_ALONE);
-    let journal = how.open(rt, name)?;
-    guard(rt, name, &journal, &file.metadata()?)?;
-    sync_folder_of(rt, name)?;
-    Ok(journal)
-}
-
-/// Whether what stands at a journal's name was made by somebody who may write the file: its owner
-/// or a superuser, one of its group where that may write it, or anybody where all may.
-fn may_write(found: &Metadata, file: &Metadata) -> bool {
-    let mode = file.permissions().mode();
-    let is_owners = found.uid() == file.uid() || found.uid() == 0;
-    let is_groups = found.gid() == file.gid() && mode & 0o020 != 0;
-    is_owners || is_groups || mode & 0o002 != 0
-}
-
-/// Sees to it that who may not read a file may not read its journal: it gets the owner, the group
-/// and the mode of the file, as far as the system lets it. Where the group is another, its members
-/// may not read it.
-fn guard<R: Files>(rt: &R, name: &str, journal: &File, like: &Metadata) -> io::Result<()> {
-    let now = journal.metadata()?;
-    if now.uid() != like.uid() || now.gid() != like.gid() {
-        // Only a superuser gives a file away.
-        let _ = chown(rt, name, Some(like.uid()), Some(like.gid()));
-        let _ = chown(rt, name, None, Some(like.gid()));
-    }
-    let group = if journal.metadata()?.gid() == like.gid() {
-        0o060
-    } else {
-        0
-    };
-    let mode = like.permissions().mode() & (0o606 | group);
-    if journal.metadata()?.permissions().mode() & 0o777 == mode {
-        return Ok(());
-    }
-    journal.set_permissions(Permissions::from_mode(mode))
-}
-
-/// Brings the names of a folder to where they outlast a crash.
-fn sync_folder_of<R: Files<File = File>>(rt: &R, name: &str) -> io::Result<()> {
-    let folder = match name.rfind('/') {
-        Some(0) | None => "/",
-        Some(end) => &name[..end],
-    };
-    let mut how = OpenOptions::new();
-    how.read(true);
-    how.open(rt, folder)?.sync_all()
 }

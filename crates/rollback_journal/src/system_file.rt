@@ -21,12 +21,17 @@ impl<F: FileExt + OpenFile + Drop> SystemFile<F> {
     /// An open file, of which it is not known whether a crash leaves its length.
     pub fn new(file: F) -> io::Result<SystemFile<F>> {
         let len = file.metadata()?.len();
-        Ok(SystemFile {
+        Ok(SystemFile::of_len(file, len))
+    }
+
+    /// So one that has so many bytes.
+    pub fn of_len(file: F, len: u64) -> SystemFile<F> {
+        SystemFile {
             file,
             why: Cell::new(None),
             len: Cell::new(len),
             is_resized: Cell::new(true),
-        })
+        }
     }
 
     /// Takes it as given that a crash leaves its length.
