@@ -95,7 +95,7 @@ where
     let mut has_page_zero = false;
     for _ in 0..bytes / LEAST_ENTRY {
         let Some(read) = read_entry(journal, bytes, &chain, &head.page_zero)? else {
-            return Ok((chain, has_page_zero));
+            break;
         };
         if !chain.may_take(read.entry) {
             return Err(ErrorKind::InvalidData.into());
@@ -170,32 +170,21 @@ pub fn find_calls<F>(
 where
     F: FileExt + OpenFile + Drop,
 {
-    let entries = journal.bytes()? / LEAST_ENTRY;
-    let mut passed = 0;
-    let mut at = HEAD_BYTES as u64;
-    if looked.0 <= index {
-        passed = looked.0;
-        at = looked.1;
+    let (mut passed, mut at) = looked;
+    if passed > index {
+        (passed, at) = (0, HEAD_BYTES as u64);
     }
-    for _ in 0..entries {
-        let entry = entry_at(journal, at)?;
-        match entry {
-            Entry::Calls(many) if passed == index => return Ok((at, many)),
-            Entry::Calls(_) => passed = passed.saturating_add(1),
-            _ => {}
+    for _ in 0..journal.bytes()? / LEAST_ENTRY {
+        let entry = read_word(&read_word_at(journal, at)?, true);
+        if let Entry::Calls(many) = entry {
+            if passed == index {
+                return Ok((at, many));
+            }
+            passed = passed.saturating_add(1);
         }
         at = at.saturating_add(entry.bytes());
     }
     Err(ErrorKind::UnexpectedEof.into())
-}
-
-/// What the word says that stands there, where calls may stand.
-fn entry_at<F>(journal: &SystemFile<F>, at: u64) -> io::Result<Entry>
-where
-    F: FileExt + OpenFile + Drop,
-{
-    let word = read_word_at(journal, at)?;
-    Ok(read_word(&word, true))
 }
 
 /// The digest with which calls of so many bytes end that follow.

@@ -1,10 +1,9 @@
 //! Which process has a file locked, where the system tells.
 
 use std::alloc::{AllocError, Global};
-use std::fs::File;
+use std::fs::{self, File};
 use std::os::unix::fs::MetadataExt;
 use std::rt::Files;
-use std::{fs, io};
 use thiserror::Error;
 
 /// Where Linux lists the locks of all processes, one a line, as
@@ -29,25 +28,25 @@ where
     R: Files<File = File> + AllocGlobal,
 {
     match find_holder(rt, locked) {
-        Ok(Some(process)) => Holder::Process(process),
-        _ => Holder::Unknown,
+        Some(process) => Holder::Process(process),
+        None => Holder::Unknown,
     }
 }
 
 /// The process that holds the lock of a file, if the system's list has it.
-fn find_holder<R>(rt: &R, locked: &File) -> io::Result<Option<u32>>
+fn find_holder<R>(rt: &R, locked: &File) -> Option<u32>
 where
     R: Files<File = File> + AllocGlobal,
 {
     let node = node_of(rt.alloc(), locked)?;
-    let list = fs::read_to_string(rt, LOCKS)?;
-    Ok(list.lines().find_map(|line| holder_in(line, node.as_str())))
+    let list = fs::read_to_string(rt, LOCKS).ok()?;
+    list.lines().find_map(|line| holder_in(line, node.as_str()))
 }
 
-/// An open file as a list of locks names it.
-fn node_of(alloc: Global, file: &File) -> io::Result<String> {
-    let found = file.metadata()?;
-    Ok(spell_node(alloc, found.dev(), found.ino())?)
+/// An open file as a list of locks names it, where the system tells which it is.
+fn node_of(alloc: Global, file: &File) -> Option<String> {
+    let found = file.metadata().ok()?;
+    spell_node(alloc, found.dev(), found.ino()).ok()
 }
 
 /// A device and an inode as a list of locks names them.

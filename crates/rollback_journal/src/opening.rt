@@ -138,17 +138,15 @@ where
 {
     let begun = Instant::now(rt).map_err(Refused::Clock)?;
     for _ in 0..u64::MAX {
-        let opened = try_open(rt, opening.path, calls);
-        if !is_in_use(&opened) || !nap(rt, begun, opening.wait).map_err(Refused::Clock)? {
-            return opened;
+        let holder = match try_open(rt, opening.path, calls) {
+            Err(OpenError::InUse(holder)) => holder,
+            opened => return opened,
+        };
+        if !nap(rt, begun, opening.wait).map_err(Refused::Clock)? {
+            return Err(OpenError::InUse(holder));
         }
     }
     Err(OpenError::InUse(Holder::Unknown))
-}
-
-/// Whether a file was not opened since another process has it open.
-fn is_in_use(opened: &Result<SafeDevice<SystemPair<File>>, OpenError>) -> bool {
-    matches!(opened, Err(OpenError::InUse(_)))
 }
 
 /// Sleeps before a file is tried again; not where the time that began there is over.
@@ -201,10 +199,8 @@ where
         return Err(OpenError::NoFile);
     };
     let journal = open_journal(rt, path, &file)?;
-    lock(rt, &journal)?;
-    // Whoever had the lock may have put another file in the place of this one.
-    if has_name(rt, path, &file).map_err(Refused::File)? {
-        Ok(Some(begin(rt.alloc(), file, journal, calls)?))
+    if lock(rt, path, &file, &journal)? {
+        begin(rt.alloc(), file, journal, calls)
     } else {
         Ok(None)
     }
@@ -225,13 +221,14 @@ where
     Ok(Some(how.open(rt, path)?))
 }
 
-/// Locks a journal, or says who has it locked.
-fn lock<R>(rt: &R, journal: &File) -> Result<(), OpenError>
+/// Locks the journal of a file, and tells whether the file has its name yet.
+fn lock<R>(rt: &R, path: &str, file: &File, journal: &File) -> Result<bool, OpenError>
 where
     R: Files<File = File> + AllocGlobal,
 {
     match journal.try_lock() {
-        Ok(()) => Ok(()),
+        // Whoever had the lock may have put another file in the place of this one.
+        Ok(()) => Ok(has_name(rt, path, file).map_err(Refused::File)?),
         Err(TryLockError::WouldBlock) => Err(OpenError::InUse(holder_of(rt, journal))),
         Err(TryLockError::Error(error)) => Err(OpenError::Refused(Refused::Journal(error))),
     }
@@ -243,7 +240,7 @@ fn begin(
     file: File,
     journal: File,
     calls: Calls,
-) -> Result<SafeDevice<SystemPair<File>>, OpenError> {
+) -> Result<Option<SafeDevice<SystemPair<File>>>, OpenError> {
     let mut pair = SystemPair::new(alloc, file, journal).map_err(Refused::File)?;
     match undo(&mut pair, calls) {
         Ok(true) => {}
@@ -251,7 +248,7 @@ fn begin(
         Err(fault) => return Err(OpenError::of_recovery(fault, pair.into_refused())),
     }
     if pair.is_whole().map_err(Refused::File)? {
-        Ok(SafeDevice::new(alloc, pair)?)
+        Ok(Some(SafeDevice::new(alloc, pair)?))
     } else {
         Err(OpenError::NotWhole)
     }
@@ -260,12 +257,13 @@ fn begin(
 /// Undoes what a session that was cut off has left. Not where calls stand in the journal that are
 /// not made.
 fn undo(pair: &mut SystemPair<File>, calls: Calls) -> Result<bool, RecoveryFault> {
-    let found = pair.find_journal()?;
-    if calls == Calls::AreRefused && found.is_some_and(|journal| journal.calls > 0) {
-        return Ok(false);
+    match pair.find_journal()? {
+        Some(found) if found.calls > 0 && calls == Calls::AreRefused => Ok(false),
+        _ => {
+            recover(pair)?;
+            Ok(true)
+        }
     }
-    recover(pair)?;
-    Ok(true)
 }
 
 /// Whether a name is that of an open file.

@@ -47,23 +47,22 @@ impl Room {
             self.write(journal)?;
         }
         if part.len() > ONE_TRANSFER {
-            journal.write(part, self.at)?;
+            let written = journal.write(part, self.at);
             self.at = self.at.saturating_add(part.len() as u64);
-            return Ok(());
+            return written;
         }
-        self.bytes.extend_from_slice(part)?;
-        Ok(())
+        Ok(self.bytes.extend_from_slice(part)?)
     }
 
-    /// Writes what is there.
+    /// Writes what is there. Where that fails the addition is not whole, and nothing more is put.
     pub fn write<F>(&mut self, journal: &SystemFile<F>) -> io::Result<()>
     where
         F: FileExt + OpenFile + Drop,
     {
-        journal.write(&self.bytes, self.at)?;
+        let written = journal.write(&self.bytes, self.at);
         self.at = self.at.saturating_add(self.bytes.len() as u64);
         self.bytes.clear();
-        Ok(())
+        written
     }
 }
 

@@ -45,7 +45,8 @@ const MOST_KEPT_OF_CALLS: u64 = 8 << 20;
 impl<F: FileExt + OpenFile + Drop> SystemPair<F> {
     /// Two open files. One with more pages than there can be shows one too many.
     pub fn new(alloc: Global, file: F, journal: F) -> io::Result<SystemPair<F>> {
-        let (of_file, of_journal) = lens_of(&file, &journal)?;
+        let of_file = file.metadata()?.len();
+        let of_journal = journal.metadata()?.len();
         let room = Room::new(alloc)?;
         let file = SystemFile::of_len(file, of_file);
         let journal = SystemFile::of_len(journal, of_journal);
@@ -165,14 +166,6 @@ impl<F: FileExt + OpenFile + Drop> SystemPair<F> {
         self.chain.set(Some(longer));
         Ok(())
     }
-}
-
-/// How many bytes a file and its journal have.
-fn lens_of<F>(file: &F, journal: &F) -> io::Result<(u64, u64)>
-where
-    F: FileExt + OpenFile + Drop,
-{
-    Ok((file.metadata()?.len(), journal.metadata()?.len()))
 }
 
 /// What stands in a journal where a head is looked for.
