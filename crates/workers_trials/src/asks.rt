@@ -1,13 +1,84 @@
-//! The calls of trials, each made at the moment 1, and answers to them.
+//! The calls of trials as plain data, each made at the moment 1, and what they are answered.
 
 use queue_model::{
-    Answer, Body, Call, GetArguments, Message, Permissions, QueueInfo, ReceiveArguments,
-    SendArguments, SetArguments,
+    Answer, Body, Call, GetArguments, Permissions, QueueInfo, ReceiveArguments, SendArguments,
+    SetArguments,
 };
 use std::alloc::{AllocError, Global};
 
-/// The queue of a key, made where there is none; all may read and write it.
-pub fn get(key: u32) -> Call {
+/// A text as long as any.
+pub const LONG: &[u8] = &[b'a'; 1024];
+
+/// A call.
+#[derive(Clone, Copy)]
+pub enum Ask {
+    /// The queue of a key, made where there is none; all may read and write it.
+    Get(u32),
+    /// A queue may have so many bytes.
+    Set(u32, u32),
+    /// To a queue a message of this type and text.
+    Send(u32, i64, &'static [u8]),
+    /// The first message of a queue, of so many bytes at most.
+    Receive(u32, u32),
+    /// The state of a queue.
+    Stat(u32),
+}
+
+impl Ask {
+    /// The call.
+    pub fn call(self, alloc: Global) -> Result<Call, AllocError> {
+        match self {
+            Ask::Get(key) => Ok(get(key)),
+            Ask::Set(id, qbytes) => Ok(set(id, qbytes)),
+            Ask::Send(id, mtype, text) => send(alloc, id, mtype, text),
+            Ask::Receive(id, size) => Ok(receive(id, size)),
+            Ask::Stat(id) => Ok(Call::Stat { id }),
+        }
+    }
+
+    /// Whether it is this call.
+    pub fn is(self, alloc: Global, call: &Call) -> bool {
+        match self.call(alloc) {
+            Ok(own) => own == *call,
+            Err(_) => false,
+        }
+    }
+}
+
+/// An answer.
+#[derive(Clone, Copy)]
+pub enum Told {
+    /// To Get: the queue's id.
+    Id(u32),
+    /// To Send: the serial of the message.
+    Sent(u64),
+    /// To Receive: the serial, sender, type and text of the message.
+    Received(u64, u32, i64, &'static [u8]),
+    /// To Stat: of queue 1 with key 7, which user 0 made, in which so many messages stand that have
+    /// so many bytes together. Seat 1 has sent the last one, and this process received one at this
+    /// moment.
+    Info(u32, u32, u32, u64),
+}
+
+impl Told {
+    /// Whether it is this answer.
+    pub fn is(self, answer: &Answer) -> bool {
+        match (self, answer) {
+            (Told::Id(id), Answer::Id(given)) => *given == id,
+            (Told::Sent(serial), Answer::Sent(given)) => *given == serial,
+            (Told::Received(serial, sender, mtype, text), Answer::Received(given)) => {
+                (given.serial, given.sender, given.mtype) == (serial, sender, mtype)
+                    && given.bytes.as_slice() == text
+            }
+            (Told::Info(qnum, cbytes, lrpid, rtime), Answer::Info(given)) => {
+                *given == info(qnum, cbytes, lrpid, rtime)
+            }
+            _ => false,
+        }
+    }
+}
+
+fn get(key: u32) -> Call {
     Call::Get(GetArguments {
         key: Some(key),
         create: true,
@@ -17,8 +88,7 @@ pub fn get(key: u32) -> Call {
     })
 }
 
-/// A queue may have so many bytes.
-pub fn set(id: u32, qbytes: u32) -> Call {
+fn set(id: u32, qbytes: u32) -> Call {
     Call::Set(SetArguments {
         id,
         qbytes,
@@ -29,8 +99,7 @@ pub fn set(id: u32, qbytes: u32) -> Call {
     })
 }
 
-/// A message of this type and text to a queue.
-pub fn send(alloc: Global, id: u32, mtype: i64, text: &[u8]) -> Result<Call, AllocError> {
+fn send(alloc: Global, id: u32, mtype: i64, text: &[u8]) -> Result<Call, AllocError> {
     Ok(Call::Send(SendArguments {
         id,
         mtype,
@@ -40,8 +109,7 @@ pub fn send(alloc: Global, id: u32, mtype: i64, text: &[u8]) -> Result<Call, All
     }))
 }
 
-/// The first message of a queue, of so many bytes at most.
-pub fn receive(id: u32, size: u32) -> Call {
+fn receive(id: u32, size: u32) -> Call {
     Call::Receive(ReceiveArguments {
         id,
         size,
@@ -52,26 +120,8 @@ pub fn receive(id: u32, size: u32) -> Call {
     })
 }
 
-/// This message of a sender.
-pub fn received(
-    alloc: Global,
-    serial: u64,
-    sender: u32,
-    mtype: i64,
-    text: &[u8],
-) -> Result<Answer, AllocError> {
-    Ok(Answer::Received(Message {
-        serial,
-        sender,
-        mtype,
-        bytes: Body::new(Vec::from_slice(alloc, text)?),
-    }))
-}
-
-/// Queue 1 with key 7, which user 0 made, in which so many messages stand that have so many bytes
-/// together. Seat 1 has sent the last one, and `lrpid` received one at the moment `rtime`.
-pub fn info(qnum: u32, cbytes: u32, lrpid: u32, rtime: u64) -> Answer {
-    Answer::Info(QueueInfo {
+fn info(qnum: u32, cbytes: u32, lrpid: u32, rtime: u64) -> QueueInfo {
+    QueueInfo {
         id: 1,
         key: Some(7),
         qnum,
@@ -89,5 +139,5 @@ pub fn info(qnum: u32, cbytes: u32, lrpid: u32, rtime: u64) -> Answer {
             cgid: 0,
             mode: 0o666,
         },
-    })
+    }
 }

@@ -1,12 +1,11 @@
 //! A device one of whose transfers fails while messages are sent and received; a file without room.
 
-use crate::asks::{get, receive, send, set};
+use crate::asks::{Ask, LONG};
 use crate::closing::{End, Left};
 use crate::files::{is_file_of, new_file, open, prepared};
-use crate::playing::{Deed, Plan, play};
+use crate::playing::{Deed, Plan, Script, play};
 use file_check::CheckFault;
 use page_device::{FaultyDevice, MemDevice, PageDevice, copied};
-use queue_model::Call;
 use std::alloc::Global;
 use std::sync::Wait;
 use std::test::Fail;
@@ -17,9 +16,6 @@ use workers::{Fault, Open};
 
 /// The frames of the pool: so few that pages come and go.
 const FRAMES: usize = 16;
-
-/// How many messages are sent and received.
-const MESSAGES: u32 = 40;
 
 /// The calls: two make the queue, and each message is sent and received.
 const ENTRIES: usize = 82;
@@ -33,20 +29,54 @@ const MOST_TRANSFERS: u64 = 100_000;
 /// A device one of whose transfers fails.
 type Faulty = FaultyDevice<MemDevice>;
 
+/// A message as long as any.
+const MESSAGE: Ask = Ask::Send(1, 1, LONG);
+
+/// The queue of all is made, and may have as many bytes as any.
+const QUEUE: &[(Ask, u32)] = &[(Ask::Get(7), 1), (Ask::Set(1, 65_536), 1)];
+
+/// So it is, and the messages are sent.
+const SENT: &[(Ask, u32)] = &[(Ask::Get(7), 1), (Ask::Set(1, 65_536), 1), (MESSAGE, 40)];
+
+/// So it is, and more messages are sent than have room.
+const TOO_MANY: &[(Ask, u32)] = &[(Ask::Get(7), 1), (Ask::Set(1, 65_536), 1), (MESSAGE, 64)];
+
+/// 40 messages are received.
+const RECEIVES: Script = Script {
+    deeds: &[Deed::Call(Ask::Receive(1, 1024))],
+    many: 40,
+};
+
+/// Seat 1 does nothing more, and seat 2 receives.
+const IN_TURN: &[Script] = &[
+    Script {
+        deeds: &[],
+        many: 0,
+    },
+    RECEIVES,
+];
+
+/// Seat 1 sends 40 messages, and seat 2 receives.
+const AT_ONCE: &[Script] = &[
+    Script {
+        deeds: &[Deed::Call(MESSAGE)],
+        many: 40,
+    },
+    RECEIVES,
+];
+
 /// 40 messages are received once all have been sent; each transfer fails in turn, from the last of
 /// the check on.
 #[test]
 fn calls_in_turn_are_answered_or_told_that_a_step_has_failed(rt: HostRuntime) -> Result<(), Fail> {
-    let scripts = [Vec::new(rt.alloc()), receives(rt.alloc())?];
-    let plan = plan(rt.alloc(), MESSAGES, scripts)?;
+    let plan = plan(SENT, IN_TURN);
     fail_each(&rt, rt.alloc(), &plan, 1)
 }
 
 /// 40 messages are received while they are sent; one of five transfers fails in turn.
 #[test]
 fn calls_at_once_are_answered_or_told_that_a_step_has_failed(rt: HostRuntime) -> Result<(), Fail> {
-    let scripts = [sends(rt.alloc())?, receives(rt.alloc())?];
-    let plan = plan(rt.alloc(), 0, scripts)?;
+    let plan = plan(QUEUE, AT_ONCE);
     fail_each(&rt, rt.alloc(), &plan, 5)
 }
 
@@ -55,51 +85,21 @@ fn calls_at_once_are_answered_or_told_that_a_step_has_failed(rt: HostRuntime) ->
 #[test]
 fn a_send_without_room_is_told_so(rt: HostRuntime) -> Result<(), Fail> {
     let alloc = rt.alloc();
-    let plan = plan(alloc, 64, [Vec::new(alloc), Vec::new(alloc)])?;
+    let plan = plan(TOO_MANY, &[]);
     let left = play(&rt, alloc, prepared(alloc, 258, 2)?, Open, &plan)?;
     assert!(rt; left.first == Some(Fault::NoRoom) && left.fault.is_none());
     Ok(())
 }
 
-/// Seat 1 makes a queue that may have as many bytes as any and sends so many messages as long as any; then
-/// two seats play their scripts.
-fn plan(
-    alloc: Global,
-    messages: u32,
-    scripts: [Vec<Deed<'static>>; 2],
-) -> Result<Plan<'static>, Fail> {
-    let scripts = Vec::from_array(alloc, scripts)?;
-    let mut before = Vec::from_array(alloc, [get(7), set(1, 65_536)])?;
-    for _ in 0..messages {
-        before.push(message(alloc)?)?;
-    }
-    Ok(Plan {
+/// Seat 1 makes these calls, and then each plays its script.
+fn plan(before: &'static [(Ask, u32)], scripts: &'static [Script]) -> Plan<'static> {
+    Plan {
         before,
         scripts,
+        flags: &[],
         rounds: 1,
         end: End::Closed,
-    })
-}
-
-/// A message as long as any.
-fn message(alloc: Global) -> Result<Call, Fail> {
-    Ok(send(alloc, 1, 1, &[b'a'; 1024])?)
-}
-
-fn sends(alloc: Global) -> Result<Vec<Deed<'static>>, Fail> {
-    let mut script = Vec::new(alloc);
-    for _ in 0..MESSAGES {
-        script.push(Deed::Call(message(alloc)?))?;
     }
-    Ok(script)
-}
-
-fn receives(alloc: Global) -> Result<Vec<Deed<'static>>, Fail> {
-    let mut script = Vec::new(alloc);
-    for _ in 0..MESSAGES {
-        script.push(Deed::Call(receive(1, 1024)))?;
-    }
-    Ok(script)
 }
 
 /// Plays a plan again and again, each time with a transfer failed that is so much later, until none
@@ -131,8 +131,15 @@ fn fails<R: Threads + Wait + Clock + Sync>(
 ) -> Result<bool, Fail> {
     match open(alloc, device, 2, FRAMES) {
         Ok(prepared) => has_failed(alloc, play(rt, alloc, prepared, Open, plan)?),
-        Err((device, OpenFault::Wrong(_))) if device.faults() == 1 => Ok(true),
-        Err((_, fault)) => Err(fault.into()),
+        Err((device, fault)) => has_failed_check(&device, fault),
+    }
+}
+
+/// Whether a transfer of the check has failed; else the file is refused for another cause.
+fn has_failed_check(device: &Faulty, fault: OpenFault) -> Result<bool, Fail> {
+    match fault {
+        OpenFault::Wrong(_) if device.faults() == 1 => Ok(true),
+        _ => Err(fault.into()),
     }
 }
 

@@ -2,18 +2,33 @@
 //! That the gauge shows as many, and that a service one of whose seats is missing comes back, is
 //! tried wherever a service ends.
 
-use crate::asks::{get, info, receive, received, send};
+use crate::asks::{Ask, Told};
 use crate::closing::{End, Left};
 use crate::files::{is_file_of, prepared};
 use crate::plain::is_told;
 use crate::playing::{Plan, play};
-use queue_model::{Answer, Call};
 use std::alloc::Global;
 use std::sync::Wait;
 use std::test::Fail;
 use std::thread::Threads;
 use std::time::Clock;
 use workers::Open;
+
+/// The calls of seat 1. Nobody makes another.
+const CALLS: &[(Ask, u32)] = &[
+    (Ask::Get(7), 1),
+    (Ask::Send(1, 5, b"a"), 1),
+    (Ask::Receive(1, 1024), 1),
+    (Ask::Stat(1), 1),
+];
+
+/// What they are answered.
+const ANSWERS: &[Told] = &[
+    Told::Id(1),
+    Told::Sent(1),
+    Told::Received(1, 1, 5, b"a"),
+    Told::Info(0, 0, 1, 1),
+];
 
 #[test]
 fn the_first_script_is_answered_and_counted(rt: HostRuntime) -> Result<(), Fail> {
@@ -33,8 +48,13 @@ fn is_right<R: Threads + Wait + Clock + Sync>(
     end: End,
     entries: usize,
 ) -> Result<bool, Fail> {
-    let answers = answers(alloc)?;
-    let plan = plan(alloc, end)?;
+    let plan = Plan {
+        before: CALLS,
+        scripts: &[],
+        flags: &[],
+        rounds: 0,
+        end,
+    };
     let Left {
         device,
         journal,
@@ -43,29 +63,5 @@ fn is_right<R: Threads + Wait + Clock + Sync>(
     } = play(rt, alloc, prepared(alloc, 258, 2)?, Open, &plan)?;
     let journal = journal.as_slice();
     let written = journal.get(..entries).unwrap_or(&[]);
-    Ok(shown == 4 && is_told(journal, 1, answers.as_slice()) && is_file_of(alloc, device, written))
-}
-
-/// Seat 1 makes its calls, and nobody another.
-fn plan(alloc: Global, end: End) -> Result<Plan<'static>, Fail> {
-    Ok(Plan {
-        before: script(alloc)?,
-        scripts: Vec::new(alloc),
-        rounds: 0,
-        end,
-    })
-}
-
-/// Its calls.
-fn script(alloc: Global) -> Result<Vec<Call>, Fail> {
-    let sent = send(alloc, 1, 5, b"a")?;
-    let calls = [get(7), sent, receive(1, 1024), Call::Stat { id: 1 }];
-    Ok(Vec::from_array(alloc, calls)?)
-}
-
-/// What they are answered.
-fn answers(alloc: Global) -> Result<Vec<Answer>, Fail> {
-    let taken = received(alloc, 1, 1, 5, b"a")?;
-    let answers = [Answer::Id(1), Answer::Sent(1), taken, info(0, 0, 1, 1)];
-    Ok(Vec::from_array(alloc, answers)?)
+    Ok(shown == 4 && is_told(journal, 1, ANSWERS) && is_file_of(alloc, device, written))
 }

@@ -1,6 +1,7 @@
 //! A journal beside plain lists, asked one call at a time, and beside what was typed.
 
-use queue_model::{Answer, Applied, Caller, Entry, System};
+use crate::asks::Told;
+use queue_model::{Applied, Caller, Entry, System};
 use std::alloc::Global;
 
 /// The system after a journal, where each of its answers is that of plain lists which were asked the
@@ -75,11 +76,11 @@ pub fn is_part(journal: &[Entry], seat: u8, list: &[Entry], more: usize) -> bool
 }
 
 /// Whether a seat was told these answers, in their order.
-pub fn is_told(journal: &[Entry], seat: u8, answers: &[Answer]) -> bool {
+pub fn is_told(journal: &[Entry], seat: u8, answers: &[Told]) -> bool {
     let mut told: usize = 0;
     for entry in journal {
         if is_of(entry, seat) {
-            if answer_of(entry) != answers.get(told) {
+            if !has_answer(entry, answers.get(told)) {
                 return false;
             }
             told = told.saturating_add(1);
@@ -96,10 +97,10 @@ fn is_of(entry: &Entry, seat: u8) -> bool {
     }
 }
 
-/// The answer of an entry.
-fn answer_of(entry: &Entry) -> Option<&Answer> {
-    match entry {
-        Entry::Decided { answer, .. } => Some(answer),
-        Entry::Stopped => None,
+/// Whether an entry is that of a call with this answer.
+fn has_answer(entry: &Entry, told: Option<&Told>) -> bool {
+    match (entry, told) {
+        (Entry::Decided { answer, .. }, Some(told)) => told.is(answer),
+        _ => false,
     }
 }

@@ -4,12 +4,12 @@ ghost use Rattle.std.specs.Prelude.{◌≡◌};
 ghost use Rattle.bucket_page.specs.Pseudokeys.{number_key};
 ghost use Rattle.workers.specs.Opening.{origin_of};
 
+use crate::asks::Ask;
 use crate::closing::{End, Left, close, shown};
 use crate::files::SEATS;
 use crate::flag::{Flag, LOOKS};
 use bucket_page::NumberKey;
 use page_device::PageDevice;
-use queue_model::Call;
 use std::alloc::{AllocError, Global};
 use std::marker::Brand;
 use std::sync::Wait;
@@ -20,26 +20,44 @@ use std::time::{Clock, Duration, Instant};
 use workers::{Base, Fault, Gate, Prepared, Room, Seat, Service, Started, Unanswered};
 
 /// What a seat does next.
-#[derive(Drop)]
-pub enum Deed<'a> {
+#[derive(Clone, Copy)]
+pub enum Deed {
     /// It makes a call, and waits for its answer.
-    Call(Call),
-    /// It makes a call, and waits for its answer so long at most.
-    CallWithin(Call, Duration),
-    /// It waits for a flag to come up, but not for ever.
-    Await(&'a Flag),
-    /// It raises a flag.
-    Raise(&'a Flag),
+    Call(Ask),
+    /// It makes a call, and waits for its answer so many microseconds at most.
+    CallWithin(Ask, u64),
+    /// It waits for the flag of this place to come up, but not for ever.
+    Await(usize),
+    /// It raises the flag of this place.
+    Raise(usize),
+}
+
+/// What a seat does in a thread of its own.
+#[derive(Clone, Copy)]
+pub struct Script {
+    /// Its deeds, which it does by turns.
+    pub deeds: &'static [Deed],
+    /// How often it does one.
+    pub many: usize,
+}
+
+impl Script {
+    /// Which of its deeds it does when it has done so many.
+    fn deed(self, done: usize) -> Option<Deed> {
+        self.deeds.get(done.checked_rem(self.deeds.len())?).copied()
+    }
 }
 
 /// What seats do.
-#[derive(Drop)]
+#[derive(Clone, Copy)]
 pub struct Plan<'a> {
-    /// The calls that seat 1 makes before the others begin.
-    pub before: Vec<Call>,
-    /// What each seat does in a thread of its own, from seat 1 on.
-    pub scripts: Vec<Vec<Deed<'a>>>,
-    /// How often, each time once all have done it.
+    /// The calls that seat 1 makes before the others begin, each so often.
+    pub before: &'static [(Ask, u32)],
+    /// What each seat does, from seat 1 on.
+    pub scripts: &'static [Script],
+    /// What they show one another.
+    pub flags: &'a [Flag],
+    /// How often they play, each time once all have done it.
     pub rounds: u32,
     /// How the service ends.
     pub end: End,
@@ -52,6 +70,7 @@ pub type Shared<D, G, N> = Service<D, NumberKey, G, N>;
 #[derive(Drop)]
 pub struct Player<N: Room + Base> {
     pub seat: Seat<N>,
+    alloc: Global,
     pub fault: Option<Fault>,
     /// How many of its calls were taken back, each as it was, once its time was over.
     pub taken_back: u32,
@@ -112,6 +131,7 @@ fn seated<N: Room + Base>(
     for seat in seats {
         players.push(Player {
             seat,
+            alloc,
             fault: None,
             taken_back: 0,
         })?;
@@ -128,33 +148,46 @@ fn play_rounds<
     R: Threads + Wait + Clock + Sync,
 >(rt: &R, service: &Shared<D, G, N>, players: &mut [Player<N>], plan: &Plan<'_>) {
     if let Some(first) = players.first_mut() {
-        for call in &plan.before {
-            first.call(rt, service, call);
-        }
+        first.call_all(rt, service, plan.before);
     }
-    let scripts = plan.scripts.as_slice();
     for _ in 0..plan.rounds {
         thread::for_each_mut(
             rt,
             players,
             SEATS,
-            &|_, player: &mut Player<N>| { player.play(rt, service, scripts) },
+            &|_, player: &mut Player<N>| { player.play(rt, service, plan) },
         );
     }
 }
 
 impl<N: Room + Base> Player<N> {
+    /// It makes calls, each so often.
+    fn call_all<D: PageDevice + Drop, G: Gate, R: Wait>(
+        &mut self,
+        rt: &R,
+        service: &Shared<D, G, N>,
+        calls: &[(Ask, u32)],
+    ) {
+        for (ask, times) in calls {
+            for _ in 0..*times {
+                self.call(rt, service, *ask);
+            }
+        }
+    }
+
     /// It plays the script of its number.
     fn play<D: PageDevice + Drop, G: Gate, R: Wait + Clock>(
         &mut self,
         rt: &R,
         service: &Shared<D, G, N>,
-        scripts: &[Vec<Deed<'_>>],
+        plan: &Plan<'_>,
     ) {
         let place = usize::from(self.seat.number()).saturating_sub(1);
-        if let Some(script) = scripts.get(place) {
-            for deed in script {
-                self.act(rt, service, deed);
+        if let Some(script) = plan.scripts.get(place) {
+            for done in 0..script.many {
+                if let Some(deed) = script.deed(done) {
+                    self.act(rt, service, plan.flags, deed);
+                }
             }
         }
     }
@@ -164,15 +197,22 @@ impl<N: Room + Base> Player<N> {
         &mut self,
         rt: &R,
         service: &Shared<D, G, N>,
-        deed: &Deed<'_>,
+        flags: &[Flag],
+        deed: Deed,
     ) {
         match deed {
-            Deed::Call(call) => self.call(rt, service, call),
-            Deed::CallWithin(call, limit) => self.call_within(rt, service, call, *limit),
-            Deed::Await(flag) => {
-                flag.comes_up(rt, LOOKS);
+            Deed::Call(ask) => self.call(rt, service, ask),
+            Deed::CallWithin(ask, micros) => self.call_within(rt, service, ask, micros),
+            Deed::Await(place) => {
+                if let Some(flag) = flags.get(place) {
+                    flag.comes_up(rt, LOOKS);
+                }
             }
-            Deed::Raise(flag) => flag.raise(),
+            Deed::Raise(place) => {
+                if let Some(flag) = flags.get(place) {
+                    flag.raise();
+                }
+            }
         }
     }
 
@@ -181,10 +221,10 @@ impl<N: Room + Base> Player<N> {
         &mut self,
         rt: &R,
         service: &Shared<D, G, N>,
-        call: &Call,
+        ask: Ask,
     ) {
         if self.fault.is_none() {
-            self.fault = match call.try_copy() {
+            self.fault = match ask.call(self.alloc) {
                 Ok(call) => service.call(rt, &mut self.seat, call).err(),
                 Err(_) => Some(Fault::NoMemory),
             };
@@ -196,21 +236,22 @@ impl<N: Room + Base> Player<N> {
         &mut self,
         rt: &R,
         service: &Shared<D, G, N>,
-        call: &Call,
-        limit: Duration,
+        ask: Ask,
+        micros: u64,
     ) {
         if self.fault.is_some() {
             return;
         }
-        let Ok(copy) = call.try_copy() else {
+        let Ok(call) = ask.call(self.alloc) else {
             self.fault = Some(Fault::NoMemory);
             return;
         };
+        let limit = Duration::from_micros(micros);
         let start = Instant::now(rt).ok();
-        match service.call_within(rt, &mut self.seat, copy, limit) {
+        match service.call_within(rt, &mut self.seat, call, limit) {
             Ok(_) => {}
             Err(Unanswered::TimedOut(back)) => {
-                if back == *call && is_over(rt, start, limit) {
+                if ask.is(self.alloc, &back) && is_over(rt, start, limit) {
                     self.taken_back = self.taken_back.saturating_add(1);
                 }
             }
