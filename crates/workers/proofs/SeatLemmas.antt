@@ -6,8 +6,9 @@ use Rattle.interleaving_core.specs.declared.fault.StepFault.{StepFault}
 use Rattle.interleaving_core.specs.declared.fault.StepFault.TheVariants as faults
 use Rattle.interleaving_core.specs.declared.step.Step.TheVariants as steps
 use Rattle.queue_model.specs.declared.entry.Entry.TheVariants.{Decided}
+use Rattle.step_rules.specs.declared.kind.Kind.{Kind}
 use Rattle.workers.specs.Views.{no_place}
-use Rattle.workers.specs.Told.{HasBegun, IsSameSeat, IsSeated, IsTakenBack, IsTold, IsTurnedAway, IsUnderWay, Rests, Sitter}
+use Rattle.workers.specs.Told.{GoesOn, HasBegun, IsSameSeat, IsSeated, IsTakenBack, IsTold, IsTurnedAway, IsUnderWay, Rests, Sitter}
 use Rattle.workers.specs.Words.{Answer, Call, Entry, Step, answer_told, entry_of}
 use Rattle.workers.specs.Fault.{fault_of_step}
 use Rattle.workers.specs.declared.fault.Fault.{Fault}
@@ -58,6 +59,16 @@ module _ (old x : Sitter) (s : Stays old x) (did : Step) (y : Sitter) (t : IsTol
     over = t.over;
     failed = t.failed;
   }
+
+-- what neither moves nor blocks its call ends it or makes it wait
+pub goes_no_more : (did : Step) → ((kind : Kind) → did ≡ steps.Moved kind → ⊥) →
+    ((seat : ℕ) → did ≡ steps.Blocked seat → ⊥) → GoesOn did → ⊥
+goes_no_more (steps.Moved kind) unmoved free goes = unmoved kind refl
+goes_no_more (steps.Blocked seat) unmoved free goes = free seat refl
+goes_no_more steps.Waiting unmoved free goes = goes
+goes_no_more (steps.Answered answer) unmoved free goes = goes
+goes_no_more steps.Idle unmoved free goes = goes
+goes_no_more (steps.Fault fault) unmoved free goes = goes
 
 -- ---- its call
 

@@ -123,17 +123,12 @@ impl<D: PageDevice + Drop, K: PseudoKey + Drop, N: Room + Base> Held<D, K, N> {
         ensures room { TellsNoRoom N.origin result pass.old.place.call }
     {
         for done in 1..most {
-            match self.step_and_note(gauge, pass, seat) {
-                Step::Moved(kind) => {
-                    if done >= most / 2 && self.is_between_accesses(seat) {
-                        return Step::Moved(kind);
-                    }
-                }
-                Step::Blocked(other) => return Step::Blocked(other),
-                Step::Waiting => return Step::Waiting,
-                Step::Answered(answer) => return Step::Answered(answer),
-                Step::Idle => return Step::Idle,
-                Step::Fault(fault) => return Step::Fault(fault),
+            let did = self.step_and_note(gauge, pass, seat);
+            let Step::Moved(_) = did else {
+                return did;
+            };
+            if done >= most / 2 && self.is_between_accesses(seat) {
+                return did;
             }
         }
         self.step_and_note(gauge, pass, seat)

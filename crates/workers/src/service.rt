@@ -225,17 +225,15 @@ impl<D: PageDevice + Drop, K: PseudoKey + Drop, G: Gate, N: Room + Base> Service
     {
         for _ in rt.forever() {
             let mut held = self.hold(rt);
-            match held.steps(&self.gauge, pass, number, self.gate.steps_at_once()) {
+            let did = held.steps(&self.gauge, pass, number, self.gate.steps_at_once());
+            match did {
                 Step::Moved(kind) => {
                     self.let_go(held);
                     *patience = Patience::new();
                     self.gate.between(number, kind);
                 }
                 Step::Blocked(by) => self.await_lock(rt, held, number, by, patience),
-                Step::Waiting => return (held, Step::Waiting),
-                Step::Answered(answer) => return (held, Step::Answered(answer)),
-                Step::Fault(fault) => return (held, Step::Fault(fault)),
-                Step::Idle => return (held, Step::Idle),
+                _ => return (held, did),
             }
         }
         unreachable!()
