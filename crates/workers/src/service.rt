@@ -89,9 +89,7 @@ impl<D: PageDevice + Drop, K: PseudoKey + Drop, G: Gate, N: Room + Base> Service
                     self.rouse_all(last);
                     return Err(Fault::of_step(fault));
                 }
-                Step::Idle => unreachable!(),
-                Step::Moved(_) => unreachable!(),
-                Step::Blocked(_) => unreachable!(),
+                Step::Idle | Step::Moved(_) | Step::Blocked(_) => unreachable!(),
             }
         }
         unreachable!()
@@ -152,9 +150,7 @@ impl<D: PageDevice + Drop, K: PseudoKey + Drop, G: Gate, N: Room + Base> Service
                     self.rouse_all(last);
                     return Err(Unanswered::Fault(Fault::of_step(fault)));
                 }
-                Step::Idle => unreachable!(),
-                Step::Moved(_) => unreachable!(),
-                Step::Blocked(_) => unreachable!(),
+                Step::Idle | Step::Moved(_) | Step::Blocked(_) => unreachable!(),
             }
         }
         unreachable!()

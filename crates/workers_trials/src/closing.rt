@@ -39,6 +39,14 @@ pub struct Left<D> {
     pub fault: Option<CloseFault>,
 }
 
+/// A service whose threads have ended, its seats, and who may stop it.
+#[derive(Drop)]
+struct Whole<D: PageDevice, G: Gate, N: Room + Base> {
+    service: Shared<D, G, N>,
+    seats: Vec<Seat<N>>,
+    stopper: Stopper<N>,
+}
+
 /// How many calls a pass of no seat is shown.
 pub fn shown<D: PageDevice + Drop, G: Gate, N: Room + Base>(
     service: &Shared<D, G, N>,
@@ -64,8 +72,12 @@ pub fn close<D: PageDevice + Drop, G: Gate + Drop, N: Room + Base>(
     let first = fault_of(players.first());
     let last = fault_of(players.last());
     let taken_back = taken_back(players.as_slice());
-    let seats = seats_of(alloc, players)?;
-    let (ended, fault) = ended(service, seats, stopper, is_well, end)?;
+    let whole = Whole {
+        seats: seats_of(alloc, players)?,
+        service,
+        stopper,
+    };
+    let (ended, fault) = ended(whole, is_well, end)?;
     compare(alloc, &ended, fault, shown)?;
     let Ended {
         device,
@@ -123,24 +135,39 @@ fn seats_of<N: Room + Base>(
 /// Ends a service. Where no seat was told a fault it is first closed with one missing: then service and
 /// seats come back.
 fn ended<D: PageDevice + Drop, G: Gate + Drop, N: Room + Base>(
-    service: Shared<D, G, N>,
-    seats: Vec<Seat<N>>,
-    stopper: Stopper<N>,
+    whole: Whole<D, G, N>,
     is_well: bool,
     end: End,
 ) -> Result<(Ended<D, N>, Option<CloseFault>), Fail> {
-    if !is_well {
-        return finish(service, seats, stopper, end);
+    if is_well {
+        finish(without_one(whole)?, end)
+    } else {
+        finish(whole, end)
     }
-    let mut seats = seats;
-    let Some(last) = seats.pop() else {
+}
+
+/// A service that was closed with one seat missing, and all its seats: they have come back.
+fn without_one<D: PageDevice + Drop, G: Gate + Drop, N: Room + Base>(
+    whole: Whole<D, G, N>,
+) -> Result<Whole<D, G, N>, Fail> {
+    let mut whole = whole;
+    let Some(last) = whole.seats.pop() else {
         return Err(Fail::from("a service has seats"));
     };
+    let Whole {
+        service,
+        seats,
+        stopper,
+    } = whole;
     match service.close(seats, stopper) {
         Ending::Missing(unclosed, back, stopper) => {
             let mut seats = back;
             seats.push(last)?;
-            finish(unclosed.reopen(), seats, stopper, end)
+            Ok(Whole {
+                service: unclosed.reopen(),
+                seats,
+                stopper,
+            })
         }
         _ => Err(Fail::from("it is closed though a seat is missing")),
     }
@@ -148,11 +175,14 @@ fn ended<D: PageDevice + Drop, G: Gate + Drop, N: Room + Base>(
 
 /// Ends a service all of whose seats are there, and tells why it was not closed well.
 fn finish<D: PageDevice + Drop, G: Gate + Drop, N: Room + Base>(
-    service: Shared<D, G, N>,
-    seats: Vec<Seat<N>>,
-    stopper: Stopper<N>,
+    whole: Whole<D, G, N>,
     end: End,
 ) -> Result<(Ended<D, N>, Option<CloseFault>), Fail> {
+    let Whole {
+        service,
+        seats,
+        stopper,
+    } = whole;
     match end {
         End::LetGo => Ok((service.abandon(seats, stopper), None)),
         End::Closed => match service.close(seats, stopper) {
