@@ -90,7 +90,7 @@ impl StepFault {
 }
 
 /// What failed a kernel: the first fault of the file that a step of it met.
-#[derive(Clone, Copy, Debug, PartialEq, Eq, Error)]
+#[derive(Clone, Copy, Debug, Error)]
 #[error("a step of seat {seat}: {fault}")]
 pub struct Failure {
     /// The seat whose step it was; 0 where it was none, but pages that were written or read between

@@ -21,7 +21,7 @@ use crate::active::{decided_by, note_entry};
 use crate::closing::{Closed, NotClosed};
 use crate::counts::SearchCounts;
 use crate::fault::{BeginFault, CloseFault, Failure, OpenFault};
-use crate::opening::{copied, idle_seats, least_frames};
+use crate::opening::{Seating, least_frames};
 use crate::places::{due, failure_of, has_call, told_of_failure};
 use crate::searches::{ends_search, last_page, note, note_move};
 use crate::seat::Seat;
@@ -123,42 +123,28 @@ impl<D: PageDevice + Drop, K: PseudoKey + Drop> Kernel<D, K> {
             × IfErr result (λ refusal. refusal.1 ≡ device_failed →
             HasRisen (D.fault_count device) (D.fault_count refusal.0)) }
     {
-        let seats = callers.len();
-        if frames < least_frames(seats) {
+        if frames < least_frames(callers.len()) {
             return Err((device, OpenFault::TooFewFrames));
         }
         let Checked { device, found } = check(alloc, device, &keys);
         match found {
-            Ok(_) => {}
+            Ok(_system) => {}
             Err(fault) => return Err((device, OpenFault::Wrong(fault))),
         }
-        let Ok(locks) = LockTable::new(alloc, seats as u8) else {
-            return Err((device, OpenFault::NoMemory));
-        };
-        let Ok(callers) = copied(alloc, callers) else {
-            return Err((device, OpenFault::NoMemory));
-        };
-        let Ok(searches) = SearchCounts::new(alloc, seats) else {
-            return Err((device, OpenFault::NoMemory));
-        };
-        let Ok(seats) = idle_seats(alloc, seats) else {
-            return Err((device, OpenFault::NoMemory));
-        };
-        let mut journal = Vec::new(alloc);
-        let Ok(()) = journal.reserve(1) else {
+        let Ok(seating) = Seating::new(alloc, callers) else {
             return Err((device, OpenFault::NoMemory));
         };
         match Pool::open(alloc, device, frames) {
             Ok(pool) => Ok(Kernel {
                 pool,
-                locks,
+                locks: seating.locks,
                 keys,
-                callers,
-                seats,
-                journal,
+                callers: seating.callers,
+                seats: seating.seats,
+                journal: seating.journal,
                 stopped: false,
                 failure: None,
-                searches,
+                searches: seating.searches,
             }),
             Err((device, PoolFault::TooFewFrames)) => Err((device, OpenFault::TooFewFrames)),
             Err((device, _)) => Err((device, OpenFault::NoMemory)),

@@ -1,7 +1,7 @@
 //! What can be done with a file that a command refused. No claim rests on these words.
 
+use crate::complaint::tell;
 use crate::ending::{Ending, Failure, Stage};
-use crate::plain::Plain;
 use directory::OLDER_LAYOUT;
 use numbers::faults;
 use std::fs::{File, OpenOptions};
@@ -59,8 +59,7 @@ where
         }
         Beginning::Unread => return,
     };
-    let file = Plain(file);
-    let _ = writeln!(errors, "msgq: {file}: {advice}");
+    tell(file, advice, errors);
 }
 
 /// What the first bytes of a file say.
@@ -72,10 +71,22 @@ fn read_beginning<R: Files<File = File>>(rt: &R, file: &str) -> Beginning {
     };
     let mut head = [0; 12];
     match opened.read_exact(&mut head) {
-        Ok(()) if !head.ends_with(MAGIC) => Beginning::Foreign,
-        Ok(()) if head[1] == OLDER_LAYOUT.version => Beginning::Older,
-        Ok(()) => Beginning::Other,
-        Err(error) if error.kind() == ErrorKind::UnexpectedEof => Beginning::Foreign,
-        Err(_) => Beginning::Unread,
+        Ok(()) => beginning_of(&head),
+        Err(error) => match error.kind() {
+            ErrorKind::UnexpectedEof => Beginning::Foreign,
+            _ => Beginning::Unread,
+        },
+    }
+}
+
+/// What these bytes at the beginning of a file say.
+fn beginning_of(head: &[u8; 12]) -> Beginning {
+    if !head.ends_with(MAGIC) {
+        return Beginning::Foreign;
+    }
+    if head[1] == OLDER_LAYOUT.version {
+        Beginning::Older
+    } else {
+        Beginning::Other
     }
 }

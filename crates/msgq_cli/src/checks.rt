@@ -9,14 +9,13 @@ ghost use Rattle.msgq_cli.specs.Checks.{IsReportOrFault, found_text};
 ghost use Rattle.msgq_cli.specs.Maps.{IsMapOrFault};
 ghost use Rattle.msgq_cli.specs.Outputs.{Prints};
 
-use crate::complaint::complain_of_fault;
+use crate::complaint::{complain_of_fault, tell};
 use crate::ending::{Ending, Failure, Stage};
 use crate::file_map::{FileMap, read_map};
 use crate::files::open_to_read;
 use crate::fullness::read_fullness;
 use crate::map_json::print_map;
 use crate::output::Output;
-use crate::plain::Plain;
 use crate::progress::{Progress, Shown};
 use crate::refusals::fail;
 use crate::reply::print_fault;
@@ -98,16 +97,9 @@ where
     E: Write + IsTerminal,
     ensures { IsMapOrFault output.old output.new result }
 {
-    let (mut device, found) = match check_file(rt, file, errors) {
-        Ok(checked) => checked,
-        Err(Failure { stage, fault }) => return fail(stage, fault, output),
-    };
-    let map = match map_of(rt.alloc(), &mut device, found) {
+    let map = match map_of(rt, file, errors) {
         Ok(map) => map,
-        Err(fault) => {
-            complain_of_fault(file, what(fault), fault.number(), fault, errors);
-            return fail(Stage::Checking, fault.number(), output);
-        }
+        Err(Failure { stage, fault }) => return fail(stage, fault, output),
     };
     match print_map(rt.alloc(), &map, output) {
         Ok(()) => Ending::Done,
@@ -126,50 +118,92 @@ fn tell_fullness<D: PageDevice, E: Write>(device: &mut D, file: &str, errors: &m
     }
 }
 
+/// Checks a file, and reads its map. Where there is none this is said, and the fault is told.
+fn map_of<R, E>(rt: &R, file: &str, errors: &mut E) -> Result<FileMap, Failure>
+where
+    R: Files<File = File> + AllocGlobal,
+    E: Write + IsTerminal,
+{
+    let (mut device, found) = check_file(rt, file, errors)?;
+    match map_found(rt.alloc(), &mut device, &found) {
+        Ok(map) => Ok(map),
+        Err(fault) => {
+            let number = fault.number();
+            complain_of_fault(file, what(fault), number, fault, errors);
+            Err(Failure {
+                stage: Stage::Checking,
+                fault: number,
+            })
+        }
+    }
+}
+
 /// The map of the file of a device on which a check found this.
-fn map_of<D: PageDevice>(
+fn map_found<D: PageDevice>(
     alloc: Global,
     device: &mut D,
-    found: Result<System, CheckFault>,
+    found: &Result<System, CheckFault>,
 ) -> Result<FileMap, CheckFault> {
-    let system = found?;
-    match read_map(alloc, device, &system) {
+    match found {
+        Ok(system) => map_system(alloc, device, system),
+        Err(fault) => Err(*fault),
+    }
+}
+
+/// The map of the file of a device that holds this system.
+fn map_system<D: PageDevice>(
+    alloc: Global,
+    device: &mut D,
+    system: &System,
+) -> Result<FileMap, CheckFault> {
+    match read_map(alloc, device, system) {
         Ok(map) => Ok(map),
         Err(fault) => Err(CheckFault::Structure(fault)),
     }
 }
 
-/// Opens a file to read it alone, and checks it: its device, and what was found. Where it is not
-/// opened, or was changed while it was checked, this is said, and the fault is told.
-fn check_file<R, E>(
-    rt: &R,
-    file: &str,
-    errors: &mut E,
-) -> Result<(FileDevice<SystemFile<File>>, Result<System, CheckFault>), Failure>
+/// The device of a file, and what was found where it was checked.
+type CheckedFile = (FileDevice<SystemFile<File>>, Result<System, CheckFault>);
+
+/// Opens a file to read it alone, and checks it. Where it is not opened, or was changed while it
+/// was checked, this is said, and the fault is told.
+fn check_file<R, E>(rt: &R, file: &str, errors: &mut E) -> Result<CheckedFile, Failure>
 where
     R: Files<File = File> + AllocGlobal,
     E: Write + IsTerminal,
 {
     warn_of_journal(rt, file, errors);
     let before = trace_of(rt, file);
-    let device = match open_to_read(rt, file, errors) {
-        Ok(device) => device,
-        Err(fault) => {
-            return Err(Failure {
-                stage: Stage::Opening,
-                fault: fault.number(),
-            });
-        }
-    };
-    let (device, found) = check_on(rt.alloc(), device, errors);
-    if found.is_err() && trace_of(rt, file) != before {
+    match open_to_read(rt, file, errors) {
+        Ok(device) => check_opened(rt, file, before, device, errors),
+        Err(fault) => Err(Failure {
+            stage: Stage::Opening,
+            fault: fault.number(),
+        }),
+    }
+}
+
+/// Checks a file that was opened, and had this trace before.
+fn check_opened<R, E>(
+    rt: &R,
+    file: &str,
+    before: Option<Trace>,
+    device: FileDevice<SystemFile<File>>,
+    errors: &mut E,
+) -> Result<CheckedFile, Failure>
+where
+    R: Files<File = File> + AllocGlobal,
+    E: Write + IsTerminal,
+{
+    let checked = check_on(rt.alloc(), device, errors);
+    if checked.1.is_err() && trace_of(rt, file) != before {
         complain_of_fault(file, CANT, faults::DEVICE, CHANGED, errors);
         return Err(Failure {
             stage: Stage::Checking,
             fault: faults::DEVICE,
         });
     }
-    Ok((device, found))
+    Ok(checked)
 }
 
 /// What each change of a file changes: where it stands, its length, and when it was written last.
@@ -182,12 +216,14 @@ struct Trace {
 
 /// The trace of a file now, where the system tells it.
 fn trace_of<R: Files>(rt: &R, file: &str) -> Option<Trace> {
-    let found = fs::metadata(rt, file).ok()?;
-    Some(Trace {
-        inode: found.ino(),
-        bytes: found.len(),
-        written: (found.mtime(), found.mtime_nsec()),
-    })
+    match fs::metadata(rt, file) {
+        Ok(found) => Some(Trace {
+            inode: found.ino(),
+            bytes: found.len(),
+            written: (found.mtime(), found.mtime_nsec()),
+        }),
+        Err(_) => None,
+    }
 }
 
 /// Says what a run that was cut off has left, and what the next one does.
@@ -198,11 +234,13 @@ where
 {
     if let Ok(Some(left)) = look(rt, file) {
         let images = left.images;
-        let file = Plain(file);
-        let _ = writeln!(
+        tell(
+            file,
+            format_args!(
+                "a run was cut off, or is under way; its journal has {images} pages as they were \
+                before, which the next run puts back"
+            ),
             errors,
-            "msgq: {file}: a run was cut off, or is under way; its journal has {images} pages as \
-            they were before, which the next run puts back"
         );
     }
 }

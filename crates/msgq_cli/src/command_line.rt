@@ -9,7 +9,6 @@ use crate::argument_names::{
 use crate::command_table::FILE_COMMANDS;
 use crate::files::STANDARD_INPUT;
 use crate::parser::{program, wrong_use, wrong_word};
-use crate::plain::Plain;
 use crate::reports::{Report, ReportRequest};
 use crate::table::{CommandRow, FileVerb, Verb, command_named};
 use crate::waiting::{WRONG_SECONDS, wait_of};
@@ -120,6 +119,14 @@ pub fn read_command_line<'a>(alloc: Global, words: &'a [String]) -> Result<Task<
     ensures input { IfOk result ReadsInputOnce }
 {
     let matches = program(alloc, &[])?.try_get_matches_from(words)?;
+    read_matches(alloc, &matches)
+}
+
+/// What the words that the parser took ask for.
+fn read_matches<'a>(alloc: Global, matches: &ArgMatches<'a>) -> Result<Task<'a>, Error>
+    ensures pages { IfOk result HasPages }
+    ensures input { IfOk result ReadsInputOnce }
+{
     let Some((name, arguments)) = matches.subcommand() else {
         return Ok(Task::Serve);
     };
@@ -132,7 +139,7 @@ pub fn read_command_line<'a>(alloc: Global, words: &'a [String]) -> Result<Task<
     }
 }
 
-/// What a command asks for. It stands apart, since what was matched is live in the other.
+/// What a command asks for.
 fn read_task<'a>(verb: Verb, arguments: &ArgMatches<'a>) -> Result<Task<'a>, Wrong<'a>>
     ensures pages { IfOk result HasPages }
     ensures input { IfOk result ReadsInputOnce }

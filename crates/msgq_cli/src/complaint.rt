@@ -12,9 +12,9 @@ use numbers::faults;
 use rollback_journal::Refused;
 use schedules::words;
 use std::alloc::{AllocError, Global};
-use std::fmt::Display;
-use std::io;
+use std::fmt::{Display, Formatter};
 use std::io::Write;
+use std::{fmt, io};
 
 /// Of a longer word the beginning is shown.
 const MOST_SHOWN: usize = 64;
@@ -29,10 +29,15 @@ const SESSION_FULL: &str =
 /// What the next run does with a file that is not closed.
 const PUTS_BACK: &str = "it finds the file as before these lines or as after all of them, whole";
 
+/// `msgq: FILE: what`.
+pub(crate) fn tell<E: Write, D: Display + Drop>(file: &str, what: D, errors: &mut E) {
+    let file = Plain(file);
+    let _ = writeln!(errors, "msgq: {file}: {what}");
+}
+
 /// `msgq: FILE: what: why`.
 pub fn complain<E: Write, D: Display + Drop>(file: &str, what: &str, why: D, errors: &mut E) {
-    let file = Plain(file);
-    let _ = writeln!(errors, "msgq: {file}: {what}: {why}");
+    tell(file, format_args!("{what}: {why}"), errors);
 }
 
 /// `msgq: FILE: what (fault N): why`, where `fault N` is printed.
@@ -43,8 +48,7 @@ pub fn complain_of_fault<E: Write, D: Display + Drop>(
     why: D,
     errors: &mut E,
 ) {
-    let file = Plain(file);
-    let _ = writeln!(errors, "msgq: {file}: {what} (fault {fault}): {why}");
+    tell(file, format_args!("{what} (fault {fault}): {why}"), errors);
 }
 
 /// Says of each kind of fault that lines were replied what it is and what can be done: of the first
@@ -84,13 +88,26 @@ fn complain_of_kind<E: Write, D: Display + Drop>(
     let Some(Met { first, more }) = met else {
         return;
     };
-    let file = Plain(file);
-    let _ = write!(errors, "msgq: {file}: line {first} (fault {fault}): {why}");
-    let _ = match more {
-        0 => writeln!(errors),
-        1 => writeln!(errors, "; so one line more"),
-        _ => writeln!(errors, "; so {more} lines more"),
-    };
+    let more = More(more);
+    tell(
+        file,
+        format_args!("line {first} (fault {fault}): {why}{more}"),
+        errors,
+    );
+}
+
+/// How many lines more met a kind of fault.
+#[derive(Clone, Copy)]
+struct More(u64);
+
+impl Display for More {
+    fn fmt<W: fmt::Write>(&self, f: &mut Formatter<W>) -> fmt::Result {
+        match self.0 {
+            0 => Ok(()),
+            1 => f.write_str("; so one line more"),
+            more => write!(f, "; so {more} lines more"),
+        }
+    }
 }
 
 /// Says of a run on a file that ended by a fault that no line met what this was.
@@ -164,12 +181,19 @@ pub(crate) fn complain_of_line<E: Write>(
         Mistake::Word(number, _) => word_at(alloc, line_at(text, line), number),
         _ => Ok(None),
     };
-    let _ = match word {
-        Ok(Some(word)) => print_word(word, errors),
-        Ok(None) => writeln!(errors, "  not understood: {}", what_stands(mistake)),
+    match word {
+        Ok(Some(word)) => {
+            let _ = print_word(word, errors);
+        }
+        Ok(None) => print_part("not understood", what_stands(mistake), errors),
         Err(_) => return,
-    };
-    let _ = writeln!(errors, "  could stand there: {}", could(mistake));
+    }
+    print_part("could stand there", could(mistake), errors);
+}
+
+/// Says a part of what is wrong with a line.
+fn print_part<E: Write>(part: &str, what: &str, errors: &mut E) {
+    let _ = writeln!(errors, "  {part}: {what}");
 }
 
 /// The word of a number of a line, if it has so many; words count from 1.

@@ -5,11 +5,11 @@ ghost use Rattle.page_device.specs.declared.page.TheConstants.{MAX_PAGES};
 ghost use Rattle.directory.specs.declared.layout.TheConstants.{LEAST_PAGES};
 ghost use Rattle.msgq_cli.specs.Refusals.{IsFaultAlone, IsMadeOrFault, Makes};
 
-use crate::complaint::{complain_of, complain_of_fault, why};
+use crate::complaint::{complain_of, complain_of_fault, tell, why};
 use crate::ending::{Ending, Failure, Stage};
+use crate::heard::Refusal;
 use crate::new_files::{CANT_BE_MADE, Unnamed, create_file};
 use crate::output::Output;
-use crate::plain::Plain;
 use crate::progress::{Progress, Shown};
 use crate::refusals::{fail, read_text};
 use crate::reply::print_made;
@@ -76,27 +76,46 @@ where
     requires least { LEAST_PAGES ≤ pages }
     requires most { pages ≤ MAX_PAGES }
 {
-    let alloc = rt.alloc();
-    let file = unnamed.name();
-    let (heard, refusal) = match unnamed.transfers(alloc) {
-        Ok(transfers) => transfers,
+    let ending = match unnamed.transfers(rt.alloc()) {
+        Ok((heard, refusal)) => {
+            let ending = make_pages(rt.alloc(), heard, pages, errors);
+            tell_unmade(unnamed.name(), ending, refusal, errors);
+            ending
+        }
         Err(why) => return Err(unnamed.give_up(rt, why, errors)),
     };
-    let ending = make_pages(alloc, heard, pages, errors);
     if matches!(ending, Ending::Done) {
-        if unnamed.give_name(rt, errors) {
-            return Ok(());
-        }
-        return Err(faults::DEVICE);
-    }
-    match refusal.into_error() {
-        Some(error) => complain_of_fault(file, CANT_BE_MADE, faults::DEVICE, &error, errors),
-        None => complain_of(file, ending, errors),
+        return name_filled(rt, unnamed, errors);
     }
     unnamed.remove(rt, errors);
     match ending {
         Ending::Failed(Failure { stage: _, fault }) => Err(fault),
         _ => Err(faults::DEVICE),
+    }
+}
+
+/// Gives a file that is whole its name.
+fn name_filled<R, E>(rt: &R, unnamed: Unnamed<'_>, errors: &mut E) -> Result<(), u8>
+where
+    R: Files<File = File>,
+    E: Write,
+{
+    if unnamed.give_name(rt, errors) {
+        Ok(())
+    } else {
+        Err(faults::DEVICE)
+    }
+}
+
+/// Says why the pages of a file were not made, if they were not: in the system's words, where it
+/// refused a transfer.
+fn tell_unmade<E: Write>(name: &str, ending: Ending, refusal: Refusal, errors: &mut E) {
+    if matches!(ending, Ending::Done) {
+        return;
+    }
+    match refusal.into_error() {
+        Some(error) => complain_of_fault(name, CANT_BE_MADE, faults::DEVICE, &error, errors),
+        None => complain_of(name, ending, errors),
     }
 }
 
@@ -159,10 +178,10 @@ pub fn leave_unopened<W: Write + Drop, E: Write>(
     let ending = fail(Stage::Opening, fault, output);
     match error {
         OpenError::InUse(holder) => {
-            let file = Plain(file);
-            let _ = writeln!(
+            tell(
+                file,
+                format_args!("it is in use by {holder} (fault {fault}): {WAITS}"),
                 errors,
-                "msgq: {file}: it is in use by {holder} (fault {fault}): {WAITS}"
             );
         }
         _ => complain_of_fault(file, CANT_BE_OPENED, fault, error, errors),
@@ -204,18 +223,27 @@ where
         );
         return Err(DeviceFault::Device);
     }
-    let fault = match FileDevice::open_read_only(rt, file) {
-        Ok(device) => return Ok(device),
-        Err(fault) => fault,
-    };
-    let number = fault.number();
+    match FileDevice::open_read_only(rt, file) {
+        Ok(device) => Ok(device),
+        Err(fault) => {
+            tell_unopened(rt, file, fault.number(), errors);
+            Err(fault)
+        }
+    }
+}
+
+/// Says why a file was not opened.
+fn tell_unopened<R, E>(rt: &R, file: &str, fault: u8, errors: &mut E)
+where
+    R: Files<File = File>,
+    E: Write,
+{
     let mut how = OpenOptions::new();
     how.read(true);
     match how.open(rt, file) {
-        Ok(_) => complain_of_fault(file, CANT_BE_OPENED, number, why(number), errors),
-        Err(error) => complain_of_fault(file, CANT_BE_OPENED, number, &error, errors),
+        Ok(_) => complain_of_fault(file, CANT_BE_OPENED, fault, why(fault), errors),
+        Err(error) => complain_of_fault(file, CANT_BE_OPENED, fault, &error, errors),
     }
-    Err(fault)
 }
 
 /// Whether this is a fifo, a device or a socket. A fifo would wait for a writer.

@@ -1,6 +1,6 @@
 //! How full a file is. No claim rests on these words.
 
-use crate::plain::Plain;
+use crate::complaint::tell;
 use directory::{ROOT_PAGE, read_header};
 use page_device::{PAGE_BYTES, PageDevice, unseal};
 use std::fmt;
@@ -29,11 +29,13 @@ impl Fullness {
             free,
             depth,
         } = self;
-        let file = Plain(file);
-        let _ = writeln!(
+        tell(
+            file,
+            format_args!(
+                "{pages} pages: {ROOT_PAGE} of the header and the directory, {buckets} of records, \
+                {free} free; the directory has depth {depth}"
+            ),
             errors,
-            "msgq: {file}: {pages} pages: {ROOT_PAGE} of the header and the directory, {buckets} of \
-            records, {free} free; the directory has depth {depth}"
         );
     }
 }
@@ -66,18 +68,23 @@ pub(crate) struct NoRoom(pub Option<Fullness>);
 impl Display for NoRoom {
     fn fmt<W: fmt::Write>(&self, f: &mut Formatter<W>) -> fmt::Result {
         f.write_str("there is no room for its records: ")?;
-        match self.0 {
-            Some(Fullness { pages, free: 0, .. }) => {
-                write!(f, "no page is free ({pages} of {pages} are in use): ")?
-            }
-            Some(Fullness { pages, free, .. }) => {
-                write!(
-                    f,
-                    "{free} of {pages} pages are free, and none is of use here: "
-                )?
-            }
-            None => {}
+        if let Some(fullness) = self.0 {
+            fullness.tell_free(f)?;
         }
         f.write_str("take messages out, or go on in a larger file")
+    }
+}
+
+impl Fullness {
+    /// How many pages are free.
+    fn tell_free<W: fmt::Write>(self, f: &mut Formatter<W>) -> fmt::Result {
+        let Fullness { pages, free, .. } = self;
+        if free == 0 {
+            return write!(f, "no page is free ({pages} of {pages} are in use): ");
+        }
+        write!(
+            f,
+            "{free} of {pages} pages are free, and none is of use here: "
+        )
     }
 }

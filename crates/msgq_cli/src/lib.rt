@@ -5,6 +5,7 @@
 
 mod advice;
 pub mod argument_names;
+mod begun_files;
 mod checks;
 mod command;
 mod command_line;
@@ -12,6 +13,7 @@ mod command_table;
 mod complaint;
 mod ending;
 mod file_map;
+mod file_names;
 mod files;
 mod front_table;
 mod fullness;
@@ -36,6 +38,7 @@ mod reports;
 mod script;
 mod spelling;
 mod table;
+mod unmade;
 mod waiting;
 
 pub use advice::advise;
@@ -59,7 +62,7 @@ pub use line::{Line, SeatIds};
 pub use map_json::print_map;
 pub use metrics::{Metric, print_metrics};
 pub use mistake::{Expected, Mistake, Optional};
-pub use new_files::{CANT_BE_MADE, Unmade, Unnamed, create_file};
+pub use new_files::{CANT_BE_MADE, Unnamed, create_file};
 pub use output::Output;
 pub use parser::{program, wrong_word};
 pub use plain::Plain;
@@ -70,4 +73,5 @@ pub use reply::{Reply, print_fault, print_info, print_made};
 pub use reports::{Deed, Report, ReportRequest, print_deed, print_ok, print_system, print_unread};
 pub use script::{Script, ScriptError, read_script};
 pub use table::{CommandRow, FileVerb, Operand, Place, ShellVerb, Verb, command_named};
+pub use unmade::Unmade;
 pub use waiting::{WRONG_SECONDS, wait_of, with_waits};

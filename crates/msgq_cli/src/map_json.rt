@@ -1,10 +1,10 @@
 //! The map of a file as JSON.
 
-ghost use Rattle.std.specs.Prelude.{◌≡◌, ◌∷◌, ◌++◌, [], false, IfOk, OnErr, OnOk, map, string_bytes};
+ghost use Rattle.std.specs.Prelude.{◌≡◌, ◌∷◌, ◌++◌, [], false, IfOk, OnErr, OnOk, codes, map, string_bytes};
 ghost use Rattle.msgq_cli.specs.Maps.{bucket_data, count, map_data, map_text};
 ghost use Rattle.msgq_cli.specs.Outputs.{Prints};
-ghost use Rattle.serde_json.specs.Data.{Data, no_members, object, put as with_member};
-ghost use Rattle.serde_json.specs.View.{members_view, view};
+ghost use Rattle.serde_json.specs.Data.{Data, array, no_members, object, put as with_member};
+ghost use Rattle.serde_json.specs.View.{items_of, members_view, view};
 ghost use Rattle.serde_json.specs.Written.{compact_text, has_float};
 
 use crate::file_map::{FileMap, MappedBucket};
@@ -70,16 +70,42 @@ fn put_map(members: &mut Map<String, Value>, alloc: Global, map: &FileMap) -> Re
     ensures { members_view members.old.entries ≡ no_members →
         OnOk result (object (members_view members.new.entries) ≡ map_data map.now) }
 {
-    let buckets = bucket_objects(alloc, map.buckets.as_slice())?;
-    put(members, alloc, "buckets", Value::Array(buckets))?;
+    put_buckets(members, alloc, map.buckets.as_slice())?;
     put_count(members, alloc, "depth", u64::from(map.depth))?;
-    let entries = numbers_of(alloc, map.entries.as_slice())?;
-    put(members, alloc, "entries", Value::Array(entries))?;
-    let free = numbers_of(alloc, map.free.as_slice())?;
-    put(members, alloc, "free", Value::Array(free))?;
+    put_numbers(members, alloc, "entries", map.entries.as_slice())?;
+    put_numbers(members, alloc, "free", map.free.as_slice())?;
     put_count(members, alloc, "messages", map.messages)?;
     put_count(members, alloc, "pages", u64::from(map.pages))?;
     put_count(members, alloc, "queues", map.queues)
+}
+
+/// Puts the objects of buckets as a member.
+fn put_buckets(
+    members: &mut Map<String, Value>,
+    alloc: Global,
+    buckets: &[MappedBucket],
+) -> Result<(), NoMemory>
+    ensures { OnOk result (members_view members.new.entries ≡ with_member (codes "buckets")
+        (array (items_of (map bucket_data buckets.now))) (members_view members.old.entries)) }
+{
+    let values = bucket_objects(alloc, buckets)?;
+    put(members, alloc, "buckets", Value::Array(values))?;
+    Ok(())
+}
+
+/// Puts a list of numbers as a member.
+fn put_numbers(
+    members: &mut Map<String, Value>,
+    alloc: Global,
+    name: &str,
+    numbers: &[u32],
+) -> Result<(), NoMemory>
+    ensures { OnOk result (members_view members.new.entries ≡ with_member name.now
+        (array (items_of (map count numbers.now))) (members_view members.old.entries)) }
+{
+    let values = numbers_of(alloc, numbers)?;
+    put(members, alloc, name, Value::Array(values))?;
+    Ok(())
 }
 
 /// Puts a number as a member.
@@ -140,7 +166,8 @@ fn numbers_of(alloc: Global, numbers: &[u32]) -> Result<Vec<Value>, NoMemory>
 {
     let mut values = Vec::with_capacity(alloc, numbers.len())?;
     for number in numbers {
-        values.push(Value::from(*number))?;
+        let value = Value::from(*number);
+        values.push(value)?;
     }
     Ok(values)
 }

@@ -1,21 +1,18 @@
 //! A new file has another name, beside its own, until it is whole and on the disk.
 
-use crate::complaint::{complain, complain_of_fault};
+use crate::begun_files::{begin_of, expect_neither, name_beside};
+use crate::complaint::{complain, complain_of_fault, tell};
+use crate::file_names::{expect_none, link, sync_folder_of};
 use crate::heard::{Heard, Refusal};
-use crate::plain::Plain;
+use crate::unmade::Unmade;
 use numbers::faults;
 use page_device::SystemFile;
-use rollback_journal::is_left_behind;
-use std::alloc::{AllocError, Global};
-use std::fs::{File, OpenOptions, Permissions, TryLockError};
-use std::io::{ErrorKind, Write};
+use std::alloc::Global;
+use std::fs::{File, OpenOptions, Permissions};
+use std::io::Write;
 use std::os::unix::fs::{MetadataExt, OpenOptionsExt, PermissionsExt, chown};
 use std::rt::Files;
 use std::{fs, io};
-use thiserror::Error;
-
-/// What the name of a file has more while it is made.
-const SUFFIX: &str = ".unmade";
 
 /// What is said of a file that can't be made.
 pub const CANT_BE_MADE: &str = "it can't be made";
@@ -24,53 +21,6 @@ pub const CANT_BE_MADE: &str = "it can't be made";
 const OWNER_ALONE: u32 = 0o600;
 
 const SHARED: u32 = 0o660;
-
-/// So often a file is begun anew, where others begin one of its name at once.
-const TRIES: u32 = 16;
-
-/// The numbers of the errors by which the system says that a file exists, and that a name leads
-/// nowhere.
-const EXISTS: i32 = 17;
-
-const NOWHERE: i32 = 2;
-
-/// Why a file is not begun.
-#[derive(Debug, Drop, Error)]
-pub enum Unmade {
-    /// The system refused it.
-    #[error(transparent)]
-    Refused(#[from] io::Error),
-    /// Another process makes a file of this name.
-    #[error("another process is making it")]
-    InMaking,
-    /// The file that it is made of has the name under which it is made.
-    #[error("the old file has the name that it has until it is whole: name another")]
-    OfItself,
-    /// The journal of a file of this name was left behind.
-    #[error("the journal of a file of this name is there; where that file is gone for good, remove the \
-        journal")]
-    LeftBehind,
-    /// There is no memory.
-    #[error("out of memory")]
-    NoMemory,
-}
-
-impl From<AllocError> for Unmade {
-    fn from(_: AllocError) -> Unmade {
-        Unmade::NoMemory
-    }
-}
-
-impl Unmade {
-    /// The number that a program prints.
-    pub fn number(&self) -> u8 {
-        match self {
-            Unmade::NoMemory => faults::NO_MEMORY,
-            Unmade::Refused(error) if error.kind() == ErrorKind::OutOfMemory => faults::NO_MEMORY,
-            _ => faults::DEVICE,
-        }
-    }
-}
 
 /// A file that is being made. It is locked, so that no other process takes it for one that a run
 /// which was killed has left.
@@ -147,20 +97,9 @@ impl<'a> Unnamed<'a> {
     where
         R: Files<File = File> + AllocGlobal,
     {
-        let mut beside = String::new(rt.alloc());
-        beside.push_str(name)?;
-        beside.push_str(SUFFIX)?;
-        if let Some(old) = of {
-            if is_same(rt, old, beside.as_str()) {
-                return Err(Unmade::OfItself);
-            }
-        }
-        for _ in 0..TRIES {
-            if let Some(file) = begin_at(rt, beside.as_str(), how)? {
-                return Ok(Unnamed { name, beside, file });
-            }
-        }
-        Err(Unmade::InMaking)
+        let beside = name_beside(rt.alloc(), name)?;
+        let file = begin_of(rt, beside.as_str(), of, how)?;
+        Ok(Unnamed { name, beside, file })
     }
 
     /// Its name.
@@ -182,22 +121,8 @@ impl<'a> Unnamed<'a> {
         R: Files<File = File>,
         E: Write,
     {
-        let beside = self.beside.as_str();
-        let named = match fs::hard_link(rt, beside, self.name) {
-            Ok(()) => {
-                let _ = fs::remove_file(rt, beside);
-                Ok(())
-            }
-            Err(error) if error.kind() == ErrorKind::AlreadyExists => Err(error),
-            // not every system of files has links
-            Err(_) => rename(rt, beside, self.name),
-        };
-        if let Err(error) = named {
-            complain_of_fault(self.name, CANT_BE_MADE, faults::DEVICE, &error, errors);
-            self.remove(rt, errors);
-            return false;
-        }
-        self.keep_name(rt, errors)
+        let named = link(rt, self.beside.as_str(), self.name);
+        self.end(rt, named, errors)
     }
 
     /// Gives the file the owner, the group and the mode of the one that has its name, and takes the
@@ -209,17 +134,31 @@ impl<'a> Unnamed<'a> {
         R: Files<File = File>,
         E: Write,
     {
-        let beside = self.beside.as_str();
-        let taken = match self.resemble(rt) {
-            Ok(()) => fs::rename(rt, beside, self.name),
-            Err(error) => Err(error),
-        };
-        if let Err(error) = taken {
-            complain_of_fault(self.name, CANT_BE_MADE, faults::DEVICE, &error, errors);
-            self.remove(rt, errors);
-            return false;
+        let taken = self.replace(rt);
+        self.end(rt, taken, errors)
+    }
+
+    /// Gives the file what the one that has its name has, and then the name.
+    fn replace<R: Files<File = File>>(&self, rt: &R) -> io::Result<()> {
+        self.resemble(rt)?;
+        fs::rename(rt, self.beside.as_str(), self.name)
+    }
+
+    /// Brings the name of the file to the disk, where it was named. Else it is said why it was not,
+    /// and the file is removed.
+    fn end<R, E>(self, rt: &R, named: io::Result<()>, errors: &mut E) -> bool
+    where
+        R: Files<File = File>,
+        E: Write,
+    {
+        match named {
+            Ok(()) => keep_name(rt, self.name, errors),
+            Err(error) => {
+                complain_of_fault(self.name, CANT_BE_MADE, faults::DEVICE, &error, errors);
+                self.remove(rt, errors);
+                false
+            }
         }
-        self.keep_name(rt, errors)
     }
 
     /// Gives the file the owner, the group and the mode of the one that has its name.
@@ -240,20 +179,6 @@ impl<'a> Unnamed<'a> {
         self.file.set_permissions(Permissions::from_mode(SHARED))
     }
 
-    /// Brings the name of the file to the disk. Where that can't be done it is said.
-    fn keep_name<R, E>(&self, rt: &R, errors: &mut E) -> bool
-    where
-        R: Files<File = File>,
-        E: Write,
-    {
-        if let Err(error) = sync_folder_of(rt, self.name) {
-            let what = "its name can't be kept";
-            complain_of_fault(self.name, what, faults::DEVICE, &error, errors);
-            return false;
-        }
-        true
-    }
-
     /// Says why nothing comes of the file, removes it, and tells the fault.
     pub fn give_up<R, E>(self, rt: &R, why: Unmade, errors: &mut E) -> u8
     where
@@ -269,10 +194,7 @@ impl<'a> Unnamed<'a> {
     /// Removes the file, of which nothing came.
     pub fn remove<R: Files, E: Write>(self, rt: &R, errors: &mut E) {
         match rt.remove_file(self.beside.as_str()) {
-            Ok(()) => {
-                let file = Plain(self.name);
-                let _ = writeln!(errors, "msgq: {file}: what was made of it is removed");
-            }
+            Ok(()) => tell(self.name, "what was made of it is removed", errors),
             Err(error) => {
                 let what = "what was made of it can't be removed";
                 complain(self.beside.as_str(), what, &error, errors)
@@ -281,103 +203,18 @@ impl<'a> Unnamed<'a> {
     }
 }
 
-/// Refuses a name that something has, and the empty one, which nothing can have.
-fn expect_none<R: Files>(rt: &R, name: &str) -> io::Result<()> {
-    if name.is_empty() {
-        return Err(io::Error::from_raw_os_error(NOWHERE));
-    }
-    match fs::symlink_metadata(rt, name) {
-        Ok(_) => Err(io::Error::from_raw_os_error(EXISTS)),
-        Err(error) if error.kind() == ErrorKind::NotFound => Ok(()),
-        Err(error) => Err(error),
-    }
-}
-
-/// Whether two names are of one file.
-fn is_same<R: Files>(rt: &R, one: &str, other: &str) -> bool {
-    match (fs::metadata(rt, one), fs::metadata(rt, other)) {
-        (Ok(one), Ok(other)) => one.ino() == other.ino() && one.dev() == other.dev(),
-        _ => false,
-    }
-}
-
-/// Refuses a name that something has, or the journal of a file of this name.
-fn expect_neither<R>(rt: &R, name: &str) -> Result<(), Unmade>
-where
-    R: Files<File = File> + AllocGlobal,
-{
-    expect_none(rt, name)?;
-    match is_left_behind(rt, name) {
-        Ok(true) => Err(Unmade::LeftBehind),
-        Err(error) if error.kind() == ErrorKind::OutOfMemory => Err(error.into()),
-        _ => Ok(()),
-    }
-}
-
-/// Makes a file by this name and locks it. None where it has lost the name, or where something was
-/// there: what a process that was killed has left is removed.
-fn begin_at<R>(rt: &R, name: &str, how: &OpenOptions) -> Result<Option<File>, Unmade>
+/// Brings the name of a file to the disk. Where that can't be done it is said.
+fn keep_name<R, E>(rt: &R, name: &str, errors: &mut E) -> bool
 where
     R: Files<File = File>,
+    E: Write,
 {
-    let file = match how.open(rt, name) {
-        Ok(file) => file,
-        Err(error) if error.kind() == ErrorKind::AlreadyExists => {
-            remove_left(rt, name)?;
-            return Ok(None);
+    match sync_folder_of(rt, name) {
+        Ok(()) => true,
+        Err(error) => {
+            let what = "its name can't be kept";
+            complain_of_fault(name, what, faults::DEVICE, &error, errors);
+            false
         }
-        Err(error) => return Err(error.into()),
-    };
-    let has_name = lock(rt, name, &file)?;
-    Ok(if has_name { Some(file) } else { None })
-}
-
-/// Locks a file, and tells whether it still has its name. Where another process has it locked, that
-/// one makes it, or is about to remove it.
-fn lock<R: Files>(rt: &R, name: &str, file: &File) -> Result<bool, Unmade> {
-    match file.try_lock() {
-        Ok(()) => {}
-        Err(TryLockError::WouldBlock) => return Err(Unmade::InMaking),
-        Err(TryLockError::Error(error)) => return Err(error.into()),
     }
-    let here = match fs::symlink_metadata(rt, name) {
-        Ok(here) => here,
-        Err(error) if error.kind() == ErrorKind::NotFound => return Ok(false),
-        Err(error) => return Err(error.into()),
-    };
-    let locked = file.metadata()?;
-    Ok(here.ino() == locked.ino() && here.dev() == locked.dev())
-}
-
-/// Removes what a process that was killed has left by this name, if it is still there.
-fn remove_left<R: Files<File = File>>(rt: &R, name: &str) -> Result<(), Unmade> {
-    let mut how = OpenOptions::new();
-    how.read(true).write(true);
-    let left = match how.open(rt, name) {
-        Ok(left) => left,
-        Err(error) if error.kind() == ErrorKind::NotFound => return Ok(()),
-        Err(error) => return Err(error.into()),
-    };
-    if lock(rt, name, &left)? {
-        fs::remove_file(rt, name)?;
-    }
-    Ok(())
-}
-
-/// Gives a file another name, where nothing has it.
-fn rename<R: Files>(rt: &R, from: &str, to: &str) -> io::Result<()> {
-    expect_none(rt, to)?;
-    fs::rename(rt, from, to)
-}
-
-/// Brings the names of the folder of a file to where they outlast a crash.
-fn sync_folder_of<R: Files<File = File>>(rt: &R, file: &str) -> io::Result<()> {
-    let folder = match file.rfind('/') {
-        Some(0) => "/",
-        Some(end) => &file[..end],
-        None => ".",
-    };
-    let mut how = OpenOptions::new();
-    how.read(true);
-    how.open(rt, folder)?.sync_all()
 }

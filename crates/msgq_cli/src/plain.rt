@@ -11,11 +11,16 @@ pub struct Plain<'a>(pub &'a str);
 impl Display for Plain<'_> {
     fn fmt<W: fmt::Write>(&self, f: &mut Formatter<W>) -> fmt::Result {
         for char in self.0.chars() {
-            match char {
-                '\'' | '"' | '\\' => f.write_char(char)?,
-                _ => write!(f, "{}", char.escape_debug())?,
-            }
+            show(char, f)?;
         }
         Ok(())
+    }
+}
+
+/// Shows a character: a quote and a backslash as they are.
+fn show<W: fmt::Write>(char: char, f: &mut Formatter<W>) -> fmt::Result {
+    match char {
+        '\'' | '"' | '\\' => f.write_char(char),
+        _ => write!(f, "{}", char.escape_debug()),
     }
 }

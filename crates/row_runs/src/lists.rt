@@ -36,7 +36,10 @@ impl Lists {
 
     /// Another user sits at a seat.
     pub fn seat(&mut self, seat: u8, uid: u32, gid: u32) {
-        if let Some(caller) = self.callers.get_mut(usize::from(seat).saturating_sub(1)) {
+        let Some(place) = usize::from(seat).checked_sub(1) else {
+            return;
+        };
+        if let Some(caller) = self.callers.get_mut(place) {
             caller.uid = uid;
             caller.gid = gid;
         }

@@ -4,4 +4,4 @@ use Rattle.msgq_cli.proofs.checks.map_file.Goals as goal
 
 pub returns-in-Ok-print_map : goal.returns-in-Ok-print_map
 returns-in-Ok-print_map g c =
-    inl (record { map = c.in-Ok-map_of.map; prints = c.in-Ok-print_map.ensures.ok; ends = refl })
+    inl (record { map = c.in-Ok.map; prints = c.in-Ok-print_map.ensures.ok; ends = refl })

@@ -1,7 +1,6 @@
 -- Nobody has a call, or a lock.
-use Rattle.std.proofs.Common.{◌≡◌, ◌∙◌, refl, sym, ap, subst, ◌≤◌, length, vec_capacity, arith}
+use Rattle.std.proofs.Common.{◌≡◌, ◌∙◌, refl, sym, ap, subst, ◌≤◌, length, arith}
 use Rattle.std.proofs.lemmas.Bool.Decides.{nat_tests}
-use Rattle.std.proofs.lemmas.Grind.{common_steps}
 use Rattle.buffer_pool.specs.Pool.{PoolState, opened}
 use Rattle.interleaving_core.specs.Kernel.{AreFittingCallers}
 use Rattle.interleaving_core.proofs.BeginLemmas.{opened_whole}
@@ -13,12 +12,10 @@ invariant_of-result g c =
     ap (λ (s : PoolState). s.frames) c.in-Ok-open.ensures.ok in
     let least : c.least_frames.result ≤ c.args.frames = grind (arith, nat_tests) in
     let needs = c.least_frames.ensures in
-    let memory : 1 ≤ vec_capacity c.reserve.new.self = grind (arith, common_steps) in
+    let made = c.in-Ok-new.ensures in
     opened_whole (length c.args.callers.now) _
     (record { rest = c.in-Ok-open.ensures.rest; frames = omega (arith, frames, least, needs) })
-    c.in-Ok-new.ensures c.in-Ok-idle_seats.ensures (ap length c.in-Ok-copied.ensures.same)
-    c.in-Ok-copied.ensures.fitting (c.in-Ok-reserve.ensures.items ∙ c.new-journal.ensures.items) refl memory refl
-    c.in-Ok-new-2.ensures
+    made.locks made.seats (ap length made.callers) made.fitting made.journal.0 refl made.journal.1 refl made.searches
 
 -- the check has changed no page
 pub returns-in-Ok-open-clause-ok : goal.returns-in-Ok-open-clause-ok
@@ -30,13 +27,13 @@ returns-in-Ok-open-clause-ok g c =
     record {
       keys = refl;
       pool = made ∙ (λ j. opened c.args.frames (checked.same j) (checked.honest j) (synced j) (faults j));
-      locks = c.in-Ok-new.ensures;
-      callers = c.in-Ok-copied.ensures.same;
-      fitting = subst AreFittingCallers c.in-Ok-copied.ensures.same c.in-Ok-copied.ensures.fitting;
-      seats = c.in-Ok-idle_seats.ensures;
-      journal = c.in-Ok-reserve.ensures.items ∙ c.new-journal.ensures.items;
+      locks = c.in-Ok-new.ensures.locks;
+      callers = c.in-Ok-new.ensures.callers;
+      fitting = subst AreFittingCallers c.in-Ok-new.ensures.callers c.in-Ok-new.ensures.fitting;
+      seats = c.in-Ok-new.ensures.seats;
+      journal = c.in-Ok-new.ensures.journal.0;
       stopped = refl;
       failed = refl;
       failure = refl;
-      searches = c.in-Ok-new-2.ensures;
+      searches = c.in-Ok-new.ensures.searches;
     }
