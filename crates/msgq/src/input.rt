@@ -61,24 +61,33 @@ where
     requires pages { CanBeMade made }
 {
     for _ in 0..MOST_NAPS {
-        match fs::metadata(rt, file) {
-            Err(error) if error.kind() == ErrorKind::NotFound => {}
-            // what else is wrong with it is told where it is opened
-            _ => return true,
+        if !is_missing(rt, file) {
+            // what is wrong with it is told where it is opened
+            return true;
         }
-        match Unnamed::begin(rt, file, None) {
+        let why = match Unnamed::begin(rt, file, None) {
             Ok(unnamed) => return share_and_fill(rt, unnamed, made, errors),
-            Err(Unmade::Refused(error)) if error.kind() == ErrorKind::AlreadyExists => {
-                return true;
-            }
-            Err(Unmade::InMaking) => thread::sleep(rt, Duration::from_millis(NAP)),
-            Err(why) => {
-                complain_of_fault(file, CANT_BE_MADE, why.number(), why, errors);
-                return false;
-            }
+            Err(why) => why,
+        };
+        match &why {
+            Unmade::InMaking => thread::sleep(rt, Duration::from_millis(NAP)),
+            Unmade::Refused(error) if error.kind() == ErrorKind::AlreadyExists => return true,
+            _ => return tell_unmade(file, &why, errors),
         }
     }
-    let why = Unmade::InMaking;
+    tell_unmade(file, &Unmade::InMaking, errors)
+}
+
+/// Whether there is no FILE.
+fn is_missing(rt: &HostRuntime, file: &str) -> bool {
+    match fs::metadata(rt, file) {
+        Ok(_) => false,
+        Err(error) => error.kind() == ErrorKind::NotFound,
+    }
+}
+
+/// Says why FILE can't be made; it is not.
+fn tell_unmade<E: Write>(file: &str, why: &Unmade, errors: &mut E) -> bool {
     complain_of_fault(file, CANT_BE_MADE, why.number(), why, errors);
     false
 }

@@ -3,28 +3,31 @@
 
 #![tactic(auto)]
 
+ghost use Rattle.msgq_cli.specs.Tasks.{HasPages};
+
 mod answered;
 mod crew;
 mod fixed;
 mod input;
+mod looking;
 mod own_ids;
 mod runs;
 mod scripts;
 mod shell;
 mod stack;
 mod trouble;
+mod waiting;
 
 use answered::{Progress, Watched};
 use clap::Error;
-use clap::error::ErrorKind;
 use command_runs::read_command;
 use fixed::fixed;
-use msgq_cli::{Output, print_fault, read_command_line, with_waits};
+use msgq_cli::{Output, Task, print_fault, read_command_line, with_waits};
 use numbers::faults;
 use shell::shell;
 use stack::has_stack;
 use std::fs::{File, OpenOptions};
-use std::io::{BufWriter, Eprint, IsTerminal, Write};
+use std::io::{BufWriter, Eprint, ErrorKind, IsTerminal, Write};
 use std::os::fd::{AsRawFd, RawFd};
 use std::os::unix::fs::FileTypeExt;
 use std::process::ExitCode;
@@ -48,29 +51,46 @@ fn act<R>(rt: &HostRuntime, threads: &R) -> ExitCode
 where
     R: Files<File = File> + AllocGlobal + Input + Clock + Eprint + Threads + Wait + Sync,
 {
-    let alloc = rt.alloc();
     let _input = hold(rt, 0);
     let _output = hold(rt, 1);
     let _errors = hold(rt, 2);
-    let words = match words(rt) {
-        Ok(words) => words,
-        Err(error) if error.kind() == io::ErrorKind::OutOfMemory => return without_memory(rt),
-        Err(_) => {
-            let _ = writeln!(rt.stderr(), "msgq: a word of the command line is not UTF-8");
-            return ExitCode::from(2);
-        }
-    };
-    match read_command(alloc, words.as_slice()) {
-        Ok(Some(task)) => return ExitCode::from(shell(rt, &task).number()),
-        Ok(None) => {}
-        Err(error) => return tell(rt, error),
+    match words(rt) {
+        Ok(words) => obey(rt, threads, words.as_slice()),
+        Err(error) => without_words(rt, error.kind()),
     }
-    let task = match read_command_line(alloc, words.as_slice()) {
-        Ok(task) => task,
-        Err(error) => return tell(rt, error),
-    };
+}
+
+/// Does what these words ask for.
+fn obey<R>(rt: &HostRuntime, threads: &R, words: &[String]) -> ExitCode
+where
+    R: Files<File = File> + AllocGlobal + Input + Clock + Eprint + Threads + Wait + Sync,
+{
+    match read_command(rt.alloc(), words) {
+        Ok(Some(task)) => ExitCode::from(shell(rt, &task).number()),
+        Ok(None) => obey_fixed(rt, threads, words),
+        Err(error) => tell(rt, error),
+    }
+}
+
+/// The same of words that are no command of a shell.
+fn obey_fixed<R>(rt: &HostRuntime, threads: &R, words: &[String]) -> ExitCode
+where
+    R: Files<File = File> + AllocGlobal + Input + Clock + Eprint + Threads + Wait + Sync,
+{
+    match read_command_line(rt.alloc(), words) {
+        Ok(task) => print_fixed(rt, threads, task),
+        Err(error) => tell(rt, error),
+    }
+}
+
+/// Does a fixed command, and prints what comes of it on standard output.
+fn print_fixed<R>(rt: &HostRuntime, threads: &R, task: Task<'_>) -> ExitCode
+where
+    R: Files<File = File> + AllocGlobal + Input + Clock + Eprint + Threads + Wait + Sync,
+    requires pages { HasPages task }
+{
     let progress = Progress::new(threads, rt.stderr().is_terminal() && is_kept(rt));
-    let Ok(writer) = BufWriter::new(alloc, Watched::new(io::writer(rt), &progress)) else {
+    let Ok(writer) = BufWriter::new(rt.alloc(), Watched::new(io::writer(rt), &progress)) else {
         return without_memory(rt);
     };
     let mut output = Output::new(writer);
@@ -110,10 +130,19 @@ fn words(rt: &HostRuntime) -> io::Result<Vec<String>> {
     Ok(with_waits(rt.alloc(), words)?)
 }
 
+/// Ends where the words of the command line can't be read.
+fn without_words(rt: &HostRuntime, why: ErrorKind) -> ExitCode {
+    if why == ErrorKind::OutOfMemory {
+        return without_memory(rt);
+    }
+    let _ = writeln!(rt.stderr(), "msgq: a word of the command line is not UTF-8");
+    ExitCode::from(2)
+}
+
 /// Shows help or the version, or says what is wrong with the command line, or that there was no
 /// memory to read it.
 fn tell(rt: &HostRuntime, text: Error) -> ExitCode {
-    if text.kind() == ErrorKind::OutOfMemory {
+    if text.kind() == clap::error::ErrorKind::OutOfMemory {
         return without_memory(rt);
     }
     if !text.use_stderr() {

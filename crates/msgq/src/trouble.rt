@@ -8,7 +8,7 @@ use msgq_cli::{
 use numbers::faults;
 use page_device::FileDevice;
 use queue_commands::{Command, ExitStatus, QueueName, Sending};
-use queue_model::{Caller, Errno, MAX_MESSAGES, MAX_QBYTES};
+use queue_model::{Caller, Errno, MAX_MESSAGES, MAX_QBYTES, QueueInfo};
 use rollback_journal::{OpenError, Refused};
 use std::io;
 use std::io::{ErrorKind, Write};
@@ -104,11 +104,8 @@ impl Trouble {
                     &mut errors,
                 );
             }
-            Trouble::Undone(CommandError::Refused(errno), _) => {
-                tell_refusal(rt, errand, errno, command, &mut errors);
-            }
             Trouble::Undone(error, refused) => {
-                tell_undone(rt, errand.file, error, refused, command, &mut errors);
+                tell_undone(rt, errand, &error, refused, command, &mut errors);
             }
         }
         status
@@ -126,16 +123,35 @@ fn tell_unwritten<E: Write>(file: &str, command: Option<&Command>, errors: &mut 
     let _ = writeln!(errors, "msgq: {file}: {what}; nothing else is lost");
 }
 
-/// What is said where no refusal of a call is why a command is not done.
+/// What is said where a command is not done on FILE.
 fn tell_undone<E: Write>(
     rt: &HostRuntime,
-    file: &str,
-    error: CommandError,
+    errand: Errand<'_>,
+    error: &CommandError,
     refused: Option<Refused>,
     command: Option<&Command>,
     errors: &mut E,
 ) {
-    if let CommandError::Unclosed(fault) = &error {
+    match error {
+        CommandError::Refused(errno) => tell_refusal(rt, errand, *errno, command, errors),
+        CommandError::Unopened(fault) => {
+            let ending = ending_of(*fault);
+            complain_of_refused(errand.file, ending, refused, errors);
+            advise(rt, errand.file, ending, errors);
+        }
+        _ => tell_failed(errand.file, error, refused.as_ref(), command, errors),
+    }
+}
+
+/// What is said where FILE is opened, and no refusal of a call is why a command is not done.
+fn tell_failed<E: Write>(
+    file: &str,
+    error: &CommandError,
+    refused: Option<&Refused>,
+    command: Option<&Command>,
+    errors: &mut E,
+) {
+    if let CommandError::Unclosed(fault) = error {
         let what = "it can't be closed";
         match refused {
             Some(refused) => complain_of_fault(file, what, fault.number(), refused, errors),
@@ -144,34 +160,30 @@ fn tell_undone<E: Write>(
         tell_unwritten(file, command, errors);
         return;
     }
-    if let Some(ending) = ending_of(&error) {
-        complain_of_refused(file, ending, refused, errors);
-        advise(rt, file, ending, errors);
-        return;
-    }
     if let Some(refused) = refused {
         complain(file, "a transfer failed", refused, errors);
     }
-    match &error {
+    match error {
         CommandError::Unprinted(why) => {
             let file = Plain(file);
             let _ = writeln!(errors, "msgq: standard output: {why}; {file} is unchanged");
         }
         _ => {
             let fault = error.number().unwrap_or(faults::FAILED);
-            complain_of_fault(file, "nothing is done", fault, &error, errors);
+            complain_of_fault(file, "nothing is done", fault, error, errors);
         }
     }
 }
 
-/// How a run on a file would have ended that is not opened, or not closed, for this.
-fn ending_of(error: &CommandError) -> Option<Ending> {
-    let (stage, fault) = match error {
-        CommandError::Unopened(OpenFault::Wrong(fault)) => return Some(Ending::Unopened(*fault)),
-        CommandError::Unopened(fault) => (Stage::Opening, fault.number()),
-        _ => return None,
-    };
-    Some(Ending::Failed(Failure { stage, fault }))
+/// How a run on a file would have ended that is not opened for this.
+fn ending_of(fault: OpenFault) -> Ending {
+    match fault {
+        OpenFault::Wrong(fault) => Ending::Unopened(fault),
+        fault => Ending::Failed(Failure {
+            stage: Stage::Opening,
+            fault: fault.number(),
+        }),
+    }
 }
 
 /// `msgq: FILE: queue N: NAME: why`.
@@ -201,10 +213,7 @@ fn tell_room<E: Write>(rt: &HostRuntime, errand: Errand<'_>, errors: &mut E) {
     let Some(queue) = errand.queue else {
         return;
     };
-    let Ok(device) = FileDevice::open_read_only(rt, errand.file) else {
-        return;
-    };
-    let Some(info) = info_on(rt.alloc(), device, queue) else {
+    let Some(info) = info_of(rt, errand.file, queue) else {
         return;
     };
     let file = Plain(errand.file);
@@ -225,6 +234,12 @@ fn tell_room<E: Write>(rt: &HostRuntime, errand: Errand<'_>, errors: &mut E) {
     } else {
         write!(errors, ", as many as a queue may have")
     };
+}
+
+/// What Stat tells of a queue of FILE, where FILE can be read.
+fn info_of(rt: &HostRuntime, file: &str, queue: QueueName) -> Option<QueueInfo> {
+    let device = FileDevice::open_read_only(rt, file).ok()?;
+    info_on(rt.alloc(), device, queue)
 }
 
 /// What a refusal says to who asked from a shell (docs/QUEUES.md, "Calls").

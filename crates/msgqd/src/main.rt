@@ -49,6 +49,7 @@ fn obey(rt: &HostRuntime, words: &[String]) -> ExitCode {
     match read_command_line(words) {
         Ok(task) => run(rt, &task),
         Err(why) => {
+            let why = why.text();
             let _ = writeln!(rt.stderr(), "msgqd: {why}\n{USAGE}");
             ExitCode::from(2)
         }

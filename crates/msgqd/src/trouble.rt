@@ -7,6 +7,15 @@ use serving::{Unheard, Unopened, Unreleased};
 use std::io;
 use thiserror::Error;
 
+/// The clock is not read.
+pub const CLOCK: &str = "the clock can't be read";
+
+/// Standard input is not read.
+pub const INPUT: &str = "standard input can't be read";
+
+/// Standard output is not written.
+pub const OUTPUT: &str = "standard output can't be written";
+
 /// Why the program ends before the relay says so.
 #[derive(Debug, Drop, Error)]
 pub enum Trouble {
@@ -28,28 +37,16 @@ pub enum Trouble {
     /// A record was not heard.
     #[error("{0}")]
     Unheard(Unheard),
-    /// The clock can't be read.
-    #[error("the clock can't be read: {0}")]
-    Clock(io::Error),
-    /// Standard input can't be read.
-    #[error("standard input can't be read: {0}")]
-    Input(io::Error),
-    /// Standard output can't be written.
-    #[error("standard output can't be written: {0}")]
-    Output(io::Error),
-}
-
-impl From<Unheard> for Trouble {
-    fn from(why: Unheard) -> Trouble {
-        Trouble::Unheard(why)
-    }
+    /// The system refused this, which is not of the file.
+    #[error("{0}: {1}")]
+    System(&'static str, io::Error),
 }
 
 impl From<Unreleased> for Trouble {
     fn from(why: Unreleased) -> Trouble {
         match why {
             Unreleased::Uncommitted(why) => Trouble::Uncommitted(why),
-            Unreleased::Refused(error) => Trouble::Output(error),
+            Unreleased::Refused(error) => Trouble::System(OUTPUT, error),
             Unreleased::NoMemory => Trouble::NoMemory,
         }
     }

@@ -3,7 +3,7 @@ use Rattle.std.proofs.Common.{◌≡◌, ℕ, Bool, true, false, Option, Some, N
 use Rattle.std.specs.List.{find}
 use Rattle.numbers.specs.declared.limits.TheConstants.{END_OF_IDS, MAX_BODY, MAX_QBYTES, MAX_QUEUES}
 use Rattle.queue_model.specs.declared.answer.Answer.TheVariants as answers
-use Rattle.queue_commands.proofs.ModelWords.{lacks_access, is_owner, with_settings, Outcome, outcome, refuse, on_found, on_queue, has_id, has_key, get_found, get_by, create, lacks_room, send_to, receive_found, receive_from, set_to, raises, with_queue, selected, is_too_long, State, Answer, Send, Receive, Set, GetArguments, SendArguments, ReceiveArguments, SetArguments, Caller, EACCES, EEXIST, EIDRM, EINVAL, ENOENT, ENOSPC, EPERM, E2BIG, Read, Write, Message, Queue}
+use Rattle.queue_commands.proofs.ModelWords.{lacks_access, is_owner, with_settings, Outcome, outcome, refuse, on_found, on_queue, has_id, has_key, get_found, get_by, create, lacks_room, send_to, receive_found, receive_from, set_to, raises, with_queue, selected, is_too_long, State, Answer, Send, Receive, Set, GetArguments, SendArguments, ReceiveArguments, SetArguments, Caller, EACCES, EEXIST, EIDRM, EINVAL, ENOENT, ENOSPC, EPERM, E2BIG, Read, Write, Message, Queue, Get, Stat, Remove, stat_of, info_of, remove_from, without_queue}
 
 -- ---- kinds of answers
 
@@ -66,6 +66,9 @@ got_by : (key : Option ℕ) (c : Caller) (a : GetArguments) (s : State) → Give
 got_by None c a s = created c a s
 got_by (Some key) c a s = got (find (has_key key) s.queues) c a s
 
+pub a_get_gives : (c : Caller) (a : GetArguments) (s : State) → Gives is_id (outcome c (Get a) s)
+a_get_gives c a s = got_by a.key c a s
+
 sent : (c : Caller) (a : SendArguments) (s : State) (q : Queue) → a.nowait ≡ true → Gives is_serial (send_to c a s q)
 sent c a s q nowait = either is_serial (lacks_access Write c q.permissions) (refuse EACCES s) _ refl
     (either is_serial (lacks_room (length a.body) q) _ _ (rw nowait refl) refl)
@@ -99,6 +102,16 @@ a_set_gives c a s =
     (λ q. either is_done (not (is_owner c q.permissions)) (refuse EPERM s) _ refl
     (either is_done (raises c a.qbytes q) (refuse EPERM s) (Some (answers.Done, with_queue a.id (with_settings a q) s))
     refl refl)))
+
+pub a_stat_gives : (c : Caller) (id : ℕ) (s : State) → Gives is_info (outcome c (Stat id) s)
+a_stat_gives c id s = on is_info id s (stat_of c s) refl refl
+    (λ q. either is_info (lacks_access Read c q.permissions) (refuse EACCES s) (Some (answers.Info (info_of q), s))
+    refl refl)
+
+pub a_remove_gives : (c : Caller) (id : ℕ) (s : State) → Gives is_done (outcome c (Remove id) s)
+a_remove_gives c id s = on is_done id s (remove_from c id s) refl refl
+    (λ q. either is_done (not (is_owner c q.permissions)) (refuse EPERM s)
+    (Some (answers.Done, without_queue id s)) refl refl)
 
 -- an outcome that is there does not wait
 pub never_waits : (kind : Answer → Bool) (o : Outcome) → Gives kind o → o ≡ None → ⊥

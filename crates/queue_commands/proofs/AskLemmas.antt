@@ -1,23 +1,25 @@
 -- What the answer of a call comes to, and what comes of two things asked one after the other.
-use Rattle.std.proofs.Common.{◌≡◌, ◌≢◌, ℕ, ℤ, Bool, true, false, inl, inr, Option, Some, None, Result, Ok, Err, refl, ◌∙◌, ap, subst, List, []}
+use Rattle.std.proofs.Common.{◌≡◌, ◌≢◌, ℕ, ℤ, Bool, true, false, inl, inr, Option, Some, None, Result, Ok, Err, refl, ap, subst, List}
 use Rattle.queue_model.specs.Rules.{outcome}
 use Rattle.queue_model.specs.State.{State}
 use Rattle.queue_model.specs.declared.answer.Answer.{Answer}
 use Rattle.queue_model.specs.declared.answer.Answer.TheVariants as answers
 use Rattle.queue_model.specs.declared.call.Call.{Call}
+use Rattle.queue_model.specs.declared.call.Call.TheVariants.{Get, Stat, Remove}
+use Rattle.queue_model.specs.declared.call.GetArguments.{GetArguments}
 use Rattle.queue_model.specs.declared.caller.Caller.{Caller}
 use Rattle.queue_model.specs.declared.errno.Errno.{Errno}
 use Rattle.queue_model.specs.declared.message.Message.{Message}
 use Rattle.queue_commands.specs.Asking.{Asking, IsAnswered, IsAsked, Refuses, Then, Unless}
 use Rattle.queue_commands.specs.Finding.{IsDone, set_call}
-use Rattle.queue_commands.specs.Coming.{Comes, done_in, message_in, serial_in}
+use Rattle.queue_commands.specs.Coming.{Comes, done_in, id_in, info_in, message_in, serial_in}
 use Rattle.queue_commands.specs.Receiving.{IsTheOne, ShowsTheOne, TakesAs, receive_call}
 use Rattle.queue_commands.specs.Sending.{SendsOneAs, send_call}
 use Rattle.queue_commands.specs.declared.error.AskError.{AskError}
 use Rattle.queue_commands.specs.declared.error.AskError.TheVariants as errors
 use Rattle.queue_commands.specs.declared.request.Receiving.{Receiving}
 use Rattle.queue_commands.specs.declared.request.Settings.{Settings}
-use Rattle.queue_commands.proofs.AnswerLemmas.{Gives, a_receive_gives, a_send_gives, a_set_gives, is_done, is_message, is_of_kind, is_serial, never_waits}
+use Rattle.queue_commands.proofs.AnswerLemmas.{Gives, a_get_gives, a_receive_gives, a_remove_gives, a_send_gives, a_set_gives, a_stat_gives, is_done, is_id, is_info, is_message, is_of_kind, is_serial, never_waits}
 
 -- ---- one call
 
@@ -26,6 +28,28 @@ module _ (c : Caller) (call : Call) (s : State) (Stands : State → Type 0) (Lac
   other_kind : {A : Type 0} (kind : Answer → Bool) (answer : Answer) (t : State) → Gives kind (outcome c call s) →
       outcome c call s ≡ Some (answer, t) → kind answer ≡ false → A
   other_kind kind answer t gives is apart = absurd (let of = is_of_kind kind _ answer t gives is in cc)
+
+  pub id_comes : Gives is_id (outcome c call s) → (came : Option Answer) →
+      IsAsked c call s Stands (Lacks call s) came →
+      Comes Stands Lacks (IsAnswered answers.Id c call s) (id_in came)
+  id_comes gives None lacks = record { call = call; system = s; at = (refl, refl); cause = lacks }
+  id_comes gives (Some (answers.Id id)) (t, is, stands) = record { system = t; is = is; stands = stands }
+  id_comes gives (Some (answers.Sent serial)) (t, is, stands) = other_kind is_id _ t gives is refl
+  id_comes gives (Some (answers.Received message)) (t, is, stands) = other_kind is_id _ t gives is refl
+  id_comes gives (Some (answers.Info info)) (t, is, stands) = other_kind is_id _ t gives is refl
+  id_comes gives (Some answers.Done) (t, is, stands) = other_kind is_id _ t gives is refl
+  id_comes gives (Some (answers.Refused e)) (t, is, stands) = record { system = t; is = is; stands = stands }
+
+  pub info_comes : Gives is_info (outcome c call s) → (came : Option Answer) →
+      IsAsked c call s Stands (Lacks call s) came →
+      Comes Stands Lacks (IsAnswered answers.Info c call s) (info_in came)
+  info_comes gives None lacks = record { call = call; system = s; at = (refl, refl); cause = lacks }
+  info_comes gives (Some (answers.Id id)) (t, is, stands) = other_kind is_info _ t gives is refl
+  info_comes gives (Some (answers.Sent serial)) (t, is, stands) = other_kind is_info _ t gives is refl
+  info_comes gives (Some (answers.Received message)) (t, is, stands) = other_kind is_info _ t gives is refl
+  info_comes gives (Some (answers.Info info)) (t, is, stands) = record { system = t; is = is; stands = stands }
+  info_comes gives (Some answers.Done) (t, is, stands) = other_kind is_info _ t gives is refl
+  info_comes gives (Some (answers.Refused e)) (t, is, stands) = record { system = t; is = is; stands = stands }
 
   pub serial_comes : Gives is_serial (outcome c call s) → (came : Option Answer) →
       IsAsked c call s Stands (Lacks call s) came →
@@ -66,6 +90,26 @@ module _ (c : Caller) (call : Call) (s : State) (Stands : State → Type 0) (Lac
 -- what is asked of who answers, of a call that does not wait
 abbrev pub Asks : Caller → Call → State → (State → Type 0) → (Call → State → Type 0) → Option Answer → Type 0
 Asks c call s Stands Lacks came = (outcome c call s ≡ None → ⊥) → IsAsked c call s Stands (Lacks call s) came
+
+module _ (c : Caller) (s : State) (Stands : State → Type 0) (Lacks : Call → State → Type 0) (came : Option Answer)
+  where
+    pub gets : (a : GetArguments) → Asks c (Get a) s Stands Lacks came →
+        Comes Stands Lacks (IsAnswered answers.Id c (Get a) s) (id_in came)
+    gets a asks =
+        let gives = a_get_gives c a s in
+        id_comes c (Get a) s Stands Lacks gives came (asks (never_waits is_id _ gives))
+
+    pub stats : (id : ℕ) → Asks c (Stat id) s Stands Lacks came →
+        Comes Stands Lacks (IsAnswered answers.Info c (Stat id) s) (info_in came)
+    stats id asks =
+        let gives = a_stat_gives c id s in
+        info_comes c (Stat id) s Stands Lacks gives came (asks (never_waits is_info _ gives))
+
+    pub removes : (id : ℕ) → Asks c (Remove id) s Stands Lacks came →
+        Comes Stands Lacks (IsDone c (Remove id) s) (done_in came)
+    removes id asks =
+        let gives = a_remove_gives c id s in
+        done_comes c (Remove id) s Stands Lacks gives came (asks (never_waits is_done _ gives))
 
 module _ (c : Caller) (moment : ℕ) (s : State) (Stands : State → Type 0) (Lacks : Call → State → Type 0)
     (came : Option Answer) where

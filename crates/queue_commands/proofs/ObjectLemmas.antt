@@ -1,9 +1,9 @@
 -- Objects put together one by one, and how deep they nest.
-use Rattle.std.proofs.Common.{false, ℤ, pos, negsuc, ◌≡◌, ◌∙◌, ◌<◌, ◌≤◌, ◌+◌, ℕ, zero, suc, List, [], ◌∷◌, ◌++◌, Option, Some, None, arith, take, map, refl, sym, ap}
+use Rattle.std.proofs.Common.{false, ℤ, pos, negsuc, ◌≡◌, ◌∙◌, ◌<◌, ◌≤◌, ◌+◌, ℕ, zero, suc, List, [], ◌∷◌, ◌++◌, Option, Some, None, arith, length, take, get_or, map, slice_index_or, refl, sym, ap}
 use Rattle.std.specs.Prelude.{slice_get}
 use Rattle.std.specs.Option.{option_map}
 use Rattle.std.proofs.lemmas.Int.{clamps}
-use Rattle.std.proofs.lemmas.List.{map-append}
+use Rattle.std.proofs.lemmas.List.{take_more, map-append}
 use Rattle.queue_model.specs.Rules.{info_of}
 use Rattle.queue_model.specs.declared.answer.QueueInfo.{QueueInfo}
 use Rattle.queue_model.specs.declared.message.Message.{Message}
@@ -41,6 +41,18 @@ push-queue before after v queues place info is first pushed seen =
     let next : place + 1 ≡ suc place = omega arith in
     views-push before after v _ (info_data info) first pushed seen
     ∙ sym (queues-more queues place info is) ∙ ap (λ n. map queue_data (take n queues)) (sym next)
+
+-- one message more
+pub push-message : (before after : List Value) (v : Value) (ms : List Message) (place : ℕ) (m : Message) →
+    place < length ms → m ≡ slice_index_or ms place m → map view before ≡ map message_data (take place ms) →
+    after ≡ before ++ v ∷ [] → view v ≡ message_data m → map view after ≡ map message_data (take (place + 1) ms)
+push-message before after v ms place m below is first pushed seen =
+    let same : get_or ms place m ≡ m = sym is in
+    let more : map message_data (take (place + 1) ms) ≡ map message_data (take place ms) ++ message_data m ∷ [] =
+    ap (map message_data) (take_more ms place m below)
+    ∙ map-append message_data (take place ms) (get_or ms place m ∷ [])
+    ∙ ap (λ n. map message_data (take place ms) ++ message_data n ∷ []) same in
+    views-push before after v _ (message_data m) first pushed seen ∙ sym more
 
 -- ---- they have no float, and are not deep
 

@@ -1,5 +1,5 @@
 -- What a reader gives is cut behind one byte more than is wanted of it.
-use Rattle.std.proofs.Common.{ℕ, ◌+◌, ◌≡◌, ◌≤◌, ◌<◌, ◌∙◌, arith, List, [], ◌++◌, Option, Some, None, IfSome, length, take, ap, sym, subst, Result, Ok, Err, IfErr, IsErrAnd}
+use Rattle.std.proofs.Common.{ℕ, ◌+◌, ◌≡◌, ◌≤◌, ◌∙◌, arith, List, [], ◌++◌, Option, Some, None, IfSome, length, take, ap, sym, subst, Result, Ok, Err, IfErr, IsErrAnd}
 use Rattle.std.specs.Option.{option_map}
 use Rattle.std.proofs.lemmas.List.{length-take, take_all}
 use Rattle.std.proofs.lemmas.Int.{clamps}

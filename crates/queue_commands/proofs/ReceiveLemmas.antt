@@ -1,5 +1,5 @@
 -- Messages that are received one after the other.
-use Rattle.std.proofs.Common.{◌≡◌, ℕ, ◌<◌, ◌≤◌, ◌+◌, inl, inr, Bool, List, [], ◌∷◌, ◌++◌, length, Some, Result, Ok, Err, refl, sym, ap, ◌∙◌, subst, append_assoc, append-nil, length-append, arith}
+use Rattle.std.proofs.Common.{◌≡◌, ℕ, ◌<◌, ◌+◌, inl, inr, Bool, List, [], ◌∷◌, ◌++◌, length, Some, Result, Ok, Err, refl, sym, ap, ◌∙◌, subst, append_assoc, append-nil, length-append, arith}
 use Rattle.queue_model.specs.Rules.{outcome}
 use Rattle.queue_model.specs.State.{State}
 use Rattle.queue_model.specs.declared.call.Call.{Call}
@@ -14,6 +14,7 @@ use Rattle.queue_commands.specs.Receiving.{AreTaken, TakesAllAs, shown_text, sho
 use Rattle.queue_commands.specs.declared.error.AskError.{AskError}
 use Rattle.queue_commands.specs.declared.error.AskError.TheVariants as errors
 use Rattle.queue_commands.specs.declared.request.Receiving.{Receiving}
+use Rattle.queue_commands.proofs.TableLemmas.{put-then}
 
 -- one message more
 AreTaken-push : (c : Caller) (call : Call) (s t u : State) (ms : List Message) (m : Message) →
@@ -37,6 +38,27 @@ same_errno e is = cc
 no_message : (ms : List Message) → length ms ≡ 0 → ms ≡ []
 no_message [] is = refl
 no_message (m ∷ ms) is = absurd (omega (arith, is))
+
+-- ---- a line of four pieces
+
+-- a piece with a space (32) behind it, and then another
+spaced : (a b c xs ys : List ℕ) → b ≡ a ++ xs ++ 32 ∷ [] → c ≡ b ++ ys → c ≡ a ++ (xs ++ 32 ∷ ys)
+spaced a b c xs ys first second =
+    put-then a b c _ ys (first ∙ append_assoc a xs (32 ∷ [])) second
+    ∙ ap (λ l. a ++ l) (append_assoc xs (32 ∷ []) ys)
+
+-- with a space between each two, and a line end (10)
+pub put-spaced : (a b c d e f ws xs ys zs : List ℕ) → b ≡ a ++ ws ++ 32 ∷ [] → c ≡ b ++ xs ++ 32 ∷ [] →
+    d ≡ c ++ ys → e ≡ d ++ 32 ∷ [] → f ≡ e ++ zs ++ 10 ∷ [] →
+    f ≡ a ++ (ws ++ 32 ∷ xs ++ 32 ∷ ys ++ 32 ∷ zs ++ 10 ∷ [])
+put-spaced a b c d e f ws xs ys zs first second third space last =
+    let rest = 32 ∷ (zs ++ 10 ∷ []) in
+    let put : f ≡ a ++ (ws ++ 32 ∷ (xs ++ 32 ∷ (ys ++ rest))) =
+    spaced a b f ws _ first
+    (spaced b c f xs _ second (put-then c d f ys _ third (put-then d e f (32 ∷ []) _ space
+    (last ∙ append_assoc e zs (10 ∷ []))))) in
+    put ∙ ap (λ l. a ++ l) (sym (append_assoc (ws ++ 32 ∷ xs ++ 32 ∷ ys) (32 ∷ zs) (10 ∷ [])
+    ∙ append_assoc (ws ++ 32 ∷ xs) (32 ∷ ys) rest ∙ append_assoc ws (32 ∷ xs) (32 ∷ (ys ++ rest))))
 
 -- ---- messages so far
 

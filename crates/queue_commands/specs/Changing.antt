@@ -1,5 +1,5 @@
 -- What `make`, `remove` and `set` ask. docs/SHELL.md, "What a command asks".
-use Rattle.std.specs.Prelude.{◌≡◌, ℕ, List, [], ◌∷◌, ◌++◌, Option, None, Result, Ok, Err}
+use Rattle.std.specs.Prelude.{◌≡◌, ℕ, List, [], ◌∷◌, ◌++◌, Option, None, Ok, Err}
 use Rattle.std.specs.Fmt.{decimal}
 use Rattle.queue_model.specs.State.{State}
 use Rattle.queue_model.specs.declared.call.Call.TheVariants as calls

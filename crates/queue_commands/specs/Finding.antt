@@ -1,5 +1,5 @@
 -- How a queue is found, made where it is not there, and set. docs/SHELL.md, "What a command asks".
-use Rattle.std.specs.Prelude.{◌≡◌, ℕ, true, false, List, [], Option, None, Some, Result, Ok, Err}
+use Rattle.std.specs.Prelude.{◌≡◌, ℕ, true, false, List, [], Option, None, Some, Ok, Err}
 use Rattle.queue_model.specs.Rules.{outcome}
 use Rattle.queue_model.specs.State.{State}
 use Rattle.queue_model.specs.declared.answer.Answer.TheVariants as answers

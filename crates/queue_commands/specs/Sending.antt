@@ -1,5 +1,5 @@
 -- What `send` asks. docs/SHELL.md, "What a command asks".
-use Rattle.std.specs.Prelude.{◌≡◌, ℕ, ◌<◌, Bool, true, false, ℤ, List, [], ◌∷◌, ◌++◌, length, take, slice_index_or, Some, Result, Ok, Err}
+use Rattle.std.specs.Prelude.{◌≡◌, ℕ, ◌<◌, Bool, true, false, ℤ, List, [], ◌∷◌, ◌++◌, length, take, slice_index_or, Some, Ok, Err}
 use Rattle.std.specs.Fmt.{decimal}
 use Rattle.queue_model.specs.Rules.{outcome}
 use Rattle.queue_model.specs.State.{State}

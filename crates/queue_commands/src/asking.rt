@@ -9,23 +9,23 @@ use queue_model::{Answer, Message, QueueInfo};
 use std::alloc::Global;
 
 /// The id that a Get was answered.
-pub(crate) fn id_in(answer: Option<Answer>) -> Result<u32, AskError>
-    ensures { result ≡ id_in answer }
+pub(crate) fn id_in(answer: &Option<Answer>) -> Result<u32, AskError>
+    ensures { result ≡ id_in answer.now }
 {
     match answer {
-        Some(Answer::Id(id)) => Ok(id),
-        Some(Answer::Refused(errno)) => Err(AskError::Refused(errno)),
+        Some(Answer::Id(id)) => Ok(*id),
+        Some(Answer::Refused(errno)) => Err(AskError::Refused(*errno)),
         _ => Err(AskError::Unanswered),
     }
 }
 
 /// The serial that a Send was answered.
-pub(crate) fn serial_in(answer: Option<Answer>) -> Result<u64, AskError>
-    ensures { result ≡ serial_in answer }
+pub(crate) fn serial_in(answer: &Option<Answer>) -> Result<u64, AskError>
+    ensures { result ≡ serial_in answer.now }
 {
     match answer {
-        Some(Answer::Sent(serial)) => Ok(serial),
-        Some(Answer::Refused(errno)) => Err(AskError::Refused(errno)),
+        Some(Answer::Sent(serial)) => Ok(*serial),
+        Some(Answer::Refused(errno)) => Err(AskError::Refused(*errno)),
         _ => Err(AskError::Unanswered),
     }
 }
@@ -42,23 +42,23 @@ pub(crate) fn message_in(answer: Option<Answer>) -> Result<Message, AskError>
 }
 
 /// What a Stat was answered.
-pub(crate) fn info_in(answer: Option<Answer>) -> Result<QueueInfo, AskError>
-    ensures { result ≡ info_in answer }
+pub(crate) fn info_in(answer: &Option<Answer>) -> Result<QueueInfo, AskError>
+    ensures { result ≡ info_in answer.now }
 {
     match answer {
-        Some(Answer::Info(info)) => Ok(info),
-        Some(Answer::Refused(errno)) => Err(AskError::Refused(errno)),
+        Some(Answer::Info(info)) => Ok(*info),
+        Some(Answer::Refused(errno)) => Err(AskError::Refused(*errno)),
         _ => Err(AskError::Unanswered),
     }
 }
 
 /// That a Set or a Remove was done, of which there is no text.
-pub(crate) fn done_in(alloc: Global, answer: Option<Answer>) -> Result<Text, AskError>
-    ensures { result ≡ done_in answer }
+pub(crate) fn done_in(alloc: Global, answer: &Option<Answer>) -> Result<Text, AskError>
+    ensures { result ≡ done_in answer.now }
 {
     match answer {
         Some(Answer::Done) => Ok(Text::new(alloc)),
-        Some(Answer::Refused(errno)) => Err(AskError::Refused(errno)),
+        Some(Answer::Refused(errno)) => Err(AskError::Refused(*errno)),
         _ => Err(AskError::Unanswered),
     }
 }

@@ -57,7 +57,7 @@ fn remove_found<A: Answering>(alloc: Global, answers: &mut A, id: u32) -> Result
         Comes (A.stands answers.new o c) (A.lacks answers.new o c)
         (IsDone c (calls.Remove id) s) result }
 {
-    done_in(alloc, answers.answer(Call::Remove { id }))
+    done_in(alloc, &answers.answer(Call::Remove { id }))
 }
 
 /// Sets a queue, and gives no text.

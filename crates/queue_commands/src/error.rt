@@ -8,7 +8,7 @@ use queue_model::Errno;
 use thiserror::Error;
 
 /// Why a command comes to no text.
-#[derive(Debug, Drop, Error)]
+#[derive(Clone, Copy, Debug, Error)]
 pub enum AskError {
     /// The system refused one of its calls.
     #[error("{}", .0.name())]

@@ -15,7 +15,7 @@ use crate::error::AskError;
 use crate::queue_name::QueueName;
 use crate::request::{NewQueue, Settings};
 use crate::text::Text;
-use queue_model::{Call, Errno, GetArguments, SetArguments};
+use queue_model::{Call, Errno, GetArguments, QueueInfo, SetArguments};
 use std::alloc::Global;
 
 /// The id of the queue that a command names. That of a key is asked for; and where the key has none,
@@ -71,7 +71,7 @@ fn get<A: Answering>(answers: &mut A, call: GetArguments) -> Result<u32, AskErro
         Comes (A.stands answers.new o c) (A.lacks answers.new o c)
         (IsAnswered answered.Id c (calls.Get call) s) result }
 {
-    id_in(answers.answer(Call::Get(call)))
+    id_in(&answers.answer(Call::Get(call)))
 }
 
 /// Makes a queue, which its key may not have yet, sets what is to be set of it, and gives its id.
@@ -139,7 +139,7 @@ pub(crate) fn set_all<A: Answering>(
         mode: settings.mode,
         moment,
     };
-    done_in(alloc, answers.answer(Call::Set(call)))
+    done_in(alloc, &answers.answer(Call::Set(call)))
 }
 
 /// The limit that a queue is given; where none is, the one that it has.
@@ -150,6 +150,15 @@ fn limit<A: Answering>(answers: &mut A, id: u32, given: Option<u32>) -> Result<u
 {
     match given {
         Some(qbytes) => Ok(qbytes),
-        None => Ok(info_in(answers.answer(Call::Stat { id }))?.qbytes),
+        None => Ok(stat(answers, id)?.qbytes),
     }
+}
+
+/// What a Stat is answered.
+fn stat<A: Answering>(answers: &mut A, id: u32) -> Result<QueueInfo, AskError>
+    ensures { (o : A.Origin) (c : Caller) (s : State) → A.stands answers.old o c s →
+        Comes (A.stands answers.new o c) (A.lacks answers.new o c)
+        (IsAnswered answered.Info c (calls.Stat id) s) result }
+{
+    info_in(&answers.answer(Call::Stat { id }))
 }

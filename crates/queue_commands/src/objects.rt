@@ -62,11 +62,25 @@ fn messages_object(alloc: Global, info: &QueueInfo, messages: &Messages) -> Resu
     ensures { IfOk result (λ value. view value ≡ messages_data info.now messages.now) }
 {
     let mut members = Map::new(alloc);
-    let messages = message_objects(alloc, messages)?;
-    put(&mut members, alloc, "messages", Value::Array(messages))?;
-    let queue = info_object(alloc, info)?;
-    put(&mut members, alloc, "queue", queue)?;
+    put_held(&mut members, alloc, info, messages)?;
     Ok(Value::Object(members))
+}
+
+/// Puts a queue and its messages into an object that is empty.
+fn put_held(
+    members: &mut Map<String, Value>,
+    alloc: Global,
+    info: &QueueInfo,
+    messages: &Messages,
+) -> Result<(), NoMemory>
+    ensures { members_view members.old.entries ≡ no_members → OnOk result
+        (object (members_view members.new.entries) ≡ messages_data info.now messages.now) }
+{
+    let messages = message_objects(alloc, messages)?;
+    put(members, alloc, "messages", Value::Array(messages))?;
+    let queue = info_object(alloc, info)?;
+    put(members, alloc, "queue", queue)?;
+    Ok(())
 }
 
 /// An object for each queue of a system.
@@ -100,7 +114,7 @@ fn info_object(alloc: Global, info: &QueueInfo) -> Result<Value, NoMemory>
     ensures { IfOk result (λ value. view value ≡ info_data info.now) }
 {
     let mut members = Map::new(alloc);
-    put_info(&mut members, alloc, info)?;
+    put_info(&mut members, alloc, *info)?;
     Ok(Value::Object(members))
 }
 
@@ -108,10 +122,10 @@ fn info_object(alloc: Global, info: &QueueInfo) -> Result<Value, NoMemory>
 fn put_info(
     members: &mut Map<String, Value>,
     alloc: Global,
-    info: &QueueInfo,
+    info: QueueInfo,
 ) -> Result<(), NoMemory>
     ensures { members_view members.old.entries ≡ no_members →
-        OnOk result (object (members_view members.new.entries) ≡ info_data info.now) }
+        OnOk result (object (members_view members.new.entries) ≡ info_data info) }
 {
     put_count(members, alloc, "id", u64::from(info.id))?;
     put(members, alloc, "key", key_value(info.key))?;

@@ -71,7 +71,7 @@ fn send_one<A: Answering>(
         nowait: true,
         moment,
     };
-    serial_in(answers.answer(Call::Send(call)))
+    serial_in(&answers.answer(Call::Send(call)))
 }
 
 /// Puts a serial last, as a line, where serials are told.

@@ -1,9 +1,8 @@
-use Rattle.std.proofs.Common.{rules, ◌≡◌, ◌≤◌, ◌<◌, Bool, false, List, length, refl, sym, ap, ◌∙◌, subst, arith, ℕ}
+use Rattle.std.proofs.Common.{rules, ◌≡◌, ◌≤◌, ◌<◌, false, List, length, sym, ap, ◌∙◌, subst, arith, ℕ}
 use denote.Param.Send.{sendable}
 use Rattle.std.specs.List.{list_any}
 use Rattle.std.specs.Prelude.{replicate}
 use Rattle.std.specs.Vec.{vec_len}
-use Rattle.bucket_page.specs.Pseudokeys.{sha_key}
 use Rattle.msgq_cli.specs.Scripts.{greatest_seat}
 use Rattle.msgq_cli.specs.declared.line.Line.{Line}
 use Rattle.service_runs.proofs.BesideLemmas.{beside, from_origin, no_room}
@@ -12,9 +11,9 @@ use Rattle.service_runs.proofs.PairLemmas.{all_back, done_at, length-newcomers, 
 use Rattle.service_runs.specs.Beside.{HasEnded, counted_from}
 use Rattle.service_runs.specs.Desks.{ArePaired, DeskView}
 use Rattle.service_runs.specs.Lines.{is_stop}
-use Rattle.service_runs.specs.Printing.{AreOfSeats, IsPrintedOf}
+use Rattle.service_runs.specs.Printing.{IsPrintedOf}
 use Rattle.workers.specs.Closing.{HasMissing, remains_of}
-use Rattle.workers.specs.Opening.{newcomers, origin_of}
+use Rattle.workers.specs.Opening.{newcomers}
 use Rattle.workers.specs.Origins.{HasFrames, Origin}
 use Rattle.workers.specs.Told.{Sitter}
 use Rattle.msgq.proofs.runs.run_prepared.Goals as goal

@@ -3,7 +3,7 @@ use Rattle.std.proofs.Common.{ap, refl, subst, Bool, false}
 use Rattle.crash_safe_runs.specs.Concluding.{is_to_commit}
 use Rattle.msgq.specs.Runs.{RunsSeatsOver}
 use Rattle.crash_safe_runs.specs.deferred_sync.Deferred.{DeferredState}
-use Rattle.msgq.proofs.OverLemmas.{BesideOver, beside_over}
+use Rattle.msgq.proofs.OverLemmas.{beside_over}
 use Rattle.crash_safe_runs.proofs.ScriptLemmas.{done_to, from_lent, to_device}
 use Rattle.service_runs.specs.Beside.{RunsAsOne, RunsBesideOn}
 use Rattle.replays.specs.Texts.{Effects}

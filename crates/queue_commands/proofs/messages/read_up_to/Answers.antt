@@ -1,4 +1,4 @@
-use Rattle.std.proofs.Common.{◌≡◌, ◌≤◌, arith, length}
+use Rattle.std.proofs.Common.{◌≤◌, arith, length}
 use Rattle.queue_commands.proofs.ReadLemmas.{all_are_read, limit_cuts}
 use Rattle.queue_commands.proofs.messages.read_up_to.Goals as goal
 

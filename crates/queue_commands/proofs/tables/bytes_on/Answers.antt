@@ -1,4 +1,4 @@
-use Rattle.std.proofs.Common.{rules, ◌<◌, ◌+◌, ap, length}
+use Rattle.std.proofs.Common.{rules, ◌<◌, length}
 use Rattle.queue_commands.proofs.TableLemmas.{bytes-more}
 use Rattle.queue_commands.proofs.tables.bytes_on.Goals as goal
 
