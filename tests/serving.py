@@ -13,6 +13,9 @@ TOP = os.path.dirname(os.path.dirname(os.path.realpath(__file__)))
 # How long anything may take, in seconds: other work may keep the machine busy.
 PATIENCE = 60
 
+# What a shell begins in the background ignores INT, and so would each server that it begins.
+signal.signal(signal.SIGINT, signal.default_int_handler)
+
 
 class Room:
     """A temporary folder, in which all of a test stands; its servers are ended with it."""
