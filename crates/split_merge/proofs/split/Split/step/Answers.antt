@@ -1,5 +1,5 @@
 -- Each step, from what its place knows.
-use Rattle.std.proofs.Common.{◌≡◌, ◌≢◌, refl, sym, ap, subst, ◌∙◌, ℕ, true, List}
+use Rattle.std.proofs.Common.{◌≡◌, ◌≢◌, refl, sym, ap, subst, ◌∙◌, ℕ, ◌+◌, true, List, arith}
 use Rattle.directory.specs.declared.header.Header.{Header}
 use Rattle.hash_file.specs.Changes.{take_page}
 use Rattle.page_locks.specs.Locks.{without}
@@ -11,9 +11,9 @@ use Rattle.stale_search.specs.file_pages.Headers.{HasFreePage}
 use Rattle.stale_search.proofs.of_file_pages.ReadLemmas.{devices_after}
 use Rattle.stale_search.proofs.of_file_pages.StoreLemmas.{layout_is}
 use Rattle.stale_search.specs.Steps.{world}
-use Rattle.split_merge.specs.Words.{Lock, Page, Range, page_of, Retarget}
+use Rattle.split_merge.specs.Words.{Lock, Page, Range, page_of, SplitPlace, WriteNew, Retarget}
 use Rattle.split_merge.specs.Order.{IsPlaced}
-use Rattle.split_merge.specs.Splits.{in_directory}
+use Rattle.split_merge.specs.Splits.{IsSplit, SplitView, in_directory}
 use Rattle.split_merge.proofs.PageLemmas.{placed_first, retargets_fall}
 use Rattle.split_merge.proofs.FreeLemmas.{first_free_is_there}
 use Rattle.split_merge.proofs.MergeFreeLemmas.{read_then_written}
@@ -23,18 +23,59 @@ use Rattle.split_merge.proofs.FaultLemmas.{may_split, taken_is_there, may_retarg
 use Rattle.split_merge.proofs.TurnLemmas.{took, copied, has_raised, filled, linked, named, counted, gave_back, no_room}
 use Rattle.split_merge.proofs.split.Split.step.Goals as goal
 
+-- ---- what is so of it at each place
+
+-- but for where it is a split stays as it was
+goes_on : (v : SplitView) (place : SplitPlace) → IsSplit v → IsPlaced v.whole v.depth place →
+    IsSplit (record v { place = place })
+goes_on v place is placed = record {
+  range = is.range;
+  shallow = is.shallow;
+  depth = is.depth;
+  full = is.full;
+  placed = placed;
+}
+
+-- the directory is doubled, and has an entry for each half
+doubles : (v : SplitView) (new : ℕ) → IsSplit v →
+    IsSplit (record v { depth = v.whole.depth + 1; place = WriteNew new })
+doubles v new is = record {
+  range = is.range;
+  shallow = is.shallow;
+  depth = omega (arith, is.shallow);
+  full = is.full;
+  placed = omega arith;
+}
+
+pub invariant_of-self : goal.invariant_of-self
+invariant_of-self g c = goes_on _ _ c.self.invariant tt
+
+pub invariant_of-self-in-Ok-take_page : goal.invariant_of-self-in-Ok-take_page
+invariant_of-self-in-Ok-take_page g c = goes_on _ _ c.self.invariant c.after_take-self-inside.ensures.placed
+
+pub invariant_of-self-in-Ok-copy_directory : goal.invariant_of-self-in-Ok-copy_directory
+invariant_of-self-in-Ok-copy_directory g c = goes_on _ _ c.self.invariant c.after_copy-self-inside.ensures.placed
+
+pub invariant_of-self-in-Ok-raise_depth : goal.invariant_of-self-in-Ok-raise_depth
+invariant_of-self-in-Ok-raise_depth g c = doubles _ _ c.self.invariant
+
+pub invariant_of-self-in-Ok-write_new : goal.invariant_of-self-in-Ok-write_new
+invariant_of-self-in-Ok-write_new g c =
+    let inv = rw c.in-WriteNew.is at c.self.invariant in
+    goes_on _ _ c.self.invariant inv.placed
+
 pub invariant_of-self-in-Ok-write_old : goal.invariant_of-self-in-Ok-write_old
 invariant_of-self-in-Ok-write_old g c =
     let inv = rw c.in-WriteOld.is at c.self.invariant in
-    record {
-      range = inv.range;
-      shallow = inv.shallow;
-      depth = inv.depth;
-      full = inv.full;
-      placed = subst (λ (r : Range).
-          IsPlaced c.self.inside.whole c.self.inside.depth (Retarget c.in-WriteOld.new r.pattern))
-          (sym c.upper_half.ensures) (placed_first _ _ c.in-WriteOld.new inv.range inv.shallow inv.placed);
-    }
+    goes_on _ _ c.self.invariant (subst (λ (r : Range).
+    IsPlaced c.self.inside.whole c.self.inside.depth (Retarget c.in-WriteOld.new r.pattern))
+    (sym c.upper_half.ensures) (placed_first _ _ c.in-WriteOld.new inv.range inv.shallow inv.placed))
+
+pub invariant_of-self-in-Ok-retarget : goal.invariant_of-self-in-Ok-retarget
+invariant_of-self-in-Ok-retarget g c = goes_on _ _ c.self.invariant c.after_retarget-self-inside.ensures.placed
+
+pub invariant_of-self-in-Ok-count_split : goal.invariant_of-self-in-Ok-count_split
+invariant_of-self-in-Ok-count_split g c = goes_on _ _ c.self.invariant tt
 
 -- ---- the first free page is taken
 
