@@ -7,26 +7,26 @@ use Rattle.call_decisions.specs.InquiryWords.{RemoveInquiry}
 use Rattle.call_decisions.specs.Names.{by_phase, names_for}
 use Rattle.queue_model.specs.declared.queue.Queue.{Queue}
 use Rattle.queue_model.specs.Rules.{has_id}
-use Rattle.record_file.specs.Accesses.{AccessView}
-use Rattle.record_file.specs.BucketAccesses.{ask_in}
-use Rattle.record_file.specs.Deletes.{DeleteView, delete_turn, part}
-use Rattle.record_file.specs.declared.second_place.SecondPlace.{SecondPlace}
-use Rattle.record_file.specs.declared.second_place.SecondPlace.TheVariants.{Approaching, Look, Hop, Write, Splitting, GiveBackPage, GiveBackDirectory}
-use Rattle.record_file.specs.declared.second_place.SecondPlace.TheVariants.{Ended as HasTried}
-use Rattle.record_file.specs.Inserts.{ask_in as insert_ask}
-use Rattle.record_file.specs.Operations.{operation_turn}
-use Rattle.record_file.specs.SecondTries.{ask_at as second_ask}
-use Rattle.record_file.specs.Words.{SearchView}
-use Rattle.record_file.specs.declared.bucket_access.BucketStage.{BucketStage}
-use Rattle.record_file.specs.declared.bucket_access.BucketStage.TheVariants.{Searching, Written, Ended}
-use Rattle.record_file.specs.declared.insert.InsertStage.{InsertStage}
-use Rattle.record_file.specs.declared.insert.InsertStage.TheVariants.{First, Second}
-use Rattle.record_file.specs.declared.operation.RecordOperation.{RecordOperation}
-use Rattle.record_file.specs.declared.operation.RecordOperation.TheVariants.{Find, Insert, Replace, Delete}
-use Rattle.record_file.specs.split_merge.Facts.{ask_at as merge_ask, merge_turn}
-use Rattle.record_file.specs.split_merge.MergeWords.{ApproachView}
-use Rattle.record_file.specs.split_merge.declared.merge_place.MergePlace.{MergePlace}
-use Rattle.record_file.specs.split_merge.declared.merge_place.MergePlace.TheVariants as merges
+use Rattle.files_at_rest.specs.record_file.Accesses.{AccessView}
+use Rattle.files_at_rest.specs.record_file.BucketAccesses.{ask_in}
+use Rattle.files_at_rest.specs.record_file.Deletes.{DeleteView, delete_turn, part}
+use Rattle.files_at_rest.specs.record_file.declared.second_place.SecondPlace.{SecondPlace}
+use Rattle.files_at_rest.specs.record_file.declared.second_place.SecondPlace.TheVariants.{Approaching, Look, Hop, Write, Splitting, GiveBackPage, GiveBackDirectory}
+use Rattle.files_at_rest.specs.record_file.declared.second_place.SecondPlace.TheVariants.{Ended as HasTried}
+use Rattle.files_at_rest.specs.record_file.Inserts.{ask_in as insert_ask}
+use Rattle.files_at_rest.specs.record_file.Operations.{operation_turn}
+use Rattle.files_at_rest.specs.record_file.SecondTries.{ask_at as second_ask}
+use Rattle.files_at_rest.specs.record_file.Words.{SearchView}
+use Rattle.files_at_rest.specs.record_file.declared.bucket_access.BucketStage.{BucketStage}
+use Rattle.files_at_rest.specs.record_file.declared.bucket_access.BucketStage.TheVariants.{Searching, Written, Ended}
+use Rattle.files_at_rest.specs.record_file.declared.insert.InsertStage.{InsertStage}
+use Rattle.files_at_rest.specs.record_file.declared.insert.InsertStage.TheVariants.{First, Second}
+use Rattle.files_at_rest.specs.record_file.declared.operation.RecordOperation.{RecordOperation}
+use Rattle.files_at_rest.specs.record_file.declared.operation.RecordOperation.TheVariants.{Find, Insert, Replace, Delete}
+use Rattle.files_at_rest.specs.record_file.split_merge.Facts.{ask_at as merge_ask, merge_turn}
+use Rattle.files_at_rest.specs.record_file.split_merge.MergeWords.{ApproachView}
+use Rattle.files_at_rest.specs.record_file.split_merge.declared.merge_place.MergePlace.{MergePlace}
+use Rattle.files_at_rest.specs.record_file.split_merge.declared.merge_place.MergePlace.TheVariants as merges
 use Rattle.stale_search.specs.Approaches.{approach_ask_at}
 use Rattle.stale_search.specs.Searches.{ask_at}
 use Rattle.stale_search.specs.declared.place.ApproachPlace.{ApproachPlace}

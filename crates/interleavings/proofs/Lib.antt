@@ -1,15 +1,3 @@
-pub mod Names
-pub mod PageLemmas
-pub mod AloneLemmas
-pub mod SystemLemmas
-pub mod EmptyLemmas
-pub mod NewLemmas
-pub mod NewStructure
-pub mod NewLaws
-pub mod SpelledLemmas
-pub mod OpenedSameLemmas
-pub mod StoredLemmas
-pub mod OpenedOpenLemmas
 pub mod CloseLemmas
 pub mod BesideLemmas
 pub mod SeatNameLemmas
@@ -83,7 +71,7 @@ pub mod LoneRoomLemmas
 pub mod LoneKernelDriveLemmas
 pub mod PlayedLemmas
 pub mod RenewLemmas
-pub use Rattle.file_check.proofs as of_file_check
-pub use Rattle.record_file.proofs as of_record_file
+pub use Rattle.files_at_rest.proofs.of_file_check
+pub use Rattle.files_at_rest.proofs as of_files_at_rest
 pub use Rattle.xsi_calls.proofs as of_xsi_calls
 pub use Rattle.interleaving_core.proofs as of_interleaving_core

@@ -12,7 +12,7 @@ use Rattle.interleavings.proofs.CountedLemmas.{counted_at_first, counted_in, cou
 use Rattle.interleaving_core.proofs.BeginLemmas.{idle_at}
 use Rattle.interleaving_core.proofs.PlaceLemmas.{at_other, at_same, length-with_call}
 use Rattle.interleavings.proofs.CloseLemmas.{closes_flushed}
-use Rattle.interleavings.proofs.OpenedOpenLemmas.{opens_at_rest}
+use Rattle.files_at_rest.proofs.OpenedOpenLemmas.{opens_at_rest}
 use Rattle.queue_model.proofs.JournalLemmas.{LeadsAlong-push, after-LeadsAlong}
 use Rattle.queue_model.specs.Laws.{KeepsOrder}
 use Rattle.queue_model.specs.declared.entry.Entry.TheVariants.{Stopped}

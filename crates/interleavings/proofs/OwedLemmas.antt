@@ -5,7 +5,7 @@ use Rattle.interleavings.specs.Together.{AreTogether, owes_of}
 use Rattle.interleavings.specs.ConcurrentWords.{owes_at}
 use Rattle.directory.proofs.HeaderLaws.{is_today}
 use Rattle.directory.specs.declared.layout.TheConstants.{LAYOUT}
-use Rattle.file_check.specs.Whole.{FileHasNoFault}
+use Rattle.files_at_rest.specs.file_check.Whole.{FileHasNoFault}
 use Rattle.interleaving_core.specs.Beginning.{MayRefuse}
 use Rattle.interleaving_core.specs.declared.fault.OpenFault.{OpenFault}
 use Rattle.interleaving_core.specs.declared.fault.OpenFault.TheVariants as opens

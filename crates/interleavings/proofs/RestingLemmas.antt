@@ -2,7 +2,7 @@
 use Rattle.std.proofs.Common.{ℕ, refl, ◌≡◌, ◌≤◌, sym, ap, ◌∙◌, subst, Option, Some, length, arith, Bool, true, false}
 use Rattle.std.proofs.lemmas.Option.{none-some}
 use Rattle.interleavings.proofs.CloseLemmas.{closes_flushed}
-use Rattle.interleavings.proofs.OpenedOpenLemmas.{opens_at_rest}
+use Rattle.files_at_rest.proofs.OpenedOpenLemmas.{opens_at_rest}
 use Rattle.interleavings.specs.ConcurrentLaws.{BeginTogether}
 use Rattle.interleaving_core.proofs.BeginLemmas.{idle_at}
 use Rattle.interleaving_core.proofs.KernelLemmas.{as_many}

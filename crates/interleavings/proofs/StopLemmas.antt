@@ -2,10 +2,10 @@
 use Rattle.std.proofs.Common.{◌≡◌, inl, inr, ap, Bool, Some}
 use Rattle.queue_model.proofs.EffectLemmas.{Effect, Effect-outcome}
 use Rattle.queue_model.proofs.LawfulLemmas.{IsLawful-Effect}
-use Rattle.queue_model.specs.Lawful.{IsLawful}
 use Rattle.queue_model.specs.declared.answer.Answer.TheVariants.{Sent, Received, Done}
 use Rattle.queue_model.specs.declared.call.Call.TheVariants.{Get, Send, Receive, Stat, Set, Remove}
 use Rattle.type_chains.proofs.Fitting.{keeps_fitting}
+use Rattle.files_at_rest.proofs.CloseLemmas.{lawful_still}
 use Rattle.interleavings.specs.LoneCallWords.{Answer, Call, Caller, HasFittingCall, HasFittingCaller, IsFiled, State, outcome}
 
 -- ---- after an answer
@@ -38,17 +38,6 @@ keeps_filed c call a s t caller fitting rules filed = record {
 }
 
 -- ---- with another stop mark
-
-pub lawful_still : (s : State) (stopped : Bool) → IsLawful s → IsLawful (record s { stopped = stopped })
-lawful_still s stopped l = record {
-  few_queues = l.few_queues;
-  id_begun = l.id_begun;
-  ids_end = l.ids_end;
-  queues_lawful = l.queues_lawful;
-  ids_given = l.ids_given;
-  ids_ascend = l.ids_ascend;
-  keys_apart = l.keys_apart;
-}
 
 pub filed_still : (s : State) (stopped : Bool) → IsFiled s → IsFiled (record s { stopped = stopped })
 filed_still s stopped filed = record { lawful = lawful_still s stopped filed.lawful; fits = filed.fits }

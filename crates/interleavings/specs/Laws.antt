@@ -2,7 +2,7 @@
 use Rattle.std.specs.Prelude.{ℕ, ◌≡◌, ◌≢◌, ◌≤◌, ◌+◌, ◌⊎◌, Bool, IsTrue, List, None, Some, length, true, false, ⊤}
 use Rattle.interleavings.specs.Together.{owes_of}
 use Rattle.interleavings.specs.ConcurrentWords.{Records, StandsAt, overlaid, owes_at, record_of}
-use Rattle.file_check.specs.Fault.{IsOfMachineToo}
+use Rattle.files_at_rest.specs.file_check.Fault.{IsOfMachineToo}
 use Rattle.interleaving_core.specs.Beginning.{MayRefuse}
 use Rattle.interleaving_core.specs.Owing.{is_failure}
 use Rattle.interleaving_core.specs.declared.fault.OpenFault.{OpenFault}

@@ -1,9 +1,3 @@
-pub mod Files
-pub mod NewFileLaws
-pub mod Resting
-pub mod OpenedLaws
-pub mod Spelled
-pub mod SpelledLaws
 pub mod SeatWords
 pub mod Beside
 pub mod Apart
@@ -35,7 +29,6 @@ pub mod Laws
 pub mod KeyLaws
 pub mod Rooms
 pub mod Renewing
-pub use Rattle.file_check.specs as file_check
-pub use Rattle.record_file.specs as record_file
+pub use Rattle.files_at_rest.specs as files_at_rest
 pub use Rattle.xsi_calls.specs as xsi_calls
 pub use Rattle.interleaving_core.specs as interleaving_core

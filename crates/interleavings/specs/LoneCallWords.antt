@@ -1,5 +1,5 @@
 -- Words of the crates below, under one name.
-pub use Rattle.interleavings.specs.Resting.{IsFileAtRest}
+pub use Rattle.files_at_rest.specs.Resting.{IsFileAtRest}
 pub use Rattle.queue_model.specs.declared.answer.Answer.{Answer}
 pub use Rattle.queue_model.specs.Rules.{outcome}
 pub use Rattle.type_chains.specs.Fits.{HasFittingCall, HasFittingCaller}

@@ -1,7 +1,7 @@
 -- Words of the crates below, under one name.
 pub use Rattle.step_rules.specs.queue_records.bucket_page.directory.page_device.Device.{HasRisen}
-pub use Rattle.interleavings.specs.OpenedLaws.{restarted}
-pub use Rattle.interleavings.specs.Resting.{IsFileAtRest}
+pub use Rattle.files_at_rest.specs.OpenedLaws.{restarted}
+pub use Rattle.files_at_rest.specs.Resting.{IsFileAtRest}
 pub use Rattle.interleaving_core.specs.file_check.Whole.{IsFileOf}
 pub use Rattle.interleavings.specs.LoneCalls.{FoundNoRoom, IsServed}
 pub use Rattle.interleavings.specs.Serving.{lacks_room}

@@ -1,5 +1,5 @@
 -- Words of the crates below, under one name.
-pub use Rattle.file_check.specs.Whole.{IsFileOf}
+pub use Rattle.files_at_rest.specs.file_check.Whole.{IsFileOf}
 pub use Rattle.interleaving_core.specs.Active.{ActiveView}
 pub use Rattle.interleaving_core.specs.Beginning.{HasCall, HasSystem, IsOpened, IsRefused, IsStopped}
 pub use Rattle.interleaving_core.specs.Closing.{IsFlushedTo}
@@ -11,7 +11,7 @@ pub use Rattle.interleaving_core.specs.declared.fault.BeginFault.{BeginFault}
 pub use Rattle.interleaving_core.specs.declared.step.Step.{Step}
 pub use Rattle.interleavings.specs.LoneCallWords.{Begins, FileFault, HasFittingCall, HasFittingCaller, IsFileAtRest, IsOver, State, answer_of, is_fault, outcome, store_of}
 pub use Rattle.interleavings.specs.Serving.{lacks_room}
-pub use Rattle.interleavings.specs.OpenedLaws.{restarted}
+pub use Rattle.files_at_rest.specs.OpenedLaws.{restarted}
 pub use Rattle.page_locks.specs.declared.lock_table.TheConstants.{MAX_SEATS}
 pub use Rattle.queue_model.specs.Journal.{IsLegal, LeadsAlong, after, is_of, outcome_for, part_of}
 pub use Rattle.queue_model.specs.Lawful.{IsLawful}

@@ -7,7 +7,7 @@ use crate::concurrent_laws::{
     calls_begin_together, calls_end_together, calls_leave_the_file_at_rest, calls_owe_apart,
     calls_rest_together, calls_step_together, calls_stop_together,
 };
-use file_check::the_file_of_a_system_has_no_fault;
+use files_at_rest::file_check::the_file_of_a_system_has_no_fault;
 use interleaving_core::xsi_calls::{
     calls_have_few_steps, calls_have_few_steps_left, calls_hold_their_names,
     calls_name_what_is_there,

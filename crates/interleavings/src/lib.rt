@@ -9,20 +9,21 @@ mod event;
 mod key_laws;
 mod laws;
 mod lone_kernel_laws;
-mod new_file_laws;
-mod opened_laws;
 mod playing;
 mod renewing;
 mod running;
 mod seat_laws;
-mod spelled_laws;
 
 pub use concurrent_laws::{
     calls_begin_together, calls_end_together, calls_leave_the_file_at_rest, calls_owe_apart,
     calls_rest_together, calls_step_together, calls_stop_together,
 };
 pub use event::{Event, Outcome, are_of_seats};
-pub use file_check;
+pub use files_at_rest;
+pub use files_at_rest::{
+    a_checked_file_opens_at_rest, a_file_at_rest_closes_as_one, a_new_file_has_no_queues,
+    each_seat_sees_a_file_at_rest, pages_spell_one_system, the_file_of_a_system_spells_it,
+};
 pub use interleaving_core;
 pub use key_laws::a_remove_takes_the_key_of_its_queue;
 pub use laws::{
@@ -38,12 +39,7 @@ pub use lone_kernel_laws::{
     a_lone_call_goes_on, a_lone_call_is_answered_by_the_rules, a_lone_drive_answers_by_the_rules,
     a_lone_step_answers_by_the_rules, a_refusal_leaves_a_kernel_at_rest,
 };
-pub use new_file_laws::a_new_file_has_no_queues;
-pub use opened_laws::{
-    a_checked_file_opens_at_rest, a_file_at_rest_closes_as_one, each_seat_sees_a_file_at_rest,
-};
 pub use playing::{EndFault, Played, play_on};
-pub use record_file;
 pub use renewing::{
     failures_refine, flushes_refine, pages_refine, reads_fail_with_the_device, renewals_refine,
     withdrawals_refine,
@@ -56,5 +52,4 @@ pub use seat_laws::{
     a_seat_sees_what_it_saw, an_id_is_given_out_under_its_name,
     no_other_writes_under_a_calls_names, others_leave_what_a_call_knows,
 };
-pub use spelled_laws::{pages_spell_one_system, the_file_of_a_system_spells_it};
 pub use xsi_calls;

@@ -8,7 +8,7 @@ ghost use Rattle.interleaving_core.specs.Fault.{device_failed};
 ghost use Rattle.interleavings.specs.Ending.{HasEnded};
 ghost use Rattle.interleavings.specs.Playing.{HasPlayed, HasReason, PlaysAsPlainLists};
 ghost use Rattle.interleavings.specs.Runs.{AreOfSeats};
-ghost use Rattle.interleavings.specs.Spelled.{SpellsSystem};
+ghost use Rattle.files_at_rest.specs.Spelled.{SpellsSystem};
 ghost use Rattle.interleavings.specs.Words.{IsFileOf};
 
 use crate::event::{Event, Outcome};

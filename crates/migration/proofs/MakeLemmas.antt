@@ -6,9 +6,9 @@ use Rattle.std.proofs.lemmas.List.{length-map}
 use Rattle.bucket_page.specs.declared.record_key.RecordKey.{RecordKey}
 use Rattle.buffer_pool.specs.Pool.{opened, payloads_of}
 use Rattle.directory.proofs.MemberLaws.{contains_none}
-use Rattle.interleavings.specs.Files.{no_queues}
-use Rattle.interleavings.proofs.NewLaws.{new_has_no_queues}
-use Rattle.interleavings.proofs.OpenedOpenLemmas.{opens_at_rest}
+use Rattle.files_at_rest.specs.Files.{no_queues}
+use Rattle.files_at_rest.proofs.NewLaws.{new_has_no_queues}
+use Rattle.files_at_rest.proofs.OpenedOpenLemmas.{opens_at_rest}
 use Rattle.page_device.specs.Sealed.{payload_of}
 use Rattle.queue_model.specs.Lawful.{IsLawful}
 use Rattle.queue_model.specs.State.{State}

@@ -15,7 +15,7 @@ use Rattle.interleavings.specs.interleaving_core.declared.fault.OpenFault.TheVar
 use Rattle.file_walk.specs.declared.fault.StructureFault.TheVariants as structure
 use Rattle.interleavings.proofs.ToldLemmas.{risen_since}
 use Rattle.interleavings.proofs.of_file_check.Today.{file_has_no_fault}
-use Rattle.interleavings.specs.Files.{no_queues}
+use Rattle.interleavings.specs.files_at_rest.Files.{no_queues}
 use Rattle.session.specs.Making.{SessionState}
 use Rattle.session.specs.Session.{ClosesOn, Holds, OpensAny, pages_of}
 use Rattle.msgq_cli.specs.record_file.Files.{IsNewFile, MayNotFormat}

@@ -1,7 +1,7 @@
 -- A run on a file, told of what its pages mean.
 use Rattle.std.proofs.Common.{inl, inr, ℕ, Bool, List, Option, Some, None}
 use Rattle.bucket_page.specs.Pseudokeys.{sha_key}
-use Rattle.interleavings.proofs.SpelledLemmas.{spells}
+use Rattle.interleavings.proofs.of_files_at_rest.SpelledLemmas.{spells}
 use Rattle.msgq_cli.specs.Scripts.{Parts}
 use Rattle.msgq_cli.specs.declared.ending.Ending.{Ending}
 use Rattle.msgq_cli.specs.declared.reply.Reply.{Reply}

@@ -1,7 +1,7 @@
 -- What is printed where a script is run on a file, and what that leaves. docs/SCRIPTS.md, "Runs".
 use Rattle.std.specs.Prelude.{◌≡◌, ◌⊎◌, ℕ, true, Bool, List, Option, Some, Result, Ok, Err}
 use Rattle.numbers.specs.declared.faults.TheConstants.{DEVICE, NO_MEMORY}
-use Rattle.interleavings.specs.Files.{no_queues}
+use Rattle.interleavings.specs.files_at_rest.Files.{no_queues}
 use Rattle.interleavings.specs.LoneKernelWords.{State}
 use Rattle.session.specs.Making.{SessionState}
 use Rattle.session.specs.Session.{OpensAny}

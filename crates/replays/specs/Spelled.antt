@@ -4,7 +4,7 @@ use Rattle.std.specs.Prelude.{◌≡◌, ◌≢◌, ◌⊎◌, ℕ, false, Bool,
 use Rattle.numbers.specs.declared.faults.TheConstants.{DEVICE, FAILED}
 use Rattle.page_device.specs.Device.{HasRisen}
 use Rattle.interleavings.specs.LoneKernelWords.{State, restarted}
-use Rattle.interleavings.specs.Spelled.{SpellsSystem}
+use Rattle.interleavings.specs.files_at_rest.Spelled.{SpellsSystem}
 use Rattle.interleavings.specs.interleaving_core.Fault.{device_failed, open_number_of}
 use Rattle.interleavings.specs.interleaving_core.declared.fault.OpenFault.{OpenFault}
 use Rattle.interleavings.specs.interleaving_core.declared.fault.OpenFault.TheVariants.{TooFewFrames}

@@ -1,7 +1,7 @@
 -- A run of several seats on a file, told of what its pages mean.
 use Rattle.std.proofs.Common.{◌⊎◌, inl, inr, ℕ, zero, suc, refl, sym, subst, IsTrue, false, true, Bool, List, [], ◌∷◌, take}
 use Rattle.bucket_page.specs.Pseudokeys.{sha_key}
-use Rattle.interleavings.proofs.SpelledLemmas.{spells}
+use Rattle.interleavings.proofs.of_files_at_rest.SpelledLemmas.{spells}
 use Rattle.queue_model.proofs.JournalLemmas.{after-Leads, after-LeadsAlong}
 use Rattle.queue_model.specs.Journal.{LeadsAlong, after}
 use Rattle.queue_model.specs.declared.entry.Entry.{Entry}

@@ -2,7 +2,7 @@
 -- check tells of them stands what they mean. docs/SCRIPTS.md, "Runs"; docs/FORMAT.md, "Pages", "Records".
 use Rattle.std.specs.Prelude.{◌≡◌, ◌⊎◌, ℕ, true, false, Bool, List, Some, length}
 use Rattle.interleavings.specs.LoneKernelWords.{Answer, Call, Caller, State, outcome, restarted}
-use Rattle.interleavings.specs.Spelled.{SpellsSystem}
+use Rattle.interleavings.specs.files_at_rest.Spelled.{SpellsSystem}
 use Rattle.queue_model.specs.Journal.{LeadsAlong}
 use Rattle.queue_model.specs.Rules.{AddsTo}
 use Rattle.queue_model.specs.declared.entry.Entry.{Entry}

@@ -20,8 +20,8 @@ use Rattle.hash_file.specs.Chain.{contents}
 use Rattle.hash_file.specs.Sound.{IsExact}
 use Rattle.step_rules.specs.Sound.{IsSoundWorld}
 use Rattle.record_file.specs.Files.{IsNewFile}
-use Rattle.interleavings.specs.Files.{no_queues}
-use Rattle.interleavings.specs.NewFileLaws.{NewHasNoQueues}
+use Rattle.interleavings.specs.files_at_rest.Files.{no_queues}
+use Rattle.interleavings.specs.files_at_rest.NewFileLaws.{NewHasNoQueues}
 use Rattle.interleaving_core.specs.Beginning.{HasSystem, IsOpened}
 use Rattle.interleaving_core.specs.Renewing.{FailsToRead, IsBetweenCalls, IsIdleOrWaits, KeepsPages, Reads}
 use Rattle.interleaving_core.specs.xsi_calls.Words.{world}

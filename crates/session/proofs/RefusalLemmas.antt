@@ -9,8 +9,8 @@ use Rattle.file_pages.proofs.StoreLemmas.{length-listed}
 use Rattle.file_walk.specs.declared.fault.StructureFault.TheVariants as structure
 use Rattle.record_file.specs.Files.{IsNewFile}
 use Rattle.interleavings.proofs.of_file_check.Today.{file_has_no_fault}
-use Rattle.interleavings.specs.Files.{no_queues}
-use Rattle.interleavings.specs.NewFileLaws.{NewHasNoQueues}
+use Rattle.interleavings.specs.files_at_rest.Files.{no_queues}
+use Rattle.interleavings.specs.files_at_rest.NewFileLaws.{NewHasNoQueues}
 use Rattle.interleaving_core.specs.Beginning.{MayRefuse, MayRefuseUnchecked}
 use Rattle.interleaving_core.specs.Fault.{device_failed}
 use Rattle.interleaving_core.specs.declared.fault.OpenFault.TheVariants.{NoMemory, TooFewFrames, Wrong}

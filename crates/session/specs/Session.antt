@@ -9,7 +9,7 @@ use Rattle.page_device.specs.declared.page.TheConstants.{MAX_PAGES, PAGE_BYTES}
 use Rattle.file_pages.specs.Files.{listed}
 use Rattle.queue_model.specs.Journal.{outcome_for}
 use Rattle.file_walk.specs.declared.fault.StructureFault.TheVariants as structure
-use Rattle.interleavings.specs.Files.{no_queues}
+use Rattle.interleavings.specs.files_at_rest.Files.{no_queues}
 use Rattle.interleaving_core.specs.Beginning.{IsStopped, MayRefuseUnchecked}
 use Rattle.interleaving_core.specs.Closing.{IsReleased}
 use Rattle.interleaving_core.specs.Fault.{device_failed}

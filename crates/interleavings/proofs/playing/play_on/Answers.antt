@@ -4,7 +4,7 @@ use Rattle.std.proofs.lemmas.List.{length-replicate}
 use Rattle.interleavings.specs.Runs.{AreOfSeats}
 use Rattle.interleavings.specs.Words.{PoolState}
 use Rattle.interleavings.proofs.PlayedLemmas.{has_played, has_reason, plays_plain, plays_so}
-use Rattle.interleavings.proofs.SpelledLemmas.{spells}
+use Rattle.files_at_rest.proofs.SpelledLemmas.{spells}
 use Rattle.interleavings.proofs.EventLemmas.{places_along}
 use Rattle.interleavings.proofs.playing.play_on.Goals as goal
 

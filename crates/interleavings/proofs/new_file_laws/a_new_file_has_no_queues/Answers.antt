@@ -1,5 +1,0 @@
-use Rattle.interleavings.proofs.NewLaws.{new_has_no_queues}
-use Rattle.interleavings.proofs.new_file_laws.a_new_file_has_no_queues.Goals as goal
-
-pub returns : goal.returns
-returns c = new_has_no_queues

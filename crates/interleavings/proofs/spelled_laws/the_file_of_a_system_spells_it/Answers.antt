@@ -1,6 +1,0 @@
--- What the pages of a file mean.
-use Rattle.interleavings.proofs.SpelledLemmas.{spells}
-use Rattle.interleavings.proofs.spelled_laws.the_file_of_a_system_spells_it.Goals as goal
-
-pub returns : goal.returns
-returns c = spells
