@@ -1,3 +1,4 @@
 pub mod AskLemmas
 pub mod RunLemmas
 pub mod LookLemmas
+pub mod CommandLemmas

@@ -6,3 +6,4 @@ pub mod Asking
 pub mod Memory
 pub mod Running
 pub mod Looking
+pub mod Commands

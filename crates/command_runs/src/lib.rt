@@ -4,6 +4,7 @@
 #![tactic(auto)]
 
 mod asker;
+mod commands;
 mod error;
 mod key;
 mod looking;
@@ -14,6 +15,7 @@ mod running;
 mod task;
 mod values;
 
+pub use commands::command_over;
 pub use error::CommandError;
 pub use key::queue_name;
 pub use looking::{Form, Look, info_on, look_on};

@@ -1,5 +1,4 @@
-pub mod CrashLemmas
 pub mod EndLemmas
 pub mod ScriptLemmas
-pub mod CommandLemmas
 pub mod ReplayLemmas
+pub use Rattle.deferred_sync.proofs as of_deferred_sync

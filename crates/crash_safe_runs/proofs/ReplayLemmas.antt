@@ -17,10 +17,10 @@ use Rattle.replays.specs.Texts.{Effects, IsPlayed, IsUnopened, LeavesFault, Play
 use Rattle.schedules.specs.Schedules.{schedule_of}
 use Rattle.schedules.specs.declared.event.Event.{Event}
 use Rattle.crash_safe_runs.specs.Concluding.{Concludes, fault_of, is_to_commit, is_well}
-use Rattle.crash_safe_runs.specs.Crash.{Pages}
+use Rattle.deferred_sync.specs.Crash.{Pages}
 use Rattle.crash_safe_runs.specs.Replays.{IsReplayedOver, ReplaysOver}
 use Rattle.crash_safe_runs.specs.Scripts.{IsDone}
-use Rattle.crash_safe_runs.proofs.CrashLemmas.{before_or_after, only_before}
+use Rattle.deferred_sync.proofs.CrashLemmas.{before_or_after, only_before}
 use Rattle.crash_safe_runs.proofs.EndLemmas.{alone_unwell, committable, none_told, not_committable, replies_well, well_told}
 use Rattle.crash_safe_runs.proofs.ScriptLemmas.{carried, done_to, is_true, lent_before, unopened, unrun}
 

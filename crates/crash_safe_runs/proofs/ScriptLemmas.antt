@@ -16,9 +16,9 @@ use Rattle.replays.specs.Runs.{EndsWell}
 use Rattle.replays.specs.Serves.{IsRunOn, RunsOn}
 use Rattle.replays.specs.Texts.{Effects, IsUnopened}
 use Rattle.crash_safe_runs.specs.Concluding.{Concludes, IsAbandoned, fault_of, is_to_commit, is_well}
-use Rattle.crash_safe_runs.specs.Crash.{Pages}
+use Rattle.deferred_sync.specs.Crash.{Pages}
 use Rattle.crash_safe_runs.specs.Scripts.{IsDone, IsRunOver, IsToldFile, IsUnrun, RunsOver, effects_on}
-use Rattle.crash_safe_runs.proofs.CrashLemmas.{before_or_after, only_before}
+use Rattle.deferred_sync.proofs.CrashLemmas.{before_or_after, only_before}
 use Rattle.crash_safe_runs.proofs.EndLemmas.{alone_unwell, committable, ends_failed, ends_none, lines_well, none_told, not_committable, well_told}
 
 -- what is done to the pages, and printed

@@ -1,6 +1,4 @@
-pub mod Crash
 pub mod Concluding
 pub mod Scripts
 pub mod Replays
-pub mod Commands
 pub use Rattle.deferred_sync.specs as deferred_sync

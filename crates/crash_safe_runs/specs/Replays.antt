@@ -11,7 +11,7 @@ use Rattle.queue_model.specs.declared.entry.Entry.{Entry}
 use Rattle.replays.specs.Texts.{Effects, IsPlayed}
 use Rattle.schedules.specs.Schedules.{schedule_of}
 use Rattle.schedules.specs.declared.event.Event.{Event}
-use Rattle.crash_safe_runs.specs.Crash.{LeavesBeforeOrAfter, Pages}
+use Rattle.deferred_sync.specs.Crash.{LeavesBeforeOrAfter, Pages}
 use Rattle.crash_safe_runs.specs.Scripts.{IsDone, IsUnrun}
 
 -- the file of the system after the journal, where all answers were told

@@ -12,7 +12,7 @@ use Rattle.msgq_cli.specs.declared.ending.Ending.{Ending}
 use Rattle.replays.specs.PlainRuns.{IsPlainRun}
 use Rattle.replays.specs.Texts.{Effects}
 use Rattle.crash_safe_runs.specs.Concluding.{is_well}
-use Rattle.crash_safe_runs.specs.Crash.{LeavesBeforeOrAfter, Pages}
+use Rattle.deferred_sync.specs.Crash.{LeavesBeforeOrAfter, Pages}
 
 -- what is done to the pages of a device, and printed
 abbrev pub effects_on : {P : Type 0} → (device then : DeviceState P) → (old new : OutputState) → (untold : Bool) →

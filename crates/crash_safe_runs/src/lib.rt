@@ -1,15 +1,13 @@
-//! Scripts, replays and commands of a shell over a file and its journal: cut off at any moment,
-//! each leaves the file of before, or that of after, whose answers were all printed.
+//! Scripts and replays over a file and its journal: cut off at any moment, each leaves the file of
+//! before, or that of after, whose answers were all printed.
 
 #![tactic(auto)]
 
-mod commands;
 mod concluding;
 mod files;
 mod replaying;
 mod scripts;
 
-pub use commands::command_over;
 pub use concluding::conclude;
 pub use deferred_sync;
 pub use files::{Sources, replay_file, run_file};

@@ -1,1 +1,2 @@
 mod SinceLemmas
+pub mod CrashLemmas

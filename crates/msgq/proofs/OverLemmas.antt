@@ -14,9 +14,9 @@ use Rattle.service_runs.specs.Beside.{HasReason, RunsBeside, RunsBesideOn, origi
 use Rattle.replays.specs.Replays.{EndsWith}
 use Rattle.replays.specs.Texts.{Effects}
 use Rattle.crash_safe_runs.specs.Concluding.{Concludes, fault_of, is_to_commit}
-use Rattle.crash_safe_runs.specs.Crash.{Pages}
+use Rattle.crash_safe_runs.specs.deferred_sync.Crash.{Pages}
 use Rattle.crash_safe_runs.specs.Scripts.{IsDone, IsUnrun}
-use Rattle.crash_safe_runs.proofs.CrashLemmas.{before_or_after, only_before}
+use Rattle.crash_safe_runs.proofs.of_deferred_sync.CrashLemmas.{before_or_after, only_before}
 use Rattle.crash_safe_runs.proofs.EndLemmas.{alone_unwell, committable, lines_well, none_told, not_committable, well_told}
 use Rattle.crash_safe_runs.proofs.ReplayLemmas.{device_failed, none_some, some_is}
 use Rattle.crash_safe_runs.proofs.ScriptLemmas.{carried, done_to, is_true, lent_before, unopened, unrun}

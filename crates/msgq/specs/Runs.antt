@@ -1,6 +1,6 @@
 -- A script of several seats that is run over a file and its journal. docs/SCRIPTS.md, "Runs".
 use Rattle.std.specs.Prelude.{◌≡◌, ◌⊎◌, ℕ, Bool, true, false, IsTrue, List}
-use Rattle.crash_safe_runs.specs.Crash.{LeavesBeforeOrAfter, Pages}
+use Rattle.crash_safe_runs.specs.deferred_sync.Crash.{LeavesBeforeOrAfter, Pages}
 use Rattle.crash_safe_runs.specs.Scripts.{IsDone, IsUnrun, RunsOver}
 use Rattle.crash_safe_runs.specs.deferred_sync.safe_device.Left.{Left}
 use Rattle.msgq_cli.specs.Scripts.{Parts}

@@ -10,8 +10,8 @@ use crate::trouble::{Awaited, Errand, Trouble};
 use crate::waiting::{MOST_LOOKS, Stamp, TURN, await_write, moment, patience_of, spent_since};
 use command_runs::{
     CallerIds, Deed, Form, Look, Patience, Printer, Ran, ReceiveTask, SendTask, ShellTask,
+    command_over,
 };
-use crash_safe_runs::command_over;
 use msgq_cli::{Plain, complain};
 use queue_commands::{Command, ExitStatus, NewQueue, QueueName, Receiving, Request, Sending};
 use queue_model::Caller;

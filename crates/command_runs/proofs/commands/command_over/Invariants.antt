@@ -1,6 +1,6 @@
 -- The beginning is that of the device as it was lent.
 use Rattle.deferred_sync.specs.Deferred.{start_of}
-use Rattle.crash_safe_runs.proofs.commands.command_over.Given as goal
+use Rattle.command_runs.proofs.commands.command_over.Given as goal
 
 abbrev pub ghosts-command_since : goal.ghosts-command_since
 ghosts-command_since g a = record {

@@ -11,10 +11,9 @@ use Rattle.deferred_sync.specs.safe_device.Left.{Left}
 use Rattle.interleavings.specs.LoneKernelWords.{Caller}
 use Rattle.interleavings.specs.interleaving_core.declared.fault.CloseFault.TheVariants as closes
 use Rattle.queue_commands.specs.declared.request.Request.{Request}
-use Rattle.crash_safe_runs.specs.Commands.{AsksOver, ConcludesAs, IsFileAfterCommand, told_of}
-use Rattle.crash_safe_runs.specs.Crash.{Pages}
-use Rattle.crash_safe_runs.proofs.CrashLemmas.{before_or_after, only_before}
-use Rattle.crash_safe_runs.proofs.ScriptLemmas.{is_true}
+use Rattle.command_runs.specs.Commands.{AsksOver, ConcludesAs, IsFileAfterCommand, told_of}
+use Rattle.deferred_sync.specs.Crash.{Pages}
+use Rattle.deferred_sync.proofs.CrashLemmas.{before_or_after, only_before}
 
 module _ (c : Caller) (r : Request) (before : Pages) (old new : Option (List ℕ)) (was faults later : ℕ) where
   -- it is from the one system of the file that its text was printed, and the device has its file
@@ -63,6 +62,10 @@ not_done : (due : Bool) (came : Result (Unit {0}) CommandError) → (due && is_o
 not_done true (Ok done) not due ok = cc
 not_done true (Err error) not due ok = cc
 not_done false came not due ok = cc
+
+is_true : (b : Bool) → IsTrue b → b ≡ true
+is_true true is = refl
+is_true false is = absurd cc
 
 -- one that is done has asked for it
 pub due_of : (due : Bool) (came : Result (Unit {0}) CommandError) → OnOk came (IsTrue due) → is_ok came ≡ true →

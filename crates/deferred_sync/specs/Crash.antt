@@ -2,8 +2,8 @@
 -- those that recovery gives.
 use Rattle.std.specs.Prelude.{◌≡◌, ◌⊎◌, ℕ, List}
 use Rattle.deferred_sync.specs.Deferred.{LeavesSince}
-use Rattle.deferred_sync.specs.safe_device.Crash.{Keeps}
-use Rattle.deferred_sync.specs.safe_device.Left.{Left, alone, recovered}
+use Rattle.safe_device.specs.Crash.{Keeps}
+use Rattle.safe_device.specs.Left.{Left, alone, recovered}
 
 -- the pages of a file
 abbrev pub Pages : Type 0

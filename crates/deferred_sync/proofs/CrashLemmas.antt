@@ -1,10 +1,10 @@
 -- What a crash leaves of a device that is committed, or abandoned.
 use Rattle.std.proofs.Common.{ℕ, ◌≡◌, inl, inr, ⊎_elim, IsTrue, sym, subst, Bool, true}
 use Rattle.deferred_sync.specs.Deferred.{Commits, LeavesSince, Start}
-use Rattle.deferred_sync.specs.safe_device.Device.{DeviceState}
-use Rattle.deferred_sync.specs.safe_device.Left.{Left, alone}
-use Rattle.deferred_sync.specs.safe_device.Safe.{IsEither, StandsFor}
-use Rattle.crash_safe_runs.specs.Crash.{IsBeforeOr, LeavesBeforeOrAfter, Pages}
+use Rattle.safe_device.specs.Device.{DeviceState}
+use Rattle.safe_device.specs.Left.{Left, alone}
+use Rattle.safe_device.specs.Safe.{IsEither, StandsFor}
+use Rattle.deferred_sync.specs.Crash.{IsBeforeOr, LeavesBeforeOrAfter, Pages}
 
 module _ {P : Type 0} (moment : P → ℕ) (left_since : P → ℕ → Left → Type 0) (may_leave : P → Left → Type 0) where
   module _ (start : Start) (left : ℕ → Left → Type 0) where

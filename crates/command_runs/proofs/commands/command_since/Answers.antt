@@ -3,10 +3,10 @@ use Rattle.std.proofs.Common.{◌≡◌, ◌∙◌, ap, refl, subst, sym, true}
 use Rattle.std.specs.Prelude.{◌&&◌, is_ok}
 use Rattle.command_runs.specs.Running.{IfUnwritten, RunsOn, seen}
 use Rattle.deferred_sync.specs.Deferred.{DeferredState, Start, start_of}
-use Rattle.crash_safe_runs.specs.Commands.{IsFileOfCommand}
-use Rattle.crash_safe_runs.specs.Crash.{LeavesBeforeOrAfter}
-use Rattle.crash_safe_runs.proofs.CommandLemmas.{due_of, leaves_over, runs_over, synced_over, untold_over, unwritten_over}
-use Rattle.crash_safe_runs.proofs.commands.command_since.Goals as goal
+use Rattle.command_runs.specs.Commands.{IsFileOfCommand}
+use Rattle.deferred_sync.specs.Crash.{LeavesBeforeOrAfter}
+use Rattle.command_runs.proofs.CommandLemmas.{due_of, leaves_over, runs_over, synced_over, untold_over, unwritten_over}
+use Rattle.command_runs.proofs.commands.command_since.Goals as goal
 
 pub returns-clause-honest : goal.returns-clause-honest
 returns-clause-honest g c =

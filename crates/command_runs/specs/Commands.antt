@@ -11,7 +11,7 @@ use Rattle.interleavings.specs.LoneKernelWords.{Caller, IsFileOf, State, restart
 use Rattle.interleavings.specs.interleaving_core.declared.fault.CloseFault.TheVariants.{Device}
 use Rattle.queue_commands.specs.Commands.{AsksAs}
 use Rattle.queue_commands.specs.declared.request.Request.{Request}
-use Rattle.crash_safe_runs.specs.Crash.{LeavesBeforeOrAfter, Pages}
+use Rattle.deferred_sync.specs.Crash.{LeavesBeforeOrAfter, Pages}
 
 -- from the one system whose file there was the text of the command was printed, and these pages are the file of the
 -- system that its calls left

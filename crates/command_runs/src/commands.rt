@@ -2,21 +2,22 @@
 
 ghost use Rattle.std.specs.Prelude.{◌≡◌, ◌&&◌, IsTrue, OnOk, is_ok, true};
 ghost use Rattle.command_runs.specs.Running.{IfUnprinted, IfUnwritten, RunsOn, seen};
-ghost use Rattle.crash_safe_runs.specs.Commands.{AsksOver, ConcludesAs, told_of};
-ghost use Rattle.crash_safe_runs.specs.deferred_sync.Deferred.{IsLent, IsSettled, start_of};
+ghost use Rattle.command_runs.specs.Commands.{AsksOver, ConcludesAs, told_of};
+ghost use Rattle.deferred_sync.specs.Deferred.{IsLent, IsSettled, start_of};
 
-use command_runs::queue_commands::Request;
-use command_runs::{CommandError, Printer, Ran, run_on};
+use crate::error::CommandError;
+use crate::printing::Printer;
+use crate::running::{Ran, run_on};
 use deferred_sync::safe_device::{PagePair, SafeDevice};
 use deferred_sync::{Beginning, DeferredSync, a_settled_device_is_lent};
 use interleavings::interleaving_core::CloseFault;
+use queue_commands::Request;
 use queue_model::Caller;
 use std::alloc::Global;
 use std::io::Write;
 use std::marker::Brand;
 
-/// Runs a command of a caller on the file of a device, and prints its text, as
-/// `command_runs::run_on` does.
+/// Runs a command of a caller on the file of a device, and prints its text, as `run_on` does.
 ///
 /// Cut off at any moment, it leaves what the next opening finds as the file of before, or, where
 /// its text was printed, as that of the system which its calls left; once it is done, only as the
