@@ -15,7 +15,7 @@ use Rattle.xsi_calls.proofs.GoLemmas.{asking, at_end, at_undecided, with_stage}
 use Rattle.xsi_calls.specs.declared.conclusion.Conclusion.{Conclusion}
 use Rattle.xsi_calls.specs.Stages.{Stage, Undecided, Paying}
 use Rattle.xsi_calls.specs.Words.{Agrees, AreNames, Call, Caller, CallWrites, CanDecide, Change, Ended, Fault, GoesOn, IsBehind, IsCalm, IsUndecided, KeepsUndecided, Lock, Moved, OnlyWrites, PaymentStage, Plan, PoolState, Progress, QuestionsView, RecordKey, Records, Settled, State, Store, Table, UndecidedCall, World, begun_payment, caller_of, has_no_room, is_fault, its_plan, owes_now, payment_facts, payment_left, payment_locks, row_of, store_of, trials_of, undecided_locks, undecided_owes, with_row, world}
-use Rattle.xsi_calls.specs.Payments.{begun_behind}
+use Rattle.call_writes.specs.Payments.{begun_behind}
 use Rattle.step_rules.specs.declared.kind.Kind.TheVariants.{Decide}
 use Rattle.xsi_calls.specs.Concluding.{IsRightConclusion, conclusion_by}
 use Rattle.xsi_calls.specs.Machine.{CallView, IsCalmAt, call_turn, is_undecided}

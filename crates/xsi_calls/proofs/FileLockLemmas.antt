@@ -33,14 +33,14 @@ use Rattle.record_file.specs.stale_search.declared.place.SearchPlace.{SearchPlac
 use Rattle.record_file.specs.stale_search.declared.place.SearchPlace.TheVariants as search_at
 use Rattle.xsi_calls.specs.FileLocks.{HoldTheirFileLocks, HoldsOfFile, bucket_directory, directory_under, insert_directory, merge_directory, operation_directory, search_directory, second_directory, approach_directory}
 use Rattle.xsi_calls.specs.Machine.{CallView, access_under_way, asking_access, call_locks, locks_at as call_locks_at, under_way_at}
-use Rattle.xsi_calls.specs.PaymentStages as payments
-use Rattle.xsi_calls.specs.Payments.{payment_access, payment_locks}
+use Rattle.call_writes.specs.PaymentStages as payments
+use Rattle.call_writes.specs.Payments.{payment_access, payment_locks}
 use Rattle.xsi_calls.specs.Questions.{QuestionsView, locks_behind, question_access}
 use Rattle.xsi_calls.specs.Stages.{Stage, Undecided, Paying, Releasing}
 use Rattle.xsi_calls.specs.Undecided.{Trials, UndecidedCall, locks_in}
-use Rattle.xsi_calls.specs.Views.{locks_under}
-use Rattle.xsi_calls.specs.WriteWords.{AccessView, Lock}
-use Rattle.xsi_calls.specs.PaymentWords.{Work, sweep_access, sweep_locks}
+use Rattle.call_writes.specs.Views.{locks_under}
+use Rattle.call_writes.specs.WriteWords.{AccessView, Lock}
+use Rattle.call_writes.specs.PaymentWords.{Work, sweep_access, sweep_locks}
 use Rattle.xsi_calls.specs.declared.question.Question.{Question}
 
 -- ---- the locks of an access are behind the names

@@ -8,7 +8,7 @@ use Rattle.step_rules.specs.Runs.{MovesAlong, Stop, stops_in}
 use Rattle.step_rules.specs.declared.kind.Kind.{Kind}
 use Rattle.step_rules.specs.declared.progress.Progress.{Progress}
 use Rattle.step_rules.specs.declared.progress.Progress.TheVariants.{Moved}
-use Rattle.xsi_calls.specs.QuestionRuns.{AskStep, Promise, WritesAtOnce, stops_through}
+use Rattle.call_writes.specs.WriteRuns.{AskStep, Promise, WritesAtOnce, stops_through}
 use Rattle.xsi_calls.specs.QuestionWords.{IsSeat, Lock, PoolState, Table, row_of}
 use Rattle.xsi_calls.proofs.QuestionRunLemmas.{counted_in, way_in}
 

@@ -1,7 +1,7 @@
 -- What a call has come to at its Decide. docs/STEPS.md, "Calls".
 use Rattle.std.specs.Prelude.{ℕ, ◌≡◌, ◌≢◌, Bool, Option, Some, None, if◌then◌else◌}
 use Rattle.std.specs.List.{All, Contains}
-use Rattle.xsi_calls.specs.declared.writes.CallWrites.{CallWrites}
+use Rattle.call_writes.specs.declared.writes.CallWrites.{CallWrites}
 use Rattle.call_decisions.specs.declared.settled.Settled.TheVariants.{Sweeps}
 use Rattle.xsi_calls.specs.declared.decided.Decided.{Decided}
 use Rattle.xsi_calls.specs.Undecided.{Trials, UndecidedCall, its_plan, trials_of}

@@ -22,8 +22,8 @@ use Rattle.record_file.specs.stale_search.declared.place.SearchPlace.{SearchPlac
 use Rattle.record_file.specs.stale_search.declared.place.SearchPlace.TheVariants as search_at
 use Rattle.record_file.specs.AccessWords.{HasNoFileLock}
 use Rattle.xsi_calls.specs.Machine.{CallView, access_under_way, call_locks}
-use Rattle.xsi_calls.specs.Views.{locks_under}
-use Rattle.xsi_calls.specs.WriteWords.{AccessView}
+use Rattle.call_writes.specs.Views.{locks_under}
+use Rattle.call_writes.specs.WriteWords.{AccessView}
 
 -- ---- the directory
 

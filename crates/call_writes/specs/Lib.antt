@@ -1,0 +1,13 @@
+pub mod WriteWords
+pub mod Dues
+pub mod Views
+pub mod Carrying
+pub mod CarrySteps
+pub mod WriteRuns
+pub mod MakeSteps
+pub mod WriteLaws
+pub mod PaymentWords
+pub mod PaymentStages
+pub mod Payments
+pub mod Paying
+pub mod PaymentLaws
