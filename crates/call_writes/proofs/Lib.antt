@@ -20,3 +20,6 @@ pub mod RecordLemmas
 pub mod PaymentBeginLemmas
 pub mod PaymentDecidedLemmas
 pub mod OwnLemmas
+pub use Rattle.call_decisions.proofs as of_call_decisions
+pub use Rattle.record_file.proofs as of_record_file
+pub use Rattle.xsi_remove.proofs as of_xsi_remove

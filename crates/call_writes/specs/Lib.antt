@@ -11,3 +11,6 @@ pub mod PaymentStages
 pub mod Payments
 pub mod Paying
 pub mod PaymentLaws
+pub use Rattle.call_decisions.specs as call_decisions
+pub use Rattle.record_file.specs as record_file
+pub use Rattle.xsi_remove.specs as xsi_remove

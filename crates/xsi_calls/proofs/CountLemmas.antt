@@ -8,9 +8,9 @@ use Rattle.file_pages.specs.declared.fault.FileFault.{FileFault}
 use Rattle.page_locks.proofs.TableLemmas.{row_of-same}
 use Rattle.page_locks.specs.Locks.{is_same, kind_of, lock_of}
 use Rattle.page_locks.specs.declared.lock.LockName.TheVariants as names
-use Rattle.record_file.proofs.AskLemmas.{GrantsPage, grants_pages}
-use Rattle.record_file.specs.AccessSteps.{Rests}
-use Rattle.record_file.specs.Accesses.{IsOfKind}
+use Rattle.call_writes.proofs.of_record_file.AskLemmas.{GrantsPage, grants_pages}
+use Rattle.call_writes.specs.record_file.AccessSteps.{Rests}
+use Rattle.call_writes.specs.record_file.Accesses.{IsOfKind}
 use Rattle.step_rules.specs.Turns.{TurnsAt}
 use Rattle.step_rules.specs.declared.kind.Kind.{Kind}
 use Rattle.step_rules.specs.declared.kind.Kind.TheVariants as kinds

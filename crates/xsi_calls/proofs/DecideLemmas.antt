@@ -1,12 +1,12 @@
 -- The Decide of a call, after the last step of what it asks and tries.
 use Rattle.std.proofs.Common.{◌≡◌, refl, sym, ap, ◌∙◌, subst, ℕ, Bool, true, false, not, List, [], Option, Some, None, IsTrue, ◌≤◌, arith}
 use Rattle.std.proofs.lemmas.Bool.{true≢false}
-use Rattle.call_decisions.specs.declared.settled.Settled.TheVariants as settlements
+use Rattle.call_writes.specs.call_decisions.declared.settled.Settled.TheVariants as settlements
 use Rattle.step_rules.specs.Known.{AllKnown}
 use Rattle.step_rules.specs.Searching.{WalksTo}
 use Rattle.step_rules.specs.Sound.{IsSoundWorld}
 use Rattle.file_pages.specs.declared.fault.FileFault.TheVariants.{Failed}
-use Rattle.xsi_remove.proofs.FreshLemmas.{failed_cause}
+use Rattle.call_writes.proofs.of_xsi_remove.FreshLemmas.{failed_cause}
 use Rattle.xsi_calls.proofs.UndecidedFewLemmas.{undecided_names}
 use Rattle.xsi_calls.proofs.ReadyLemmas.{no_question}
 use Rattle.xsi_calls.proofs.Names.{Due, Question, begun_at, locks_behind, locks_under, names_in, questions_facts, AccessView, FileFault, IsDecidedIn, IsFiled, IsTrying, IsUndecidedIn, Trials, MOST_PAYMENT_STEPS, has_few, is_full, locks_in, owes, owes_in, trials_in, CanDecideIn, IsCalmIn}

@@ -69,6 +69,6 @@ pub mod FileLockLemmas
 pub mod LawLemmas
 pub mod AimLemmas
 pub mod FewLemmas
-pub use Rattle.call_decisions.proofs as of_call_decisions
+pub use Rattle.call_writes.proofs.of_call_decisions
 pub use Rattle.step_rules.proofs as of_step_rules
 pub use Rattle.call_writes.proofs as of_call_writes

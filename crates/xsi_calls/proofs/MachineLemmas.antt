@@ -16,7 +16,7 @@ use Rattle.xsi_calls.specs.Deciding.{IsDecidedIn}
 use Rattle.xsi_calls.specs.Machine.{CallView, call_locks, is_paying, is_searching, is_undecided, undecided_searches}
 use Rattle.xsi_calls.specs.Parts.{IsOneMachine, IsToPay, asked_with, conclusion_under, decision_by, payment_under, paying, question_under, tried_by, tried_under, trials_for, undecided_with}
 use Rattle.call_writes.specs.PaymentStages as stages
-use Rattle.call_writes.specs.PaymentWords.{Due}
+use Rattle.call_writes.specs.declared.due.Due.{Due}
 use Rattle.xsi_calls.specs.QuestionSteps.{BeginsNext, MakesQuestions, is_blocked}
 use Rattle.call_writes.specs.MakeSteps.{MakesWrites}
 use Rattle.xsi_calls.specs.Questions.{has_asked, is_done, question_searches, questions_locks}

@@ -18,7 +18,7 @@ use Rattle.xsi_calls.proofs.CounterLemmas.{paid_counter}
 use Rattle.xsi_calls.proofs.GoLemmas.{at_end, with_stage}
 use Rattle.xsi_calls.specs.Words.{AreNames, Blocked, Call, Caller, Change, Ended, Fault, IsPaid, IsPaying, IsReady, IsSeat, Known, Lock, MakesPayment, Moved, NearsOrSpares, OnlyWrites, PaymentStage, Pays, Plan, PoolState, Progress, QuestionsView, RecordKey, Records, Sees, State, Store, Table, Turn, UndecidedCall, World, is_fault, its_plan, TrialLacksRoom, trials_of, payment_left, payment_locks, payment_turn, row_of, store_of, with_row, world}
 use Rattle.call_writes.specs.Payments.{payment_access}
-use Rattle.xsi_remove.specs.UnderWay.{StepsUnderWay}
+use Rattle.call_writes.specs.xsi_remove.UnderWay.{StepsUnderWay}
 use Rattle.xsi_calls.specs.Machine.{CallView, call_access, call_facts, call_left, call_locks, is_paying}
 use Rattle.xsi_calls.specs.Calling.{IsPayingCall, IsReleasing}
 use Rattle.xsi_calls.specs.CallSteps.{KeepsStage, LeavesStage, MakesCall, MakesRelease, StepsCall, is_end}

@@ -6,7 +6,8 @@ use Rattle.call_writes.specs.PaymentStages.{Stage}
 use Rattle.call_writes.specs.PaymentStages as stages
 use Rattle.call_writes.specs.MakeSteps.{MakesWrites}
 use Rattle.xsi_calls.specs.PaySteps.{MakesPayment}
-use Rattle.call_writes.specs.PaymentWords.{CallWrites, Moved, Plan, PoolState, RecordKey, Table}
+use Rattle.call_writes.specs.PaymentWords.{Moved, Plan, PoolState, RecordKey, Table}
+use Rattle.call_writes.specs.declared.writes.CallWrites.{CallWrites}
 use Rattle.call_writes.specs.Payments.{payment_access}
 use Rattle.call_writes.specs.WriteRuns.{WritesAtOnce}
 use Rattle.call_writes.specs.Views.{writes_search}

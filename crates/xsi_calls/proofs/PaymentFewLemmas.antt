@@ -6,14 +6,15 @@ use Rattle.call_writes.proofs.WriteNames.{has_few_steps}
 use Rattle.xsi_calls.specs.stale_search.Steps.{Sees}
 use Rattle.call_writes.specs.WriteWords.{MOST_STEPS}
 use Rattle.xsi_inquiry.specs.declared.write.TheConstants.{MAX_WRITES}
-use Rattle.xsi_remove.specs.SweepSteps.{turns_of}
-use Rattle.xsi_remove.specs.Words.{MAX_MESSAGES}
-use Rattle.xsi_remove.specs.Sweeps.{DELETE_STEPS, TURN_STEPS, deeds_left}
-use Rattle.xsi_remove.specs.declared.work.Deed.{Deed}
-use Rattle.xsi_remove.specs.declared.work.Deed.TheVariants.{Reading, DeletingMessage, DeletingType}
+use Rattle.call_writes.specs.xsi_remove.SweepSteps.{turns_of}
+use Rattle.call_writes.specs.xsi_remove.Words.{MAX_MESSAGES}
+use Rattle.call_writes.specs.xsi_remove.Sweeps.{DELETE_STEPS, TURN_STEPS, deeds_left}
+use Rattle.call_writes.specs.xsi_remove.declared.work.Deed.{Deed}
+use Rattle.call_writes.specs.xsi_remove.declared.work.Deed.TheVariants.{Reading, DeletingMessage, DeletingType}
 use Rattle.call_writes.specs.PaymentStages.{Stage}
 use Rattle.call_writes.specs.PaymentStages as stages
-use Rattle.call_writes.specs.PaymentWords.{Change, Lock, Plan, PoolState, RecordKey, Records, Table, Work, Writing, store_of, sweep_facts, sweep_left, without_swept}
+use Rattle.call_writes.specs.PaymentWords.{Change, Lock, Plan, PoolState, RecordKey, Records, Table, Work, store_of, sweep_facts, sweep_left, without_swept}
+use Rattle.call_writes.specs.declared.due.Due.TheVariants.{Writing}
 use Rattle.call_writes.specs.Payments.{payment_left}
 use Rattle.call_writes.specs.Paying.{IsPaying}
 use Rattle.call_writes.proofs.PaymentDecidedLemmas.{few_writes}

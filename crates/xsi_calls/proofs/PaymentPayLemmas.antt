@@ -4,12 +4,13 @@ use Rattle.file_pages.specs.declared.fault.FileFault.{FileFault}
 use Rattle.xsi_calls.proofs.PartLemmas.{causes, follows, keeps, only_writes}
 use Rattle.xsi_calls.proofs.SweptLemmas.{ends_with, nears_end, nears_on, sweeps_on}
 use Rattle.xsi_calls.proofs.WrittenLemmas.{writes_on}
-use Rattle.xsi_remove.specs.SweepSteps.{IsOver}
-use Rattle.xsi_remove.specs.UnderWay.{StepsUnderWay}
+use Rattle.call_writes.specs.xsi_remove.SweepSteps.{IsOver}
+use Rattle.call_writes.specs.xsi_remove.UnderWay.{StepsUnderWay}
 use Rattle.call_writes.specs.WriteWords.{AccessView, HasEnded}
 use Rattle.call_writes.specs.PaymentStages.{Stage}
 use Rattle.call_writes.specs.PaymentStages as stages
-use Rattle.call_writes.specs.PaymentWords.{RecordKey, PoolState, Table, Lock, Change, store_of, IsReady, IsSeat, NearsOrSpares, Progress, is_fault, Plan, Records, CallWrites, Work, sweep_access}
+use Rattle.call_writes.specs.PaymentWords.{RecordKey, PoolState, Table, Lock, Change, store_of, IsReady, IsSeat, NearsOrSpares, Progress, is_fault, Plan, Records, Work, sweep_access}
+use Rattle.call_writes.specs.declared.writes.CallWrites.{CallWrites}
 use Rattle.call_writes.specs.Payments.{payment_access, payment_left}
 use Rattle.call_writes.specs.Paying.{IsPaying}
 use Rattle.xsi_calls.specs.PaySteps.{Goes, HasFailed, MakesPayment, Pays, StepsPart}

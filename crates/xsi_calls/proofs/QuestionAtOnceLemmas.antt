@@ -6,10 +6,10 @@ use Rattle.page_locks.proofs.TableLemmas.{row_of-same}
 use Rattle.page_locks.specs.Locks.{lock_of}
 use Rattle.page_locks.specs.declared.lock.LockKind.TheVariants.{Read}
 use Rattle.page_locks.specs.declared.lock.LockName.TheVariants.{Directory, Page}
-use Rattle.record_file.specs.AccessSteps.{MakesAccess}
-use Rattle.record_file.specs.AccessRuns.{FindsAtOnce, access_at, access_done}
-use Rattle.record_file.specs.stale_search.declared.place.SearchPlace.{SearchPlace}
-use Rattle.record_file.specs.stale_search.declared.place.SearchPlace.TheVariants as places
+use Rattle.call_writes.specs.record_file.AccessSteps.{MakesAccess}
+use Rattle.call_writes.specs.record_file.AccessRuns.{FindsAtOnce, access_at, access_done}
+use Rattle.call_writes.specs.record_file.stale_search.declared.place.SearchPlace.{SearchPlace}
+use Rattle.call_writes.specs.record_file.stale_search.declared.place.SearchPlace.TheVariants as places
 use Rattle.step_rules.specs.declared.kind.Kind.{Kind}
 use Rattle.step_rules.specs.declared.kind.Kind.TheVariants as kinds
 use Rattle.xsi_calls.specs.declared.question.Question.{Question}

@@ -1,11 +1,12 @@
 -- What of a call is under way in its room.
 use Rattle.std.proofs.Common.{◌≡◌, refl, ap, ◌∙◌, subst, ℕ, Bool, true, false, Option, Some, None, IsSome}
-use Rattle.call_decisions.specs.declared.settled.Settled.TheVariants as settlements
+use Rattle.call_writes.specs.call_decisions.declared.settled.Settled.TheVariants as settlements
 use Rattle.xsi_inquiry.specs.declared.verdict.Verdict.TheVariants as verdicts
 use Rattle.xsi_calls.specs.declared.conclusion.Conclusion.{Conclusion}
 use Rattle.xsi_calls.specs.declared.conclusion.Conclusion.TheVariants as conclusions
 use Rattle.xsi_calls.specs.Concluding.{conclusion_by}
-use Rattle.call_writes.specs.PaymentWords.{Due, RecordKey, Settled, Work, begun_sweep}
+use Rattle.call_writes.specs.PaymentWords.{RecordKey, Settled, Work, begun_sweep}
+use Rattle.call_writes.specs.declared.due.Due.{Due}
 use Rattle.call_writes.specs.Payments.{begun_behind, begun_payment}
 use Rattle.xsi_calls.specs.declared.part.Part.{Part}
 use Rattle.xsi_calls.specs.declared.part.Part.TheVariants as parts

@@ -3,7 +3,7 @@ use Rattle.std.proofs.Common.{◌≡◌, refl, sym, ap, ◌∙◌, subst, ℕ, B
 use Rattle.std.specs.List.{Contains}
 use Rattle.std.specs.Option.{is_some}
 use Rattle.std.specs.Prelude.{option_map, slice_get}
-use Rattle.call_decisions.specs.Anything.{decided_of}
+use Rattle.call_writes.specs.call_decisions.Anything.{decided_of}
 use Rattle.call_writes.specs.declared.deed.Deed.TheVariants as deeds
 use Rattle.call_writes.specs.Views.{is_full_at}
 use Rattle.call_writes.specs.declared.due.Due.TheVariants.{Undoing, Writing}

@@ -1,7 +1,7 @@
 -- Words of the crates below, under one name for the proofs of this one.
-pub use Rattle.call_decisions.specs.Asked.{few_of}
-pub use Rattle.call_decisions.proofs.SettleLemmas.{settles, tries_rightly}
-pub use Rattle.call_decisions.specs.Laws.{CanTry}
+pub use Rattle.call_writes.specs.call_decisions.Asked.{few_of}
+pub use Rattle.call_writes.proofs.of_call_decisions.SettleLemmas.{settles, tries_rightly}
+pub use Rattle.call_writes.specs.call_decisions.Laws.{CanTry}
 pub use Rattle.xsi_calls.proofs.QuestionHeldLemmas.{given_back, in_order}
 pub use Rattle.xsi_calls.proofs.QuestionNames.{WalksTo, take_in_order, write_under_names}
 pub use Rattle.xsi_calls.proofs.LeftLemmas.{few_searches}

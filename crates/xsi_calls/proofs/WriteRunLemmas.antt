@@ -3,7 +3,7 @@ use Rattle.std.proofs.Common.{◌≡◌, ℕ, Bool, List, [], ◌∷◌, ap, sym
 use Rattle.page_locks.proofs.ChangeLemmas.{IsSeat-with_row}
 use Rattle.page_locks.proofs.TableLemmas.{row_of-same}
 use Rattle.page_locks.specs.Table.{with_row}
-use Rattle.record_file.specs.stale_search.SearchRuns.{At, at}
+use Rattle.call_writes.specs.record_file.stale_search.SearchRuns.{At, at}
 use Rattle.step_rules.specs.Runs.{MovesAlong, Stop, stops_in}
 use Rattle.step_rules.specs.declared.kind.Kind.{Kind}
 use Rattle.step_rules.specs.declared.progress.Progress.{Progress}

@@ -6,12 +6,14 @@ use Rattle.call_writes.specs.CarrySteps.{Advances, AsMade, AsTheyWere, Carries, 
 use Rattle.call_writes.specs.Dues.{IsBehind, after_deed, deed_key}
 use Rattle.call_writes.specs.declared.deed.Deed.{Deed}
 use Rattle.call_writes.specs.declared.deed.Deed.TheVariants as deeds
-use Rattle.call_writes.specs.declared.due.Due.TheVariants.{Undoing}
+use Rattle.call_writes.specs.declared.due.Due.TheVariants.{Undoing, Trying, Full, Writing}
 use Rattle.file_pages.specs.declared.fault.FileFault.{FileFault}
 use Rattle.xsi_inquiry.proofs.LeadLemmas.{same_keys}
 use Rattle.xsi_inquiry.specs.declared.write.Write.TheVariants.{Replace, Relink, Delete}
 use Rattle.call_writes.specs.PaymentStages as stages
-use Rattle.call_writes.specs.PaymentWords.{RecordKey, PoolState, Table, Lock, Change, Progress, is_fault, Owns, Plan, Records, Due, Trying, Full, Writing, CallWrites, OwnsPlan, decided_at}
+use Rattle.call_writes.specs.PaymentWords.{RecordKey, PoolState, Table, Lock, Change, Progress, is_fault, Owns, Plan, Records, OwnsPlan, decided_at}
+use Rattle.call_writes.specs.declared.due.Due.{Due}
+use Rattle.call_writes.specs.declared.writes.CallWrites.{CallWrites}
 use Rattle.call_writes.specs.Paying.{IsPayingWrites}
 use Rattle.call_writes.specs.MakeSteps.{MakesWrites}
 use Rattle.xsi_calls.specs.PaySteps.{Pays}

@@ -30,6 +30,6 @@ pub mod Calling
 pub mod CallSteps
 pub mod FileLocks
 pub mod Laws
-pub use Rattle.call_decisions.specs as call_decisions
-pub use Rattle.record_file.specs.stale_search
+pub use Rattle.call_writes.specs.call_decisions
+pub use Rattle.call_writes.specs.record_file.stale_search
 pub use Rattle.call_writes.specs as call_writes

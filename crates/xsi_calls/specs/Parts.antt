@@ -1,6 +1,6 @@
 -- What of a call is under way has one room, and the call is seen by what stands there. docs/STEPS.md, "Calls".
 use Rattle.std.specs.Prelude.{◌≡◌, Bool, true, false, Option, Some, None, Result, Ok, Err, ⊤}
-use Rattle.call_decisions.specs.Anything.{decided_of}
+use Rattle.call_writes.specs.call_decisions.Anything.{decided_of}
 use Rattle.xsi_inquiry.specs.declared.decision.Decision.{Decision}
 use Rattle.xsi_inquiry.specs.declared.decision.Decision.TheVariants.{PutOff}
 use Rattle.xsi_inquiry.specs.declared.verdict.Verdict.TheVariants as verdicts

@@ -1,6 +1,6 @@
 -- Words of the crates below, under one name.
-pub use Rattle.call_decisions.specs.Settling.{AreAlike, IsRight, Means, settled_by}
-pub use Rattle.call_decisions.specs.declared.settled.Settled.{Settled}
+pub use Rattle.call_writes.specs.call_decisions.Settling.{AreAlike, IsRight, Means, settled_by}
+pub use Rattle.call_writes.specs.call_decisions.declared.settled.Settled.{Settled}
 pub use Rattle.xsi_calls.specs.Agreeing.{Agrees}
 pub use Rattle.xsi_calls.specs.Counting.{finds_behind}
 pub use Rattle.xsi_calls.specs.QuestionRuns.{AsksAtOnce, stops_on}
@@ -15,7 +15,7 @@ pub use Rattle.call_writes.specs.Views.{IsOver, is_full, writes_facts, writes_le
 pub use Rattle.call_writes.specs.WriteWords.{Change, Known, Lock, MOST_STEPS, NearsOrSpares, OnlyWrites, Owes, Plan, PoolState, Progress, Ended, Fault, Record, RecordKey, Records, IsReady, IsSeat, Step, Store, Table, Turn, World, Writes, guard_of, is_fault, is_write, key_of, kind_of, overlaid, row_of, store_of, world}
 pub use Rattle.call_writes.specs.declared.due.Due.{Due}
 pub use Rattle.call_writes.specs.declared.due.Due.TheVariants.{Trying, Full}
-pub use Rattle.call_decisions.specs.Anything.{decided_of, locked_of}
+pub use Rattle.call_writes.specs.call_decisions.Anything.{decided_of, locked_of}
 pub use Rattle.page_locks.specs.Table.{with_row}
 pub use Rattle.page_locks.specs.declared.lock.LockKind.TheVariants.{Exclusive}
 pub use Rattle.xsi_inquiry.specs.Writing.{inserted, nothing}

@@ -1,5 +1,7 @@
 -- Words of the crates below, under one name.
-pub use Rattle.call_writes.specs.PaymentWords.{RecordKey, PoolState, Table, Lock, Change, Store, Known, Turn, row_of, store_of, Exclusive, LockName, kind_of, IsReady, IsSeat, Step, OnlyWrites, NearsOrSpares, Progress, Moved, Ended, Fault, is_fault, is_write, Call, Caller, State, guard_of, record_of, Plan, Records, Owes, OwesUnder, overlaid, Settled, AreAlike, World, world, Trying, Full, CallWrites, IsCarrying}
+pub use Rattle.call_writes.specs.PaymentWords.{RecordKey, PoolState, Table, Lock, Change, Store, Known, Turn, row_of, store_of, Exclusive, LockName, kind_of, IsReady, IsSeat, Step, OnlyWrites, NearsOrSpares, Progress, Moved, Ended, Fault, is_fault, is_write, Call, Caller, State, guard_of, record_of, Plan, Records, Owes, OwesUnder, overlaid, Settled, AreAlike, World, world, IsCarrying}
+pub use Rattle.call_writes.specs.declared.due.Due.TheVariants.{Trying, Full}
+pub use Rattle.call_writes.specs.declared.writes.CallWrites.{CallWrites}
 pub use Rattle.call_writes.specs.Payments.{IsPaid, begun_payment, owes_now, payment_facts, payment_left, payment_locks, payment_turn}
 pub use Rattle.call_writes.specs.Paying.{IsPaying}
 pub use Rattle.xsi_calls.specs.PaySteps.{KeepsPayment, MakesPayment, Pays}

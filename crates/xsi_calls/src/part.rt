@@ -11,10 +11,8 @@ use crate::conclusion::Conclusion;
 use crate::question::QuestionPlace;
 use crate::trials::TrialsPlace;
 use bucket_page::PseudoKey;
-use call_decisions::Settled;
-use call_writes::{CallWrites, Due, decide_at, decided, sweep_of};
+use call_writes::{CallWrites, Due, Settled, SweepTurns, decide_at, decided, sweep_of};
 use xsi_inquiry::Verdict;
-use xsi_remove::SweepTurns;
 
 /// What of a call is under way. Each part has an access of its own, and they come one after the
 /// other, so they share one room. It stays that of the writes from call to call as long as no step

@@ -14,8 +14,7 @@ use crate::decided::Decided;
 use crate::part::Part;
 use crate::questions::Questions;
 use crate::trials::TrialsPlace;
-use call_decisions::{Settled, decide};
-use call_writes::Due;
+use call_writes::{Due, Settled, decide};
 use queue_model::Call;
 use xsi_inquiry::{Inquiry, NotASystem};
 
