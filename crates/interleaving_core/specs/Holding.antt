@@ -4,7 +4,7 @@ use Rattle.page_locks.specs.Table.{held}
 use Rattle.page_locks.specs.declared.lock.LockName.TheVariants.{Directory, Page}
 use Rattle.xsi_calls.specs.FileLocks.{directory_under, page_under}
 use Rattle.xsi_calls.specs.Machine.{access_under_way}
-use Rattle.xsi_calls.specs.WriteWords.{AccessView}
+use Rattle.xsi_calls.specs.call_writes.WriteWords.{AccessView}
 use Rattle.interleaving_core.specs.Active.{ActiveView}
 use Rattle.interleaving_core.specs.Kernel.{KernelState, call_at}
 

@@ -4,7 +4,7 @@ use Rattle.page_locks.specs.Table.{held}
 use Rattle.page_locks.specs.declared.lock.LockKind.{LockKind}
 use Rattle.page_locks.specs.declared.lock.LockName.{LockName}
 use Rattle.page_locks.specs.declared.lock.LockName.TheVariants.{Key, Counter, Queue, Directory, Page}
-use Rattle.xsi_calls.specs.Counting.{is_to_search, last_of}
+use Rattle.xsi_calls.specs.call_writes.WriteRuns.{is_to_search, last_of}
 use Rattle.xsi_calls.specs.Machine.{is_searching}
 use Rattle.interleaving_core.specs.Active.{ActiveView}
 use Rattle.interleaving_core.specs.Counting.{CountsState, Notes}

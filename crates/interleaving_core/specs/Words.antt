@@ -10,7 +10,7 @@ pub use Rattle.queue_model.specs.declared.caller.Caller.{Caller}
 pub use Rattle.queue_model.specs.declared.entry.Entry.{Entry}
 pub use Rattle.queue_model.specs.Journal.{caller_at}
 pub use Rattle.step_rules.specs.declared.progress.Progress.{Progress}
-pub use Rattle.xsi_calls.specs.WriteWords.{StepHasCause}
+pub use Rattle.xsi_calls.specs.call_writes.WriteWords.{StepHasCause}
 pub use Rattle.xsi_calls.specs.Machine.{CallView, IsOver, answer_of_call, call_locks, conclusion_of}
 pub use Rattle.xsi_inquiry.specs.Rooms.{Roomful}
 pub use Rattle.type_chains.specs.Fits.{HasFittingCall, HasFittingCaller}

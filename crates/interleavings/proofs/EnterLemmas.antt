@@ -29,8 +29,8 @@ use Rattle.step_rules.specs.World.{World}
 use Rattle.step_rules.proofs.KindLemmas.{kind_keeps}
 use Rattle.step_rules.proofs.LockLemmas.{held-unreleased, names_eq}
 use Rattle.interleaving_core.specs.Searches.{begins_search}
-use Rattle.interleaving_core.specs.xsi_calls.Counting.{is_directory_read, is_to_search, last_of}
-use Rattle.xsi_calls.proofs.CountLemmas.{last_there}
+use Rattle.interleaving_core.specs.xsi_calls.call_writes.WriteRuns.{is_directory_read, is_to_search, last_of}
+use Rattle.xsi_calls.proofs.of_call_writes.LastLemmas.{last_there}
 
 -- ---- others
 

@@ -25,11 +25,11 @@ use Rattle.type_chains.specs.Image.{image}
 use Rattle.type_chains.specs.RecordOf.{record_of}
 use Rattle.xsi_inquiry.specs.Writing.{KeepsAll, Leads, Plan, Records, inserted}
 use Rattle.xsi_calls.proofs.HeldLemmas.{is_among}
-use Rattle.xsi_calls.specs.Dues.{owes}
+use Rattle.xsi_calls.specs.call_writes.Dues.{owes}
 use Rattle.xsi_calls.specs.Knowing.{IsTrying, standing}
 use Rattle.xsi_calls.specs.Undecided.{Trials}
 use Rattle.xsi_calls.specs.UndecidedWords.{Change, Exclusive, PoolState, QuestionsView, guard_of, kind_of, store_of, world}
-use Rattle.xsi_calls.specs.WriteWords.{StandsAt}
+use Rattle.xsi_calls.specs.call_writes.WriteWords.{StandsAt}
 use Rattle.interleavings.specs.Sizes.{bytes_of_system}
 use Rattle.interleavings.proofs.PlanLemmas.{StandsAsLong, first_ones, its_own, plan_long, stood_still}
 use Rattle.interleavings.proofs.SizeLemmas.{IsAmong, over_a_bucket}

@@ -38,12 +38,12 @@ use Rattle.xsi_calls.specs.Machine.{CallView, call_turn, turn_at}
 use Rattle.xsi_calls.specs.NameTurns.{is_lock, name_turn}
 use Rattle.xsi_calls.specs.Questions.{is_done, turn_behind, turn_of_names}
 use Rattle.xsi_calls.specs.Stages.{Stage, Undecided, Paying, Releasing}
-use Rattle.xsi_calls.specs.PaymentStages as payments
-use Rattle.xsi_calls.specs.Payments.{payment_turn}
+use Rattle.xsi_calls.specs.call_writes.PaymentStages as payments
+use Rattle.xsi_calls.specs.call_writes.Payments.{payment_turn}
 use Rattle.xsi_calls.specs.ToldNames.{IsKeyOf, OfKey}
 use Rattle.xsi_calls.specs.Undecided.{Trials, its_plan, turn_in, untried}
 use Rattle.xsi_calls.specs.UndecidedWords.{Call, Lock, Plan, QuestionsView, RecordKey, State, Store}
-use Rattle.xsi_calls.specs.Views.{access_next, turn_under, writes_turn}
+use Rattle.xsi_calls.specs.call_writes.Views.{access_next, turn_under, writes_turn}
 use Rattle.xsi_calls.specs.declared.question.Question.{Question}
 use Rattle.xsi_calls.specs.declared.turn.NameTurn.TheVariants.{GiveBack}
 use Rattle.xsi_control.specs.Asking as removes
@@ -51,7 +51,7 @@ use Rattle.xsi_control.specs.Knowing as knowing
 use Rattle.xsi_control.specs.Removing.{names_of}
 use Rattle.xsi_control.specs.declared.stage.Stage as stage
 use Rattle.xsi_control.specs.declared.stage.Stage.TheVariants as stages
-use Rattle.xsi_calls.specs.PaymentWords.{Work}
+use Rattle.xsi_calls.specs.call_writes.PaymentWords.{Work}
 
 -- where it asks for a key's name, this is so of the key
 abbrev pub AsksKey : (ℕ → Type 0) → Option Ask → Type 0

@@ -4,8 +4,8 @@ use Rattle.std.specs.Prelude.{if◌then◌else◌}
 use Rattle.std.specs.List.{All}
 use Rattle.std.proofs.lemmas.List.Elements.{All-drop, All-head, All-nil, All-push, All-tail, All-take}
 use Rattle.xsi_calls.specs.UndecidedBelow.{CanGoOn, MayGoOn, due_writes, is_same, key_of, undoing}
-use Rattle.xsi_calls.specs.declared.due.Due.{Due}
-use Rattle.xsi_calls.specs.declared.due.Due.TheVariants.{Full, Trying, Undoing, Writing}
+use Rattle.xsi_calls.specs.call_writes.declared.due.Due.{Due}
+use Rattle.xsi_calls.specs.call_writes.declared.due.Due.TheVariants.{Full, Trying, Undoing, Writing}
 use Rattle.call_decisions.proofs.OverlayLemmas.{one_local}
 use Rattle.xsi_inquiry.specs.Writing.{AreAbsent, CanAllBe, CanBe, inserted, key_written, somes, with_at, writes_of, written_by}
 use Rattle.xsi_inquiry.specs.declared.write.Write.{Write}

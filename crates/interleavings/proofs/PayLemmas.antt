@@ -1,12 +1,12 @@
 -- A plan that is carried out, and a payment, beside another seat.
 use Rattle.std.proofs.Common.{ℕ, ◌≡◌, sym, ap, ◌∙◌, subst, List, Option, Some, None, IsSome}
-use Rattle.xsi_calls.proofs.RecordLemmas.{swept_guard, without_at}
-use Rattle.xsi_calls.specs.PaymentStages as stages
-use Rattle.xsi_calls.specs.Paying.{IsPayingSweep}
-use Rattle.xsi_calls.specs.PaymentWords.{Faces, IsCarrying, Owns, Work, sweep_facts, sweep_locks, writes_facts, writes_locks}
-use Rattle.xsi_calls.specs.declared.writes.CallWrites.{CallWrites}
+use Rattle.xsi_calls.proofs.of_call_writes.RecordLemmas.{swept_guard, without_at}
+use Rattle.xsi_calls.specs.call_writes.PaymentStages as stages
+use Rattle.xsi_calls.specs.call_writes.Paying.{IsPayingSweep}
+use Rattle.xsi_calls.specs.call_writes.PaymentWords.{Faces, IsCarrying, Owns, Work, sweep_facts, sweep_locks, writes_facts, writes_locks}
+use Rattle.xsi_calls.specs.call_writes.declared.writes.CallWrites.{CallWrites}
 use Rattle.xsi_calls.specs.UndecidedBelow.{AccessView, Allows, IsUnderWay, access_key, made, purpose_of}
-use Rattle.xsi_calls.specs.declared.due.Due.{Due}
+use Rattle.xsi_calls.specs.call_writes.declared.due.Due.{Due}
 use Rattle.queue_model.specs.declared.queue.Queue.{Queue}
 use Rattle.interleavings.specs.SeatWords.{AreSameUnder, Change, IsPaying, Known, Lock, Plan, PoolState, Record, RecordKey, Records, Sees, Stage, StandsAt, State, Table, guard_of, kind_of, store_of}
 use Rattle.interleavings.specs.Beside.{HoldsNames, LeavesSeat}

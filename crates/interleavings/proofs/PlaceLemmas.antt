@@ -1,11 +1,11 @@
 -- What a call holds and owes at each of its places.
 use Rattle.std.proofs.Common.{ℕ, ◌≡◌, ap, ◌∙◌, true, List, Option, Some, None}
 use Rattle.std.specs.List.{All}
-use Rattle.interleavings.proofs.of_xsi_calls.OwnLemmas.{own_written, owes_what_it_holds, undone_own}
+use Rattle.interleavings.proofs.of_xsi_calls.of_call_writes.OwnLemmas.{own_written, owes_what_it_holds, undone_own}
 use Rattle.interleavings.proofs.SeesLemmas.{names_aside}
 use Rattle.interleavings.specs.xsi_calls.UndecidedBelow.{Owns, key_of}
-use Rattle.interleavings.specs.xsi_calls.declared.due.Due.{Due}
-use Rattle.interleavings.specs.xsi_calls.declared.due.Due.TheVariants.{Full, Trying, Undoing, Writing}
+use Rattle.interleavings.specs.xsi_calls.call_writes.declared.due.Due.{Due}
+use Rattle.interleavings.specs.xsi_calls.call_writes.declared.due.Due.TheVariants.{Full, Trying, Undoing, Writing}
 use Rattle.interleavings.specs.xsi_calls.UndecidedWords.{owes}
 use Rattle.page_locks.specs.Table.{held}
 use Rattle.queue_records.specs.declared.record.Record.{Record}

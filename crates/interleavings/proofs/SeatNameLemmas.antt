@@ -1,8 +1,8 @@
 -- The names of a call among the locks of its seat.
 use Rattle.std.proofs.Common.{ℕ, zero, suc, ◌≡◌, refl, sym, ap, ◌∙◌, subst, Bool, true, false, List, [], ◌∷◌, Option, Some, None, IsSome, if◌then◌else◌, arith}
 use Rattle.std.specs.List.{Contains}
-use Rattle.xsi_calls.specs.PaymentStages as stages
-use Rattle.xsi_calls.specs.PaymentWords.{Work, sweep_locks}
+use Rattle.xsi_calls.specs.call_writes.PaymentStages as stages
+use Rattle.xsi_calls.specs.call_writes.PaymentWords.{Work, sweep_locks}
 use Rattle.xsi_calls.proofs.UndecidedNames.{operation_aside}
 use Rattle.xsi_calls.specs.UndecidedBelow.{AccessView, locks_behind, locks_under}
 use Rattle.xsi_calls.specs.declared.question.Question.{Question}

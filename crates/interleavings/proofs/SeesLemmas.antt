@@ -1,11 +1,11 @@
 -- What a call sees and holds at each of its places.
 use Rattle.std.proofs.Common.{ℕ, ◌≡◌, refl, List, Option, Some, None}
 use Rattle.xsi_calls.specs.Below.{IsUndecidedIn, facts_in, locks_in}
-use Rattle.xsi_calls.specs.PaymentStages.{Sweeping, Writing}
+use Rattle.xsi_calls.specs.call_writes.PaymentStages.{Sweeping, Writing}
 use Rattle.xsi_calls.specs.Calling.{IsCallingAt}
 use Rattle.xsi_calls.specs.Machine.{facts_at, locks_at}
 use Rattle.xsi_calls.specs.Words.{IsPaying, Lock, Plan, QuestionsView, Sees, guard_of, kind_of, payment_facts}
-use Rattle.xsi_calls.specs.PaymentStages.{Stage as PaymentStage}
+use Rattle.xsi_calls.specs.call_writes.PaymentStages.{Stage as PaymentStage}
 use Rattle.xsi_calls.specs.Undecided.{Trials}
 use Rattle.xsi_calls.specs.Undecided.{UndecidedCall}
 use Rattle.xsi_calls.specs.Stages.{Stage, Undecided, Paying, Releasing}

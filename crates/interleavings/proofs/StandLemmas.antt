@@ -11,11 +11,11 @@ use Rattle.step_rules.specs.Turns.{TurnsAt}
 use Rattle.step_rules.specs.declared.kind.Kind.TheVariants.{WriteRecord}
 use Rattle.hash_file.specs.Chain.{contents}
 use Rattle.xsi_calls.proofs.Below.{wrote_not, wrote_of}
-use Rattle.xsi_calls.specs.PaymentStages.{Sweeping, Writing}
+use Rattle.xsi_calls.specs.call_writes.PaymentStages.{Sweeping, Writing}
 use Rattle.xsi_calls.specs.CallSteps.{GoesOnAt, StepsCall}
 use Rattle.xsi_calls.specs.Machine.{IsReading, call_turn}
 use Rattle.xsi_calls.specs.Words.{Ended, Exclusive, Fault, IsBehind, IsPaying, Lock, Moved, Plan, QuestionsView, Turn, World, guard_of, is_write, its_plan, kind_of, world}
-use Rattle.xsi_calls.specs.PaymentStages.{Stage as PaymentStage}
+use Rattle.xsi_calls.specs.call_writes.PaymentStages.{Stage as PaymentStage}
 use Rattle.xsi_calls.specs.Undecided.{Trials}
 use Rattle.xsi_calls.specs.Undecided.{UndecidedCall}
 use Rattle.xsi_calls.specs.Stages.{Stage, Undecided, Paying, Releasing}

@@ -12,15 +12,15 @@ use Rattle.interleaving_core.specs.xsi_calls.Undecided.{Trials}
 use Rattle.interleaving_core.specs.xsi_calls.Words.{Change, Records, has_no_room, its_plan}
 use Rattle.queue_records.specs.declared.record.Record.{Record}
 use Rattle.xsi_calls.proofs.Names.{is_full, trials_in}
-use Rattle.xsi_calls.specs.Dues.{next_deed, undone}
-use Rattle.xsi_calls.specs.WriteWords.{Write, writes_left}
+use Rattle.xsi_calls.specs.call_writes.Dues.{next_deed, undone}
+use Rattle.xsi_calls.specs.call_writes.WriteWords.{Write, writes_left}
 use Rattle.xsi_calls.specs.Knowing.{IsUndecidedIn}
 use Rattle.xsi_calls.specs.Questions.{QuestionsView}
 use Rattle.xsi_calls.specs.UndecidedSteps.{IsBehind}
 use Rattle.xsi_calls.specs.UndecidedWords.{KnowsOf}
-use Rattle.xsi_calls.specs.declared.deed.Deed.TheVariants as deeds
-use Rattle.xsi_calls.specs.declared.due.Due.{Due}
-use Rattle.xsi_calls.specs.declared.due.Due.TheVariants.{Full, Trying, Undoing, Writing}
+use Rattle.xsi_calls.specs.call_writes.declared.deed.Deed.TheVariants as deeds
+use Rattle.xsi_calls.specs.call_writes.declared.due.Due.{Due}
+use Rattle.xsi_calls.specs.call_writes.declared.due.Due.TheVariants.{Full, Trying, Undoing, Writing}
 use Rattle.xsi_inquiry.proofs.AgreeLemmas.{agrees_itself}
 use Rattle.xsi_inquiry.specs.Writing.{Plan}
 use Rattle.interleavings.specs.ConcurrentWords.{Call, CallView, IsCalling, IsFiled, PoolState, RecordKey, State, Table, UndecidedCall, conclusion_of}

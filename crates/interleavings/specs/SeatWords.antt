@@ -2,10 +2,10 @@
 pub use Rattle.call_decisions.specs.Others.{DecidesApart, HoldsOwn}
 pub use Rattle.call_decisions.specs.Settling.{IsAnswer, writes_owed}
 pub use Rattle.call_decisions.specs.Words.{Answer, Caller, Owes, Sweep, Verdict, outcome}
-pub use Rattle.xsi_calls.specs.Paying.{AreSameUnder, IsPaying}
-pub use Rattle.xsi_calls.specs.PaymentStages.{Stage}
+pub use Rattle.xsi_calls.specs.call_writes.Paying.{AreSameUnder, IsPaying}
+pub use Rattle.xsi_calls.specs.call_writes.PaymentStages.{Stage}
 pub use Rattle.xsi_calls.specs.UndecidedBelow.{AnyInquiry, Counter, HasNoFileLock, Known, Owns, Progress, Roomful, Sees, StandsAt, Step, Turn, counter_key, world}
-pub use Rattle.xsi_calls.specs.declared.writes.CallWrites.{CallWrites}
+pub use Rattle.xsi_calls.specs.call_writes.declared.writes.CallWrites.{CallWrites}
 pub use Rattle.file_pages.specs.Files.{IsFilePool}
 pub use Rattle.file_pages.specs.declared.fault.FileFault.{FileFault}
 pub use Rattle.page_locks.specs.Table.{IsLawful, held}

@@ -1,6 +1,6 @@
 -- The decision before the first trial.
 use Rattle.std.proofs.Common.{◌≡◌, sym, ap, ◌∙◌, subst, ℕ, Result, Ok}
-use Rattle.call_decisions.specs.Anything.{decided_of}
+use Rattle.call_writes.specs.call_decisions.Anything.{decided_of}
 use Rattle.xsi_inquiry.specs.Telling.{Gives}
 use Rattle.xsi_calls.specs.declared.part.Part.{Part}
 use Rattle.xsi_calls.specs.declared.questions.Questions.{Questions}

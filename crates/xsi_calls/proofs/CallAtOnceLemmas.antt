@@ -4,10 +4,10 @@ use Rattle.std.specs.Prelude.{⊤}
 use Rattle.xsi_calls.specs.declared.conclusion.Conclusion.{Conclusion}
 use Rattle.xsi_calls.specs.CallSteps.{MakesCall}
 use Rattle.xsi_calls.specs.Machine.{CallView, call_locks, is_searching, is_undecided, undecided_searches}
-use Rattle.xsi_calls.specs.Payments.{payment_access}
+use Rattle.call_writes.specs.Payments.{payment_access}
 use Rattle.xsi_calls.specs.Stages.{Stage, Paying, Undecided}
 use Rattle.xsi_calls.specs.UndecidedSteps.{MakesUndecided}
-use Rattle.xsi_calls.specs.WriteWords.{searches_under}
+use Rattle.call_writes.specs.WriteWords.{searches_under}
 use Rattle.xsi_calls.specs.Words.{AreNames, Call, Caller, IsSeat, Kind, MakesPayment, Moved, PaymentStage, PoolState, RecordKey, Table, UndecidedCall, WritesAtOnce, its_plan, payment_locks, row_of}
 use Rattle.xsi_calls.proofs.AtOnceLemmas.{moves}
 use Rattle.xsi_calls.proofs.GoLemmas.{asking, at_undecided, with_stage}

@@ -3,7 +3,7 @@ use Rattle.std.proofs.Common.{◌≡◌, ◌≢◌, refl, sym, ap, ◌∙◌, su
 use Rattle.std.proofs.lemmas.Bool.{true≢false}
 use Rattle.std.proofs.lemmas.List.Elements.{All-nil, All-take}
 use Rattle.std.specs.List.{All, Contains}
-use Rattle.call_decisions.specs.declared.settled.Settled.TheVariants as settlements
+use Rattle.call_writes.specs.call_decisions.declared.settled.Settled.TheVariants as settlements
 use Rattle.xsi_calls.proofs.HeldLemmas.{neither_is, no_first}
 use Rattle.xsi_inquiry.specs.declared.verdict.Verdict.{Verdict}
 use Rattle.xsi_calls.proofs.Names.{Due, Writing, decided_at, HasTried, HoldsWhereSwept, IsFiled, IsSettled, IsShortOfRoom, MayWrite, Means, Record, WillPay, Writes, answer_of, changes_by, is_full, is_full_at, last_of, owes, pays_what_is_decided, undoes_its_trials, undoing, writes_of}

@@ -3,20 +3,21 @@
 use Rattle.std.proofs.Common.{ℕ, zero, suc, ◌≡◌, ◌≤◌, ◌+◌, ◌-◌, ◌++◌, ◌∷◌, Bool, true, false, not, ◌&&◌, min, List, [], length, Option, Some, None, if◌then◌else◌, refl, sym, ap, ◌∙◌, subst, arith, inl, inr, ◌⊎◌, ◌<◌}
 use Rattle.std.proofs.lemmas.Bool.{true≢false}
 use Rattle.std.proofs.lemmas.Int.{clamps}
-use Rattle.std.proofs.lemmas.List.{length-append}
 use Rattle.std.specs.Prelude.{slice_get}
 use Rattle.file_pages.specs.declared.fault.FileFault.{FileFault}
 use Rattle.page_locks.proofs.TableLemmas.{row_of-same}
 use Rattle.page_locks.specs.Locks.{is_same, kind_of, lock_of}
 use Rattle.page_locks.specs.declared.lock.LockName.TheVariants as names
-use Rattle.record_file.proofs.AskLemmas.{GrantsPage, grants_pages}
-use Rattle.record_file.specs.AccessSteps.{Rests}
-use Rattle.record_file.specs.Accesses.{IsOfKind}
+use Rattle.call_writes.proofs.of_record_file.AskLemmas.{GrantsPage, grants_pages}
+use Rattle.call_writes.specs.record_file.AccessSteps.{Rests}
+use Rattle.call_writes.specs.record_file.Accesses.{IsOfKind}
 use Rattle.step_rules.specs.Turns.{TurnsAt}
 use Rattle.step_rules.specs.declared.kind.Kind.{Kind}
 use Rattle.step_rules.specs.declared.kind.Kind.TheVariants as kinds
 use Rattle.xsi_calls.proofs.QuestionNames.{LockKind}
-use Rattle.xsi_calls.specs.Counting.{MOST_FINDS, enters_directory, finds_behind, is_directory_read, is_to_search, last_of}
+use Rattle.xsi_calls.specs.Counting.{MOST_FINDS, enters_directory, finds_behind}
+use Rattle.call_writes.proofs.LastLemmas.{last_there}
+use Rattle.call_writes.specs.WriteRuns.{is_directory_read, is_to_search, last_of}
 use Rattle.xsi_calls.specs.QuestionWords.{AccessView, Blocked, Ended, Fault, HasNoFileLock, Lock, LockName, Moved, Progress, RecordKey, Store, ToFind, World, access_turn, has_set_out, is_fault, row_of}
 
 pub granted_of : (did : Progress FileFault) (row : List Lock) → enters_directory did row ≡ true →
@@ -110,16 +111,6 @@ uncounted did row finds bare = none_more did row finds (by (enters_directory did
     by true is = absurd (bare_last row bare (granted_last did row is))
 
 -- ---- a question that is under way
-
-stands_behind : (xs : List Lock) (x : Lock) → slice_get (xs ++ x ∷ []) (length xs) ≡ Some x
-stands_behind [] x = refl
-stands_behind (y ∷ ys) x = stands_behind ys x
-
-pub last_there : (xs : List Lock) (x : Lock) → last_of (xs ++ x ∷ []) ≡ Some x
-last_there xs x =
-    let more = length-append xs (x ∷ []) in
-    let place : length (xs ++ x ∷ []) - 1 ≡ length xs = omega (arith, more) in
-    ap (slice_get (xs ++ x ∷ [])) place ∙ stands_behind xs x
 
 page_last : (seat : ℕ) (w w' : World) → GrantsPage seat w w' → is_to_search (last_of (row_of w'.locks seat)) ≡ false
 page_last seat w w' (grants, page, is) =

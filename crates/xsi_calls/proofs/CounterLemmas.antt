@@ -2,7 +2,7 @@
 use Rattle.std.proofs.Common.{◌≡◌, refl, ℕ, Bool, true, false, Some, None}
 use Rattle.std.specs.Prelude.{◌==◌, ◌&&◌}
 use Rattle.xsi_calls.specs.PaySteps.{LeavesPart}
-use Rattle.xsi_calls.specs.PaymentStages as stages
+use Rattle.call_writes.specs.PaymentStages as stages
 use Rattle.xsi_calls.proofs.UndecidedCounterLemmas.{counter_stands}
 use Rattle.xsi_calls.proofs.PlanLemmas.{HasOneCounter}
 use Rattle.xsi_calls.proofs.Names.{is_swept}

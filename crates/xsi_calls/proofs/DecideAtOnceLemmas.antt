@@ -3,15 +3,15 @@ use Rattle.std.proofs.Common.{◌≡◌, refl, ap, ℕ, true, List, Option, Some
 use Rattle.file_pages.specs.declared.fault.FileFault.{FileFault}
 use Rattle.step_rules.specs.declared.kind.Kind.TheVariants as kinds
 use Rattle.step_rules.specs.declared.progress.Progress.TheVariants as progress
-use Rattle.xsi_calls.specs.MakeSteps.{MakesWrites, Rests}
+use Rattle.call_writes.specs.MakeSteps.{MakesWrites, Rests}
 use Rattle.xsi_calls.specs.NameSteps.{GivesBack}
-use Rattle.xsi_calls.specs.PaymentWords.{is_move}
+use Rattle.call_writes.specs.PaymentWords.{is_move}
 use Rattle.xsi_calls.specs.Undecided.{CanDecideIn, Trials, its_plan, locks_in}
 use Rattle.xsi_calls.specs.UndecidedSteps.{MakesUndecided}
 use Rattle.xsi_calls.specs.UndecidedWords.{AreNames, Call, Ended, IsReady, IsSeat, Lock, Plan, PoolState, Progress, QuestionsView, RecordKey, Table, row_of}
-use Rattle.xsi_calls.specs.Views.{IsOver}
-use Rattle.xsi_calls.specs.declared.writes.CallWrites.{CallWrites}
-use Rattle.xsi_calls.proofs.MakesLemmas.{makes_writes}
+use Rattle.call_writes.specs.Views.{IsOver}
+use Rattle.call_writes.specs.declared.writes.CallWrites.{CallWrites}
+use Rattle.call_writes.proofs.MakesLemmas.{makes_writes}
 use Rattle.xsi_calls.proofs.StepLemmas.{rests, tried_with}
 
 -- where nothing is left to do no step is made

@@ -1,12 +1,12 @@
 -- The Decide of a call, after the last step of what it asks and tries.
 use Rattle.std.proofs.Common.{◌≡◌, refl, sym, ap, ◌∙◌, subst, ℕ, Bool, true, false, not, List, [], Option, Some, None, IsTrue, ◌≤◌, arith}
 use Rattle.std.proofs.lemmas.Bool.{true≢false}
-use Rattle.call_decisions.specs.declared.settled.Settled.TheVariants as settlements
+use Rattle.call_writes.specs.call_decisions.declared.settled.Settled.TheVariants as settlements
 use Rattle.step_rules.specs.Known.{AllKnown}
 use Rattle.step_rules.specs.Searching.{WalksTo}
 use Rattle.step_rules.specs.Sound.{IsSoundWorld}
 use Rattle.file_pages.specs.declared.fault.FileFault.TheVariants.{Failed}
-use Rattle.xsi_remove.proofs.FreshLemmas.{failed_cause}
+use Rattle.call_writes.proofs.of_xsi_remove.FreshLemmas.{failed_cause}
 use Rattle.xsi_calls.proofs.UndecidedFewLemmas.{undecided_names}
 use Rattle.xsi_calls.proofs.ReadyLemmas.{no_question}
 use Rattle.xsi_calls.proofs.Names.{Due, Question, begun_at, locks_behind, locks_under, names_in, questions_facts, AccessView, FileFault, IsDecidedIn, IsFiled, IsTrying, IsUndecidedIn, Trials, MOST_PAYMENT_STEPS, has_few, is_full, locks_in, owes, owes_in, trials_in, CanDecideIn, IsCalmIn}
@@ -15,7 +15,7 @@ use Rattle.xsi_calls.proofs.GoLemmas.{asking, at_end, at_undecided, with_stage}
 use Rattle.xsi_calls.specs.declared.conclusion.Conclusion.{Conclusion}
 use Rattle.xsi_calls.specs.Stages.{Stage, Undecided, Paying}
 use Rattle.xsi_calls.specs.Words.{Agrees, AreNames, Call, Caller, CallWrites, CanDecide, Change, Ended, Fault, GoesOn, IsBehind, IsCalm, IsUndecided, KeepsUndecided, Lock, Moved, OnlyWrites, PaymentStage, Plan, PoolState, Progress, QuestionsView, RecordKey, Records, Settled, State, Store, Table, UndecidedCall, World, begun_payment, caller_of, has_no_room, is_fault, its_plan, owes_now, payment_facts, payment_left, payment_locks, row_of, store_of, trials_of, undecided_locks, undecided_owes, with_row, world}
-use Rattle.xsi_calls.specs.Payments.{begun_behind}
+use Rattle.call_writes.specs.Payments.{begun_behind}
 use Rattle.step_rules.specs.declared.kind.Kind.TheVariants.{Decide}
 use Rattle.xsi_calls.specs.Concluding.{IsRightConclusion, conclusion_by}
 use Rattle.xsi_calls.specs.Machine.{CallView, IsCalmAt, call_turn, is_undecided}

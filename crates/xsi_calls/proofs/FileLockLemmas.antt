@@ -6,41 +6,41 @@ use Rattle.page_locks.specs.declared.lock.LockKind.{LockKind}
 use Rattle.page_locks.specs.declared.lock.LockKind.TheVariants.{Selective}
 use Rattle.page_locks.specs.declared.lock.LockName.{LockName}
 use Rattle.page_locks.specs.declared.lock.LockName.TheVariants.{Directory, Page}
-use Rattle.record_file.specs.AccessWords.{HasNoFileLock, operation_locks}
-use Rattle.record_file.specs.BucketAccesses.{locks_in as bucket_locks_in}
-use Rattle.record_file.specs.Deletes.{part}
-use Rattle.record_file.specs.Inserts.{locks_in as insert_locks_in}
-use Rattle.record_file.specs.SecondTries.{locks_at as second_locks_at}
-use Rattle.record_file.specs.declared.bucket_access.BucketStage.{BucketStage}
-use Rattle.record_file.specs.declared.bucket_access.BucketStage.TheVariants as stages
-use Rattle.record_file.specs.declared.insert.InsertStage.{InsertStage}
-use Rattle.record_file.specs.declared.insert.InsertStage.TheVariants as tries
-use Rattle.record_file.specs.declared.operation.RecordOperation.{RecordOperation}
-use Rattle.record_file.specs.declared.operation.RecordOperation.TheVariants as operations
-use Rattle.record_file.specs.declared.second_place.SecondPlace.{SecondPlace}
-use Rattle.record_file.specs.declared.second_place.SecondPlace.TheVariants as second
-use Rattle.record_file.specs.split_merge.Places.{locks_at as merge_locks_at}
-use Rattle.record_file.specs.split_merge.Splits.{locks_at as split_locks_at}
-use Rattle.record_file.specs.split_merge.declared.merge_place.MergePlace.{MergePlace}
-use Rattle.record_file.specs.split_merge.declared.merge_place.MergePlace.TheVariants as merge
-use Rattle.record_file.specs.split_merge.declared.place.SplitPlace.{SplitPlace}
-use Rattle.record_file.specs.split_merge.declared.place.SplitPlace.TheVariants as split
-use Rattle.record_file.specs.stale_search.Approaches.{ApproachView, approach_locks_at}
-use Rattle.record_file.specs.stale_search.Searches.{SearchView, locks_at}
-use Rattle.record_file.specs.stale_search.declared.place.ApproachPlace.{ApproachPlace}
-use Rattle.record_file.specs.stale_search.declared.place.ApproachPlace.TheVariants as approach
-use Rattle.record_file.specs.stale_search.declared.place.SearchPlace.{SearchPlace}
-use Rattle.record_file.specs.stale_search.declared.place.SearchPlace.TheVariants as search_at
+use Rattle.call_writes.specs.record_file.AccessWords.{HasNoFileLock, operation_locks}
+use Rattle.call_writes.specs.record_file.BucketAccesses.{locks_in as bucket_locks_in}
+use Rattle.call_writes.specs.record_file.Deletes.{part}
+use Rattle.call_writes.specs.record_file.Inserts.{locks_in as insert_locks_in}
+use Rattle.call_writes.specs.record_file.SecondTries.{locks_at as second_locks_at}
+use Rattle.call_writes.specs.record_file.declared.bucket_access.BucketStage.{BucketStage}
+use Rattle.call_writes.specs.record_file.declared.bucket_access.BucketStage.TheVariants as stages
+use Rattle.call_writes.specs.record_file.declared.insert.InsertStage.{InsertStage}
+use Rattle.call_writes.specs.record_file.declared.insert.InsertStage.TheVariants as tries
+use Rattle.call_writes.specs.record_file.declared.operation.RecordOperation.{RecordOperation}
+use Rattle.call_writes.specs.record_file.declared.operation.RecordOperation.TheVariants as operations
+use Rattle.call_writes.specs.record_file.declared.second_place.SecondPlace.{SecondPlace}
+use Rattle.call_writes.specs.record_file.declared.second_place.SecondPlace.TheVariants as second
+use Rattle.call_writes.specs.record_file.split_merge.Places.{locks_at as merge_locks_at}
+use Rattle.call_writes.specs.record_file.split_merge.Splits.{locks_at as split_locks_at}
+use Rattle.call_writes.specs.record_file.split_merge.declared.merge_place.MergePlace.{MergePlace}
+use Rattle.call_writes.specs.record_file.split_merge.declared.merge_place.MergePlace.TheVariants as merge
+use Rattle.call_writes.specs.record_file.split_merge.declared.place.SplitPlace.{SplitPlace}
+use Rattle.call_writes.specs.record_file.split_merge.declared.place.SplitPlace.TheVariants as split
+use Rattle.call_writes.specs.record_file.stale_search.Approaches.{ApproachView, approach_locks_at}
+use Rattle.call_writes.specs.record_file.stale_search.Searches.{SearchView, locks_at}
+use Rattle.call_writes.specs.record_file.stale_search.declared.place.ApproachPlace.{ApproachPlace}
+use Rattle.call_writes.specs.record_file.stale_search.declared.place.ApproachPlace.TheVariants as approach
+use Rattle.call_writes.specs.record_file.stale_search.declared.place.SearchPlace.{SearchPlace}
+use Rattle.call_writes.specs.record_file.stale_search.declared.place.SearchPlace.TheVariants as search_at
 use Rattle.xsi_calls.specs.FileLocks.{HoldTheirFileLocks, HoldsOfFile, bucket_directory, directory_under, insert_directory, merge_directory, operation_directory, search_directory, second_directory, approach_directory}
 use Rattle.xsi_calls.specs.Machine.{CallView, access_under_way, asking_access, call_locks, locks_at as call_locks_at, under_way_at}
-use Rattle.xsi_calls.specs.PaymentStages as payments
-use Rattle.xsi_calls.specs.Payments.{payment_access, payment_locks}
+use Rattle.call_writes.specs.PaymentStages as payments
+use Rattle.call_writes.specs.Payments.{payment_access, payment_locks}
 use Rattle.xsi_calls.specs.Questions.{QuestionsView, locks_behind, question_access}
 use Rattle.xsi_calls.specs.Stages.{Stage, Undecided, Paying, Releasing}
 use Rattle.xsi_calls.specs.Undecided.{Trials, UndecidedCall, locks_in}
-use Rattle.xsi_calls.specs.Views.{locks_under}
-use Rattle.xsi_calls.specs.WriteWords.{AccessView, Lock}
-use Rattle.xsi_calls.specs.PaymentWords.{Work, sweep_access, sweep_locks}
+use Rattle.call_writes.specs.Views.{locks_under}
+use Rattle.call_writes.specs.WriteWords.{AccessView, Lock}
+use Rattle.call_writes.specs.PaymentWords.{Work, sweep_access, sweep_locks}
 use Rattle.xsi_calls.specs.declared.question.Question.{Question}
 
 -- ---- the locks of an access are behind the names

@@ -1,8 +1,8 @@
 -- The access of a question writes nothing.
 use Rattle.std.proofs.Common.{ℕ, ◌≡◌, Bool, true, false, refl}
-use Rattle.record_file.proofs.AccessAimLemmas.{wrote_of}
-use Rattle.record_file.proofs.StandLemmas.{finds_none}
-use Rattle.record_file.specs.Accesses.{IsOfKind}
+use Rattle.call_writes.proofs.of_record_file.AccessAimLemmas.{wrote_of}
+use Rattle.call_writes.proofs.of_record_file.StandLemmas.{finds_none}
+use Rattle.call_writes.specs.record_file.Accesses.{IsOfKind}
 use Rattle.file_pages.specs.declared.fault.FileFault.{FileFault}
 use Rattle.step_rules.specs.Turns.{TurnsAt}
 use Rattle.xsi_calls.specs.QuestionWords.{RecordKey, Progress, World, is_write, ToFind, AccessView, access_key, access_turn}

@@ -9,10 +9,10 @@ use Rattle.step_rules.specs.Turns.{Ask}
 use Rattle.step_rules.specs.declared.kind.Kind.{Kind}
 use Rattle.step_rules.specs.declared.kind.Kind.TheVariants as kinds
 use Rattle.page_locks.proofs.TableLemmas.{row_of-same}
-use Rattle.record_file.specs.AccessSteps.{Faces as FacesAccess, MakesAccess, Rests as RestsAccess}
-use Rattle.record_file.specs.Accesses.{IsOfKind}
+use Rattle.call_writes.specs.record_file.AccessSteps.{Faces as FacesAccess, MakesAccess, Rests as RestsAccess}
+use Rattle.call_writes.specs.record_file.Accesses.{IsOfKind}
 use Rattle.xsi_inquiry.specs.Telling.{most_asked}
-use Rattle.xsi_remove.proofs.FreshLemmas.{failed_cause}
+use Rattle.call_writes.proofs.of_xsi_remove.FreshLemmas.{failed_cause}
 use Rattle.xsi_calls.proofs.of_call_decisions.NamesLemmas.{take_in_order}
 use Rattle.xsi_calls.proofs.HeldTurnLemmas.{are_few_turns}
 use Rattle.xsi_calls.specs.declared.question.Question.{Question}
@@ -22,7 +22,7 @@ use Rattle.xsi_calls.specs.ToldNames.{AreTold}
 use Rattle.xsi_calls.specs.Counting.{enters_directory, finds_behind}
 use Rattle.xsi_calls.specs.Questions.{FIND_STEPS, ROUND_STEPS, IsAsked, IsRightQuestion, IsUnderWay, KnowsApart, KnowsItsKey, KnowsNear, QuestionsView, asks_more, changes, facts_of, locks_behind, questions_left, questions_locks, untold}
 use Rattle.xsi_calls.specs.QuestionSteps.{Closes, Faces, IsOver, Learns, MakesQuestions, Rests}
-use Rattle.record_file.proofs.OperationLemmas.{ended_free, owns_found}
+use Rattle.call_writes.proofs.of_record_file.OperationLemmas.{ended_free, owns_found}
 use Rattle.xsi_calls.proofs.CountLemmas.{SetsOut, enters_first, few_on, granted_of, moved_or_same, none_more, one_more, told_none, untold_of}
 use Rattle.xsi_calls.proofs.FindLemmas.{reads_only}
 

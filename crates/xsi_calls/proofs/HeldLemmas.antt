@@ -19,10 +19,6 @@ is_among (l ∷ ls) name held = by (is_on name l) refl held (is_among ls name)
     by false other some behind =
         let (k, within, at) = behind some in (suc k, omega (arith, within), at)
 
-pub none_of : {X : Type 0} (o : Option X) → is_some o ≡ false → o ≡ None
-none_of None none = refl
-none_of (Some x) some = absurd (true≢false some)
-
 pub none_by : {X : Type 0} (o : Option X) → ((x : X) → o ≡ Some x → ⊥) → o ≡ None
 none_by None never = refl
 none_by (Some x) never = absurd (never x refl)

@@ -2,16 +2,16 @@
 use Rattle.std.proofs.Common.{ℕ, ◌≡◌, List, [], ◌∷◌, ◌++◌, Option, Some, None, refl, ap, ◌∙◌}
 use Rattle.page_locks.proofs.NameLemmas.{is_same-itself}
 use Rattle.page_locks.proofs.RowLemmas.{kind_of-append}
-use Rattle.hash_file.specs.Changes.{RecordWrite}
-use Rattle.call_decisions.specs.file_pages.declared.fault.FileFault.{FileFault}
+use Rattle.file_pages.specs.hash_file.Changes.{RecordWrite}
+use Rattle.call_writes.specs.call_decisions.file_pages.declared.fault.FileFault.{FileFault}
 use Rattle.step_rules.specs.Words.{Change, Directory, Lock, Page}
 use Rattle.step_rules.specs.declared.kind.Kind.TheVariants.{Release}
 use Rattle.step_rules.specs.LockSteps.{Releases}
 use Rattle.step_rules.proofs.KindLemmas.{kind_keeps}
 use Rattle.step_rules.proofs.LockLemmas.{IsHeld-some}
-use Rattle.call_decisions.specs.stale_search.Words.{IsSeat, Moved, PoolState, RecordKey, Table, World, held, kind_of, row_of, with_row, without, without_lock}
-use Rattle.call_decisions.specs.stale_search.Steps.{Sees, Step, world}
-use Rattle.call_decisions.specs.NameLaws.{AreNames}
+use Rattle.call_writes.specs.call_decisions.stale_search.Words.{IsSeat, Moved, PoolState, RecordKey, Table, World, held, kind_of, row_of, with_row, without, without_lock}
+use Rattle.call_writes.specs.call_decisions.stale_search.Steps.{Sees, Step, world}
+use Rattle.call_writes.specs.call_decisions.NameLaws.{AreNames}
 use Rattle.xsi_calls.proofs.OrderLemmas.{last_is_new, last_is_not, without_last}
 
 module _ (locks : Table) (seat : ℕ) (rest : List Lock) (last : Lock) (names : AreNames (rest ++ last ∷ []))

@@ -1,22 +1,7 @@
 pub mod OrderLemmas
 pub mod HeldStepLemmas
 pub mod HeldTurnLemmas
-pub mod WriteBeginLemmas
-pub mod BegunLemmas
-pub mod CarriesLemmas
-pub mod CarryLemmas
-pub mod WriteDecidedLemmas
-pub mod DoneLemmas
-pub mod DueLemmas
-pub mod WriteLawLemmas
-pub mod WriteNames
-pub mod NearLemmas
-pub mod NextLemmas
-pub mod SortLemmas
-pub mod StartLemmas
-pub mod WriteStepLemmas
 pub mod WriteAimLemmas
-pub mod MakesLemmas
 pub mod WriteFewLemmas
 pub mod AskLemmas
 pub mod QuestionCounterLemmas
@@ -39,20 +24,14 @@ pub mod QuestionRunLemmas
 pub mod WriteRunLemmas
 pub mod OneGoLemmas
 pub mod DecideAtOnceLemmas
-pub mod WriteAtOnceLemmas
 pub mod QuestionAtOnceLemmas
 pub mod QuestionNames
 pub mod QuestionAimLemmas
-pub mod PaymentNames
 pub mod PartLemmas
-pub mod RecordLemmas
 pub mod SweptLemmas
 pub mod WrittenLemmas
 pub mod PaymentPayLemmas
 pub mod PaymentAtOnceLemmas
-pub mod PaymentBeginLemmas
-pub mod PaymentDecidedLemmas
-pub mod OwnLemmas
 pub mod PaymentAimLemmas
 pub mod PaymentFewLemmas
 pub mod UndecidedNames
@@ -90,5 +69,6 @@ pub mod FileLockLemmas
 pub mod LawLemmas
 pub mod AimLemmas
 pub mod FewLemmas
-pub use Rattle.call_decisions.proofs as of_call_decisions
+pub use Rattle.call_writes.proofs.of_call_decisions
 pub use Rattle.step_rules.proofs as of_step_rules
+pub use Rattle.call_writes.proofs as of_call_writes

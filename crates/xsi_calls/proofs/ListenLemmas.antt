@@ -2,10 +2,10 @@
 use Rattle.std.proofs.Common.{ℕ, ◌≡◌, Bool, false, List, [], Option, Some, None, IfSome, IsOk, Result, Ok, Err, refl, sym, ap, ◌∙◌, subst, inl, inr, ◌⊎◌}
 use Rattle.std.proofs.lemmas.Bool.{true≢false}
 use Rattle.std.specs.Option.{is_some}
-use Rattle.call_decisions.specs.Others.{HoldsOwn}
+use Rattle.call_writes.specs.call_decisions.Others.{HoldsOwn}
 use Rattle.file_pages.specs.declared.fault.FileFault.{FileFault}
 use Rattle.file_pages.specs.declared.fault.FileFault.TheVariants.{Failed}
-use Rattle.record_file.specs.AccessSteps.{FindsRecord, MakesAccess}
+use Rattle.call_writes.specs.record_file.AccessSteps.{FindsRecord, MakesAccess}
 use Rattle.xsi_inquiry.proofs.AgreeLemmas.{agrees_itself}
 use Rattle.xsi_calls.specs.declared.question.Question.{Question}
 use Rattle.xsi_calls.specs.Counting.{finds_behind}

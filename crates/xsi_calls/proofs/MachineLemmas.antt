@@ -9,20 +9,20 @@ use Rattle.xsi_calls.specs.declared.phase.Phase.TheVariants as phases
 use Rattle.xsi_calls.specs.declared.question.Question.{Question}
 use Rattle.xsi_calls.specs.declared.questions.Questions.{Questions}
 use Rattle.xsi_calls.specs.declared.trials.TrialsPlace.{TrialsPlace}
-use Rattle.xsi_calls.specs.declared.writes.CallWrites.{CallWrites}
+use Rattle.call_writes.specs.declared.writes.CallWrites.{CallWrites}
 use Rattle.xsi_calls.specs.CallSteps.{ComesTo, MakesCall, MakesRelease}
 use Rattle.xsi_calls.specs.Concluding.{conclusion_by}
 use Rattle.xsi_calls.specs.Deciding.{IsDecidedIn}
 use Rattle.xsi_calls.specs.Machine.{CallView, call_locks, is_paying, is_searching, is_undecided, undecided_searches}
 use Rattle.xsi_calls.specs.Parts.{IsOneMachine, IsToPay, asked_with, conclusion_under, decision_by, payment_under, paying, question_under, tried_by, tried_under, trials_for, undecided_with}
-use Rattle.xsi_calls.specs.PaymentStages as stages
-use Rattle.xsi_calls.specs.PaymentWords.{Due}
+use Rattle.call_writes.specs.PaymentStages as stages
+use Rattle.call_writes.specs.declared.due.Due.{Due}
 use Rattle.xsi_calls.specs.QuestionSteps.{BeginsNext, MakesQuestions, is_blocked}
-use Rattle.xsi_calls.specs.MakeSteps.{MakesWrites}
+use Rattle.call_writes.specs.MakeSteps.{MakesWrites}
 use Rattle.xsi_calls.specs.Questions.{has_asked, is_done, question_searches, questions_locks}
 use Rattle.xsi_calls.specs.Stages.{Stage, stage_at}
 use Rattle.xsi_calls.specs.Undecided.{IsCalmIn}
-use Rattle.xsi_calls.specs.Views.{writes_search}
+use Rattle.call_writes.specs.Views.{writes_search}
 use Rattle.xsi_calls.specs.UndecidedSteps.{MakesUndecided}
 use Rattle.xsi_calls.specs.QuestionWords.{Roomful, caller_of}
 use Rattle.xsi_calls.specs.UndecidedWords.{Decision, QuestionsView}

@@ -1,13 +1,13 @@
 -- Words of the crates below, under one name for the proofs of this one.
-pub use Rattle.call_decisions.specs.Owing.{is_swept}
-pub use Rattle.call_decisions.specs.Settling.{IsAnswer, IsSweepOf, Means}
-pub use Rattle.xsi_calls.proofs.PaymentBeginLemmas.{undoes_its_trials}
-pub use Rattle.xsi_calls.proofs.PaymentDecidedLemmas.{has_few, owes_nothing_at_end, pays_what_is_decided}
-pub use Rattle.xsi_calls.proofs.PaymentNames.{AccessView, begun_at, nears_with}
-pub use Rattle.xsi_calls.specs.PaymentLaws.{HasTried, HoldsWhereSwept, MOST_PAYMENT_STEPS, WillPay, last_of}
-pub use Rattle.xsi_calls.specs.PaymentWords.{IsFiled, inserted, writes_of, FollowsRow}
+pub use Rattle.call_writes.specs.call_decisions.Owing.{is_swept}
+pub use Rattle.call_writes.specs.call_decisions.Settling.{IsAnswer, IsSweepOf, Means}
+pub use Rattle.call_writes.proofs.PaymentBeginLemmas.{undoes_its_trials}
+pub use Rattle.call_writes.proofs.PaymentDecidedLemmas.{has_few, owes_nothing_at_end, pays_what_is_decided}
+pub use Rattle.call_writes.proofs.PaymentNames.{AccessView, begun_at, nears_with}
+pub use Rattle.call_writes.specs.PaymentLaws.{HasTried, HoldsWhereSwept, MOST_PAYMENT_STEPS, WillPay, last_of}
+pub use Rattle.call_writes.specs.PaymentWords.{IsFiled, inserted, writes_of, FollowsRow}
 pub use Rattle.file_pages.specs.declared.fault.FileFault.{FileFault}
-pub use Rattle.call_decisions.proofs.HeldLemmas.{has_or_not}
+pub use Rattle.call_writes.proofs.of_call_decisions.HeldLemmas.{has_or_not}
 pub use Rattle.page_locks.proofs.ChangeLemmas.{with_row-own, with_row-twice}
 pub use Rattle.page_locks.proofs.TableLemmas.{row_of-same}
 pub use Rattle.queue_model.specs.declared.answer.Answer.{Answer}

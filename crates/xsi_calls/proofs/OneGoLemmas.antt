@@ -5,7 +5,7 @@ use Rattle.step_rules.specs.Runs.{Stop, end_of}
 use Rattle.xsi_calls.specs.CallSteps.{MakesCall}
 use Rattle.xsi_calls.specs.Machine.{CallView, call_locks, is_searching}
 use Rattle.xsi_calls.specs.OneGo.{Errand, Asks, Writes, GoesAtOnce, MakesErrand, RunsAtOnce, RunsErrands, all_moves, all_single, moves_of, single_of}
-use Rattle.xsi_calls.specs.QuestionRuns.{Promise}
+use Rattle.call_writes.specs.WriteRuns.{Promise}
 use Rattle.xsi_calls.specs.Words.{AskStep, AsksAtOnce, At, IsReady, IsSeat, Kind, Moved, MovesAlong, PoolState, RecordKey, Table, WritesAtOnce, at, row_of, stops_on, stops_through}
 use Rattle.xsi_calls.proofs.WriteRunLemmas.{row_behind}
 

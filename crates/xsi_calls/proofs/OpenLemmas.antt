@@ -2,7 +2,7 @@
 use Rattle.std.proofs.Common.{ℕ, ◌≡◌, Bool, true, false, List, Option, Some, None, IfSome, IsSome, if◌then◌else◌, Result, Ok, refl, sym, subst}
 use Rattle.file_pages.specs.declared.fault.FileFault.{FileFault}
 use Rattle.file_pages.specs.declared.fault.FileFault.TheVariants.{Failed}
-use Rattle.record_file.specs.AccessSteps.{MakesAccess}
+use Rattle.call_writes.specs.record_file.AccessSteps.{MakesAccess}
 use Rattle.xsi_calls.specs.declared.question.Question.{Question}
 use Rattle.page_locks.proofs.ChangeLemmas.{IsSeat-with_row}
 use Rattle.xsi_calls.specs.Counting.{finds_behind}

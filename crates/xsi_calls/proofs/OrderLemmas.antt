@@ -10,9 +10,9 @@ use Rattle.page_locks.specs.Table.{row_of}
 use Rattle.step_rules.specs.Words.{Lock, LockKind, LockName, Directory, Page}
 use Rattle.step_rules.specs.World.{World}
 use Rattle.step_rules.specs.Turns.{MayBeGranted, rank_of}
-use Rattle.call_decisions.specs.stale_search.Words.{is_on, kind_of, without}
-use Rattle.call_decisions.proofs.of_stale_search.RowLemmas.{without-none}
-use Rattle.call_decisions.specs.NameLaws.{AreNames, IsInOrder}
+use Rattle.call_writes.specs.call_decisions.stale_search.Words.{is_on, kind_of, without}
+use Rattle.call_writes.proofs.of_call_decisions.of_stale_search.RowLemmas.{without-none}
+use Rattle.call_writes.specs.call_decisions.NameLaws.{AreNames, IsInOrder}
 
 -- ---- the last of a list in order
 

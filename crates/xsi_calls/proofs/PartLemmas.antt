@@ -4,15 +4,16 @@ use Rattle.file_pages.specs.declared.fault.FileFault.{FileFault}
 use Rattle.file_pages.specs.declared.fault.FileFault.TheVariants.{Failed}
 use Rattle.page_locks.proofs.ChangeLemmas.{with_row-own}
 use Rattle.page_locks.specs.Table.{with_row}
-use Rattle.xsi_calls.proofs.WriteNames.{ended_free}
-use Rattle.xsi_remove.proofs.FreshLemmas.{failed_cause}
-use Rattle.xsi_remove.specs.Words.{StepHasCause}
-use Rattle.xsi_remove.specs.SweepSteps.{IsOf, IsOver, MakesSweep}
-use Rattle.xsi_calls.specs.PaymentStages.{Stage}
-use Rattle.xsi_calls.specs.PaymentStages as stages
-use Rattle.xsi_calls.specs.PaymentWords.{RecordKey, PoolState, Table, Lock, IsReady, OnlyWrites, FollowsRow, Progress, Ended, Fault, is_fault, Plan, CallWrites, writes_locks, Work, is_move, sweep_locks}
-use Rattle.xsi_calls.specs.Payments.{payment_locks, unwritten}
-use Rattle.xsi_calls.specs.MakeSteps.{MakesWrites}
+use Rattle.call_writes.proofs.WriteNames.{ended_free}
+use Rattle.call_writes.proofs.of_xsi_remove.FreshLemmas.{failed_cause}
+use Rattle.call_writes.specs.xsi_remove.Words.{StepHasCause}
+use Rattle.call_writes.specs.xsi_remove.SweepSteps.{IsOf, IsOver, MakesSweep}
+use Rattle.call_writes.specs.PaymentStages.{Stage}
+use Rattle.call_writes.specs.PaymentStages as stages
+use Rattle.call_writes.specs.PaymentWords.{RecordKey, PoolState, Table, Lock, IsReady, OnlyWrites, FollowsRow, Progress, Ended, Fault, is_fault, Plan, writes_locks, Work, is_move, sweep_locks}
+use Rattle.call_writes.specs.declared.writes.CallWrites.{CallWrites}
+use Rattle.call_writes.specs.Payments.{payment_locks, unwritten}
+use Rattle.call_writes.specs.MakeSteps.{MakesWrites}
 use Rattle.xsi_calls.specs.PaySteps.{Goes, HasFailed, KeepsPayment, StepsPart}
 
 -- a sweep that is over holds no lock

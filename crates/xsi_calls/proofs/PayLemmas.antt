@@ -5,11 +5,11 @@ use Rattle.step_rules.specs.Does.{KeepsOthers}
 use Rattle.step_rules.specs.Searching.{WalksTo}
 use Rattle.step_rules.specs.Turns.{TurnsAt, no_ask}
 use Rattle.xsi_calls.proofs.Names.{AccessView, Deed, FileFault, facts_under, locks_under, next_deed, set_out, turn_under, nears_with, owes_nothing_at_end, row_of-same, with_row-twice}
-use Rattle.xsi_calls.specs.PaymentStages as stages
+use Rattle.call_writes.specs.PaymentStages as stages
 use Rattle.xsi_calls.specs.declared.conclusion.Conclusion.{Conclusion}
 use Rattle.xsi_calls.specs.declared.phase.Phase.{Phase}
 use Rattle.xsi_calls.specs.Stages.{Stage, Undecided, Paying, Releasing, stage_at}
-use Rattle.xsi_calls.specs.PaymentWords.{Work}
+use Rattle.call_writes.specs.PaymentWords.{Work}
 use Rattle.xsi_calls.specs.PaySteps.{StepsPart}
 use Rattle.xsi_calls.proofs.PaymentPayLemmas.{makes_payment}
 use Rattle.xsi_calls.proofs.PhaseLemmas.{paying_still}
@@ -17,8 +17,8 @@ use Rattle.xsi_calls.proofs.PlanLemmas.{plans_have_one_counter}
 use Rattle.xsi_calls.proofs.CounterLemmas.{paid_counter}
 use Rattle.xsi_calls.proofs.GoLemmas.{at_end, with_stage}
 use Rattle.xsi_calls.specs.Words.{AreNames, Blocked, Call, Caller, Change, Ended, Fault, IsPaid, IsPaying, IsReady, IsSeat, Known, Lock, MakesPayment, Moved, NearsOrSpares, OnlyWrites, PaymentStage, Pays, Plan, PoolState, Progress, QuestionsView, RecordKey, Records, Sees, State, Store, Table, Turn, UndecidedCall, World, is_fault, its_plan, TrialLacksRoom, trials_of, payment_left, payment_locks, payment_turn, row_of, store_of, with_row, world}
-use Rattle.xsi_calls.specs.Payments.{payment_access}
-use Rattle.xsi_remove.specs.UnderWay.{StepsUnderWay}
+use Rattle.call_writes.specs.Payments.{payment_access}
+use Rattle.call_writes.specs.xsi_remove.UnderWay.{StepsUnderWay}
 use Rattle.xsi_calls.specs.Machine.{CallView, call_access, call_facts, call_left, call_locks, is_paying}
 use Rattle.xsi_calls.specs.Calling.{IsPayingCall, IsReleasing}
 use Rattle.xsi_calls.specs.CallSteps.{KeepsStage, LeavesStage, MakesCall, MakesRelease, StepsCall, is_end}

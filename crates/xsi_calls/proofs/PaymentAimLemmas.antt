@@ -1,11 +1,11 @@
 -- What a payment asks for while it searches is what its seat knows.
 use Rattle.std.proofs.Common.{ℕ}
 use Rattle.xsi_calls.proofs.WriteAimLemmas.{writes_aimed}
-use Rattle.xsi_remove.proofs.AimLemmas.{sweep_aimed}
+use Rattle.call_writes.proofs.of_xsi_remove.AimLemmas.{sweep_aimed}
 use Rattle.xsi_calls.specs.stale_search.step_rules.Searching.{IsAimed}
-use Rattle.xsi_calls.specs.Payments.{payment_facts, payment_turn}
-use Rattle.xsi_calls.specs.PaymentStages.{Stage, Sweeping, Writing}
-use Rattle.xsi_calls.specs.PaymentWords.{Plan, RecordKey, Store}
+use Rattle.call_writes.specs.Payments.{payment_facts, payment_turn}
+use Rattle.call_writes.specs.PaymentStages.{Stage, Sweeping, Writing}
+use Rattle.call_writes.specs.PaymentWords.{Plan, RecordKey, Store}
 
 pub payment_aimed : (hash : RecordKey → ℕ) (p : Plan) (v : Stage) (s : Store) →
     IsAimed (payment_turn hash p v s).ask (payment_facts v)

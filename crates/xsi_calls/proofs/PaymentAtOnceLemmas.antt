@@ -2,15 +2,16 @@
 use Rattle.std.proofs.Common.{◌≡◌, ℕ, Bool, refl, sym, ap, subst}
 use Rattle.std.specs.Prelude.{⊤}
 use Rattle.step_rules.specs.declared.kind.Kind.{Kind}
-use Rattle.xsi_calls.specs.PaymentStages.{Stage}
-use Rattle.xsi_calls.specs.PaymentStages as stages
-use Rattle.xsi_calls.specs.MakeSteps.{MakesWrites}
+use Rattle.call_writes.specs.PaymentStages.{Stage}
+use Rattle.call_writes.specs.PaymentStages as stages
+use Rattle.call_writes.specs.MakeSteps.{MakesWrites}
 use Rattle.xsi_calls.specs.PaySteps.{MakesPayment}
-use Rattle.xsi_calls.specs.PaymentWords.{CallWrites, Moved, Plan, PoolState, RecordKey, Table}
-use Rattle.xsi_calls.specs.Payments.{payment_access}
-use Rattle.xsi_calls.specs.QuestionRuns.{WritesAtOnce}
-use Rattle.xsi_calls.specs.Views.{writes_search}
-use Rattle.xsi_calls.specs.WriteWords.{searches_under}
+use Rattle.call_writes.specs.PaymentWords.{Moved, Plan, PoolState, RecordKey, Table}
+use Rattle.call_writes.specs.declared.writes.CallWrites.{CallWrites}
+use Rattle.call_writes.specs.Payments.{payment_access}
+use Rattle.call_writes.specs.WriteRuns.{WritesAtOnce}
+use Rattle.call_writes.specs.Views.{writes_search}
+use Rattle.call_writes.specs.WriteWords.{searches_under}
 use Rattle.xsi_calls.proofs.WriteRunLemmas.{writes_in}
 use Rattle.xsi_calls.proofs.WrittenLemmas.{writes_on}
 

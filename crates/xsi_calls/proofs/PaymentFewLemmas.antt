@@ -1,22 +1,23 @@
 -- A payment has few steps left wherever it is.
 use Rattle.std.proofs.Common.{ℕ, refl, ◌≤◌, ◌<◌, ◌+◌, ◌*◌, List, Option, Some, None, arith}
 use Rattle.xsi_calls.proofs.WriteFewLemmas.{few_left}
-use Rattle.xsi_calls.proofs.WriteLawLemmas.{few_deeds}
-use Rattle.xsi_calls.proofs.WriteNames.{has_few_steps}
+use Rattle.call_writes.proofs.WriteLawLemmas.{few_deeds}
+use Rattle.call_writes.proofs.WriteNames.{has_few_steps}
 use Rattle.xsi_calls.specs.stale_search.Steps.{Sees}
-use Rattle.xsi_calls.specs.WriteWords.{MOST_STEPS}
+use Rattle.call_writes.specs.WriteWords.{MOST_STEPS}
 use Rattle.xsi_inquiry.specs.declared.write.TheConstants.{MAX_WRITES}
-use Rattle.xsi_remove.specs.SweepSteps.{turns_of}
-use Rattle.xsi_remove.specs.Words.{MAX_MESSAGES}
-use Rattle.xsi_remove.specs.Sweeps.{DELETE_STEPS, TURN_STEPS, deeds_left}
-use Rattle.xsi_remove.specs.declared.work.Deed.{Deed}
-use Rattle.xsi_remove.specs.declared.work.Deed.TheVariants.{Reading, DeletingMessage, DeletingType}
-use Rattle.xsi_calls.specs.PaymentStages.{Stage}
-use Rattle.xsi_calls.specs.PaymentStages as stages
-use Rattle.xsi_calls.specs.PaymentWords.{Change, Lock, Plan, PoolState, RecordKey, Records, Table, Work, Writing, store_of, sweep_facts, sweep_left, without_swept}
-use Rattle.xsi_calls.specs.Payments.{payment_left}
-use Rattle.xsi_calls.specs.Paying.{IsPaying}
-use Rattle.xsi_calls.proofs.PaymentDecidedLemmas.{few_writes}
+use Rattle.call_writes.specs.xsi_remove.SweepSteps.{turns_of}
+use Rattle.call_writes.specs.xsi_remove.Words.{MAX_MESSAGES}
+use Rattle.call_writes.specs.xsi_remove.Sweeps.{DELETE_STEPS, TURN_STEPS, deeds_left}
+use Rattle.call_writes.specs.xsi_remove.declared.work.Deed.{Deed}
+use Rattle.call_writes.specs.xsi_remove.declared.work.Deed.TheVariants.{Reading, DeletingMessage, DeletingType}
+use Rattle.call_writes.specs.PaymentStages.{Stage}
+use Rattle.call_writes.specs.PaymentStages as stages
+use Rattle.call_writes.specs.PaymentWords.{Change, Lock, Plan, PoolState, RecordKey, Records, Table, Work, store_of, sweep_facts, sweep_left, without_swept}
+use Rattle.call_writes.specs.declared.due.Due.TheVariants.{Writing}
+use Rattle.call_writes.specs.Payments.{payment_left}
+use Rattle.call_writes.specs.Paying.{IsPaying}
+use Rattle.call_writes.proofs.PaymentDecidedLemmas.{few_writes}
 
 -- those of a sweep and of a plan that has not begun, and of the one access under way, as far as others may have moved
 -- what it looks for

@@ -4,14 +4,15 @@ use Rattle.file_pages.specs.declared.fault.FileFault.{FileFault}
 use Rattle.xsi_calls.proofs.PartLemmas.{causes, follows, keeps, only_writes}
 use Rattle.xsi_calls.proofs.SweptLemmas.{ends_with, nears_end, nears_on, sweeps_on}
 use Rattle.xsi_calls.proofs.WrittenLemmas.{writes_on}
-use Rattle.xsi_remove.specs.SweepSteps.{IsOver}
-use Rattle.xsi_remove.specs.UnderWay.{StepsUnderWay}
-use Rattle.xsi_calls.specs.WriteWords.{AccessView, HasEnded}
-use Rattle.xsi_calls.specs.PaymentStages.{Stage}
-use Rattle.xsi_calls.specs.PaymentStages as stages
-use Rattle.xsi_calls.specs.PaymentWords.{RecordKey, PoolState, Table, Lock, Change, store_of, IsReady, IsSeat, NearsOrSpares, Progress, is_fault, Plan, Records, CallWrites, Work, sweep_access}
-use Rattle.xsi_calls.specs.Payments.{payment_access, payment_left}
-use Rattle.xsi_calls.specs.Paying.{IsPaying}
+use Rattle.call_writes.specs.xsi_remove.SweepSteps.{IsOver}
+use Rattle.call_writes.specs.xsi_remove.UnderWay.{StepsUnderWay}
+use Rattle.call_writes.specs.WriteWords.{AccessView, HasEnded}
+use Rattle.call_writes.specs.PaymentStages.{Stage}
+use Rattle.call_writes.specs.PaymentStages as stages
+use Rattle.call_writes.specs.PaymentWords.{RecordKey, PoolState, Table, Lock, Change, store_of, IsReady, IsSeat, NearsOrSpares, Progress, is_fault, Plan, Records, Work, sweep_access}
+use Rattle.call_writes.specs.declared.writes.CallWrites.{CallWrites}
+use Rattle.call_writes.specs.Payments.{payment_access, payment_left}
+use Rattle.call_writes.specs.Paying.{IsPaying}
 use Rattle.xsi_calls.specs.PaySteps.{Goes, HasFailed, MakesPayment, Pays, StepsPart}
 
 module _ (hash : RecordKey → ℕ) (seat : ℕ) (p : Plan) (did : Progress FileFault) (pool pool' : PoolState)

@@ -4,7 +4,7 @@ use Rattle.std.proofs.lemmas.Bool.{true≢false}
 use Rattle.std.specs.List.{list_any}
 use Rattle.std.specs.Option.{option_eq}
 use Rattle.std.specs.Prelude.{ℤ, length, nat_eq, nat_lt, ⊤}
-use Rattle.call_decisions.specs.Owing.{is_written}
+use Rattle.call_writes.specs.call_decisions.Owing.{is_written}
 use Rattle.xsi_calls.proofs.QuestionNames.{GetArguments, GetInquiry, Getting, MAX_QBYTES, QueueEntry, ReceiveInquiry, RemoveInquiry, SendArguments, SendInquiry, SetArguments, SetInquiry, Sought, StatInquiry, get_plan, if_of, key_of_message, key_of_type, of_get, of_receive, of_remove, of_send, of_set, of_stat, one_more, plan_by, plan_made, plan_on, set_entry, set_plan}
 use Rattle.queue_model.specs.declared.call.Call.TheVariants as calls
 use Rattle.xsi_control.specs.Getting.{key_made}

@@ -1,6 +1,6 @@
 -- What a call asks the file for while it searches is what its seat knows.
 use Rattle.std.proofs.Common.{Option, Some, None}
-use Rattle.record_file.proofs.AskLemmas.{access_aimed}
+use Rattle.call_writes.proofs.of_record_file.AskLemmas.{access_aimed}
 use Rattle.step_rules.specs.Searching.{IsAimed}
 use Rattle.xsi_calls.specs.declared.question.Question.{Question}
 use Rattle.xsi_calls.specs.Questions.{QuestionsView, facts_of, questions_facts, questions_turn, turn_behind}

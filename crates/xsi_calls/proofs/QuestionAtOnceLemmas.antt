@@ -6,21 +6,24 @@ use Rattle.page_locks.proofs.TableLemmas.{row_of-same}
 use Rattle.page_locks.specs.Locks.{lock_of}
 use Rattle.page_locks.specs.declared.lock.LockKind.TheVariants.{Read}
 use Rattle.page_locks.specs.declared.lock.LockName.TheVariants.{Directory, Page}
-use Rattle.record_file.specs.AccessSteps.{MakesAccess}
-use Rattle.record_file.specs.AccessRuns.{FindsAtOnce, access_at, access_done}
-use Rattle.record_file.specs.stale_search.declared.place.SearchPlace.{SearchPlace}
-use Rattle.record_file.specs.stale_search.declared.place.SearchPlace.TheVariants as places
+use Rattle.call_writes.specs.record_file.AccessSteps.{MakesAccess}
+use Rattle.call_writes.specs.record_file.AccessRuns.{FindsAtOnce, access_at, access_done}
+use Rattle.call_writes.specs.record_file.stale_search.declared.place.SearchPlace.{SearchPlace}
+use Rattle.call_writes.specs.record_file.stale_search.declared.place.SearchPlace.TheVariants as places
 use Rattle.step_rules.specs.declared.kind.Kind.{Kind}
 use Rattle.step_rules.specs.declared.kind.Kind.TheVariants as kinds
 use Rattle.xsi_calls.specs.declared.question.Question.{Question}
 use Rattle.xsi_calls.specs.QuestionWords.{AccessView, AnyInquiry, AreNames, Call, GiveBack, HasFound, IsSeat, Lock, Look, Moved, NameTurn, NotASystem, PoolState, Ready, Record, RecordKey, Roomful, Table, Take, ToFind, Wanted, access_locks, asked_of, begun, name_turn, names_for, row_of, store_of, with_row}
 use Rattle.xsi_calls.specs.Answering.{key_asked}
-use Rattle.xsi_calls.specs.Counting.{MOST_FINDS, enters_directory, finds_behind, is_to_search, last_of}
+use Rattle.xsi_calls.specs.Counting.{MOST_FINDS, enters_directory, finds_behind}
+use Rattle.call_writes.specs.WriteRuns.{is_to_search, last_of}
 use Rattle.xsi_calls.specs.Questions.{IsUnderWay, QuestionsView, is_ready, question_searches}
 use Rattle.xsi_calls.specs.QuestionSteps.{Hears, Listens, MakesQuestions}
-use Rattle.xsi_calls.specs.QuestionRuns.{AsksAtOnce, At, Way, at}
+use Rattle.xsi_calls.specs.QuestionRuns.{AsksAtOnce}
+use Rattle.call_writes.specs.WriteRuns.{At, Way, at}
 use Rattle.xsi_calls.proofs.AskingLemmas.{first_step}
-use Rattle.xsi_calls.proofs.CountLemmas.{last_there, none_more}
+use Rattle.xsi_calls.proofs.CountLemmas.{none_more}
+use Rattle.call_writes.proofs.LastLemmas.{last_there}
 use Rattle.xsi_calls.proofs.ListenLemmas.{went_on}
 
 module _ (hash : RecordKey → ℕ) (seat : ℕ) (call : Call) (i : AnyInquiry) (room : Roomful) (held : List Lock)

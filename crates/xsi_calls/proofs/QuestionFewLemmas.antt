@@ -2,8 +2,8 @@
 use Rattle.std.proofs.Common.{ℕ, ◌≤◌, ◌+◌, ◌*◌, Bool, true, false, not, ◌&&◌, Option, Some, None, if◌then◌else◌, arith}
 use Rattle.xsi_calls.proofs.HeldTurnLemmas.{are_few_turns}
 use Rattle.queue_model.specs.declared.call.Call.TheVariants as calls
-use Rattle.record_file.proofs.AccessNames.{has_few_steps}
-use Rattle.record_file.specs.AccessWords.{MOST_STEPS}
+use Rattle.call_writes.proofs.of_record_file.AccessNames.{has_few_steps}
+use Rattle.call_writes.specs.record_file.AccessWords.{MOST_STEPS}
 use Rattle.xsi_inquiry.specs.Telling.{most_asked}
 use Rattle.xsi_calls.specs.declared.question.Question.{Question}
 use Rattle.xsi_calls.specs.QuestionWords.{Call, Change, MAX_NAMES, PoolState, RecordKey, Sees, State, Store, Table, access_left, has_set_out, left_of, names_for, names_left, store_of}

@@ -1,6 +1,6 @@
 -- Words of the crates below, under one name.
-pub use Rattle.call_decisions.specs.Anything.{IsOfKind}
-pub use Rattle.call_decisions.specs.InquiryWords.{Plan, nothing}
+pub use Rattle.call_writes.specs.call_decisions.Anything.{IsOfKind}
+pub use Rattle.call_writes.specs.call_decisions.InquiryWords.{Plan, nothing}
 pub use Rattle.xsi_calls.proofs.of_call_decisions.AskLemmas.{ask_under_names}
 pub use Rattle.xsi_calls.proofs.of_call_decisions.GrowLemmas.{names_grow}
 pub use Rattle.xsi_calls.proofs.of_call_decisions.NamesLemmas.{take_in_order}
@@ -8,7 +8,7 @@ pub use Rattle.xsi_calls.proofs.of_call_decisions.Words.{GetInquiry, Getting, Lo
 pub use Rattle.xsi_calls.proofs.of_call_decisions.WriteLemmas.{write_under_names}
 pub use Rattle.xsi_calls.specs.call_decisions.NameLaws.{KeepsNames}
 pub use Rattle.xsi_calls.specs.call_decisions.Names.{by_phase, exclusively, queue_for}
-pub use Rattle.numbers.specs.declared.limits.TheConstants.{MAX_QBYTES}
+pub use Rattle.queue_model.specs.numbers.declared.limits.TheConstants.{MAX_QBYTES}
 pub use Rattle.page_locks.specs.Locks.{kind_of}
 pub use Rattle.page_locks.specs.declared.lock.LockKind.{LockKind}
 pub use Rattle.queue_model.specs.Rules.{has_id}

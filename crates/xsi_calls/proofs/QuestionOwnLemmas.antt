@@ -2,8 +2,8 @@
 use Rattle.std.proofs.Common.{ℕ, refl, List, [], ◌++◌, Option, Some, None, arith}
 use Rattle.std.specs.Prelude.{map}
 use Rattle.std.specs.List.{Contains}
-use Rattle.call_decisions.specs.Anything.{IsOfKind, if_of, of_get, of_receive, of_remove, of_send, of_set, of_stat}
-use Rattle.call_decisions.specs.Others.{HoldsKey, HoldsOwn}
+use Rattle.call_writes.specs.call_decisions.Anything.{IsOfKind, if_of, of_get, of_receive, of_remove, of_send, of_set, of_stat}
+use Rattle.call_writes.specs.call_decisions.Others.{HoldsKey, HoldsOwn}
 use Rattle.page_locks.specs.declared.lock.LockName.TheVariants as names
 use Rattle.queue_model.specs.declared.call.Call.TheVariants as calls
 use Rattle.xsi_control.specs.Getting.{key_names}

@@ -24,7 +24,7 @@ use Rattle.xsi_send.specs.declared.type_place.TypePlace.TheVariants as places
 use Rattle.xsi_control.specs.Asking as removes
 use Rattle.xsi_control.specs.declared.stage.Stage as remove_stages
 use Rattle.xsi_control.specs.declared.stage.Stage.TheVariants as remove
-use Rattle.call_decisions.specs.declared.any_inquiry.AnyInquiry.TheVariants as any
+use Rattle.call_writes.specs.call_decisions.declared.any_inquiry.AnyInquiry.TheVariants as any
 use Rattle.xsi_calls.specs.QuestionWords.{AnyInquiry, FollowsOf, asked_of, left_of, plan_of, Begins, Call, Caller, Counter, NameTurn, Ready, Wanted, name_turn, names_for}
 use Rattle.xsi_calls.specs.QuestionLaws.{WriteUnderNames}
 use Rattle.xsi_calls.specs.Questions.{KnowsItsKey, asks_more, changes, changes_by, is_ready}

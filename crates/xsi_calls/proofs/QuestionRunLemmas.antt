@@ -1,10 +1,11 @@
 -- A question that is asked in one go: the machine above makes the same moves.
 use Rattle.std.proofs.Common.{ℕ, ◌≡◌, ◌∙◌, Bool}
 use Rattle.step_rules.proofs.RunLemmas.{lifted}
-use Rattle.record_file.specs.stale_search.SearchRuns.{At, at}
+use Rattle.call_writes.specs.record_file.stale_search.SearchRuns.{At, at}
 use Rattle.step_rules.specs.declared.kind.Kind.{Kind}
 use Rattle.xsi_calls.specs.QuestionWords.{Moved, PoolState, Table}
-use Rattle.xsi_calls.specs.QuestionRuns.{AskStep, AsksAtOnce, Promise, SearchesOnce, Way, stops_on}
+use Rattle.xsi_calls.specs.QuestionRuns.{AsksAtOnce, stops_on}
+use Rattle.call_writes.specs.WriteRuns.{AskStep, Promise, SearchesOnce, Way}
 
 abbrev pub way_in : {S T : Type 0} → (S → T) → Way S → Way T
 way_in whole way = record {

@@ -12,7 +12,8 @@ use Rattle.xsi_calls.specs.stale_search.Steps.{Sees}
 use Rattle.xsi_calls.specs.Undecided.{its_plan, untried, Trials}
 use Rattle.xsi_calls.specs.Knowing.{IsAsking, IsDecision, IsTrying}
 use Rattle.xsi_calls.specs.Deciding.{MayWrite}
-use Rattle.xsi_calls.proofs.HeldLemmas.{both_are, is_among, neither_is, no_first, none_of}
+use Rattle.xsi_calls.proofs.HeldLemmas.{both_are, is_among, neither_is, no_first}
+use Rattle.call_writes.proofs.StartLemmas.{none_of}
 
 -- what a right decision writes is under the names
 under_by : (c : Caller) (call : Call) (held : List LockName) (bytes : List ℕ) (s : State) (p : Plan)

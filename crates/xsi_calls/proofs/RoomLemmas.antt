@@ -1,22 +1,23 @@
 -- What of a call is under way in its room.
 use Rattle.std.proofs.Common.{◌≡◌, refl, ap, ◌∙◌, subst, ℕ, Bool, true, false, Option, Some, None, IsSome}
-use Rattle.call_decisions.specs.declared.settled.Settled.TheVariants as settlements
+use Rattle.call_writes.specs.call_decisions.declared.settled.Settled.TheVariants as settlements
 use Rattle.xsi_inquiry.specs.declared.verdict.Verdict.TheVariants as verdicts
 use Rattle.xsi_calls.specs.declared.conclusion.Conclusion.{Conclusion}
 use Rattle.xsi_calls.specs.declared.conclusion.Conclusion.TheVariants as conclusions
 use Rattle.xsi_calls.specs.Concluding.{conclusion_by}
-use Rattle.xsi_calls.specs.PaymentWords.{Due, RecordKey, Settled, Work, begun_sweep}
-use Rattle.xsi_calls.specs.Payments.{begun_behind, begun_payment}
+use Rattle.call_writes.specs.PaymentWords.{RecordKey, Settled, Work, begun_sweep}
+use Rattle.call_writes.specs.declared.due.Due.{Due}
+use Rattle.call_writes.specs.Payments.{begun_behind, begun_payment}
 use Rattle.xsi_calls.specs.declared.part.Part.{Part}
 use Rattle.xsi_calls.specs.declared.part.Part.TheVariants as parts
 use Rattle.xsi_calls.specs.declared.question.Question.{Question}
 use Rattle.xsi_calls.specs.declared.questions.Questions.{Questions}
 use Rattle.xsi_calls.specs.declared.trials.TrialsPlace.{TrialsPlace}
 use Rattle.xsi_calls.specs.Parts.{IsToPay, asked_with, conclusion_under, decision_by, payment_under, paying, question_under, tried_by, tried_in, tried_under, trials_for, undecided_with}
-use Rattle.xsi_calls.specs.PaymentStages as stages
+use Rattle.call_writes.specs.PaymentStages as stages
 use Rattle.xsi_calls.specs.Undecided.{CanDecide, trials_in}
 use Rattle.xsi_calls.specs.UndecidedWords.{Call, Decision, is_done}
-use Rattle.xsi_calls.specs.declared.writes.CallWrites.{CallWrites}
+use Rattle.call_writes.specs.declared.writes.CallWrites.{CallWrites}
 use Rattle.xsi_calls.specs.Words.{PaymentStage}
 
 -- ---- no question

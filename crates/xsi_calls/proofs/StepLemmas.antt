@@ -7,15 +7,15 @@ use Rattle.page_locks.proofs.ChangeLemmas.{with_row-own}
 use Rattle.page_locks.proofs.TableLemmas.{row_of-same}
 use Rattle.xsi_calls.proofs.of_step_rules.LockStepLemmas.{KeepsOthers-same}
 use Rattle.xsi_inquiry.specs.declared.write.TheConstants.{MAX_TRIALS}
-use Rattle.xsi_calls.specs.declared.deed.Deed.TheVariants as deeds
-use Rattle.xsi_calls.specs.declared.writes.CallWrites.{CallWrites}
+use Rattle.call_writes.specs.declared.deed.Deed.TheVariants as deeds
+use Rattle.call_writes.specs.declared.writes.CallWrites.{CallWrites}
 use Rattle.xsi_calls.specs.Undecided.{Trials, UndecidedCall, TRIAL_STEPS, its_plan, undecided_facts, undecided_turn, untried}
 use Rattle.xsi_calls.proofs.UndecidedNames.{Carries, Question, WalksTo, facts_of, FileFault, few_of, times_most, writes_none}
 use Rattle.xsi_calls.specs.UndecidedWords.{AreNames, Call, Change, Decision, Ended, Fault, IsReady, IsSeat, Lock, MOST_STEPS, NearsOrSpares, Plan, PoolState, Progress, QuestionsView, Record, RecordKey, Records, State, Step, Store, Table, finds_behind, is_done, is_fault, nothing, questions_facts, questions_left, questions_locks, questions_turn, row_of, store_of, with_row, world, writes_left_in, writes_locks, writes_turn}
 use Rattle.xsi_calls.specs.QuestionWords.{Moved, Blocked}
 use Rattle.xsi_calls.specs.Knowing.{IsAsking, IsDecision, IsTrying}
 use Rattle.xsi_calls.specs.UndecidedSteps.{GoesOn, MakesUndecided}
-use Rattle.xsi_calls.specs.MakeSteps.{MakesWrites}
+use Rattle.call_writes.specs.MakeSteps.{MakesWrites}
 use Rattle.xsi_calls.specs.QuestionSteps.{MakesQuestions}
 use Rattle.xsi_calls.proofs.ReadyLemmas.{begins_trying, no_question}
 use Rattle.xsi_calls.proofs.TryLemmas.{elsewhere_of, stand_on, stays_on}

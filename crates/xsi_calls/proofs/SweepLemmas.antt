@@ -3,9 +3,9 @@ use Rattle.std.proofs.Common.{◌≡◌, ◌≢◌, sym, ap, subst, ℕ, Bool, t
 use Rattle.std.proofs.lemmas.Bool.{true≢false}
 use Rattle.std.specs.Option.{is_some}
 use Rattle.std.specs.Prelude.{slice_get}
-use Rattle.call_decisions.specs.Anything.{decided_of, if_of, of_remove}
-use Rattle.call_decisions.specs.InquiryWords.{RemoveInquiry}
-use Rattle.call_decisions.specs.declared.settled.Settled.TheVariants.{Sweeps}
+use Rattle.call_writes.specs.call_decisions.Anything.{decided_of, if_of, of_remove}
+use Rattle.call_writes.specs.call_decisions.InquiryWords.{RemoveInquiry}
+use Rattle.call_writes.specs.call_decisions.declared.settled.Settled.TheVariants.{Sweeps}
 use Rattle.queue_model.specs.declared.call.Call.TheVariants as calls
 use Rattle.xsi_inquiry.specs.declared.decision.Decision.TheVariants as decisions
 use Rattle.xsi_control.specs.declared.stage.Stage.{Stage}

@@ -4,20 +4,21 @@ use Rattle.std.specs.Prelude.{if◌then◌else◌}
 use Rattle.std.proofs.lemmas.Bool.{true≢false}
 use Rattle.bucket_page.specs.Keys.{is_same}
 use Rattle.file_pages.specs.declared.fault.FileFault.{FileFault}
-use Rattle.hash_file.specs.Changes.{Remove}
-use Rattle.call_decisions.specs.Owing.{Sweeps, is_swept}
+use Rattle.file_pages.specs.hash_file.Changes.{Remove}
+use Rattle.call_writes.specs.call_decisions.Owing.{Sweeps, is_swept}
 use Rattle.page_locks.proofs.TableLemmas.{row_of-same}
-use Rattle.xsi_calls.proofs.WriteNames.{contents, holds_still, one_changed, wrote_not, wrote_of}
+use Rattle.call_writes.proofs.WriteNames.{contents, holds_still, one_changed, wrote_not, wrote_of}
 use Rattle.xsi_inquiry.specs.Writing.{with_at}
 use Rattle.xsi_inquiry.specs.declared.write.Write.{Write}
-use Rattle.xsi_remove.specs.SweepSteps.{IsOf, IsOver, MakesSweep, Rests, SweepsAway, SweepsOn}
-use Rattle.xsi_remove.specs.Sweeps.{IsSweeping, IsWorking}
-use Rattle.xsi_calls.proofs.RecordLemmas.{apart_round, deleted_elsewhere, deleted_owed, none_swept, same_round, same_without, stands_none, swept_guard}
-use Rattle.xsi_calls.proofs.PaymentNames.{Blocked, ends_swept, nears_next, nears_with, no_more, written_local}
-use Rattle.xsi_calls.specs.PaymentStages as stages
-use Rattle.xsi_calls.specs.PaymentWords.{RecordKey, PoolState, Table, Lock, Change, Store, store_of, row_of, IsSeat, NearsOrSpares, Progress, Moved, Ended, Fault, is_fault, Step, world, StandsAt, is_write, kind_of, Owns, Queue, State, guard_of, Plan, Records, Owes, overlaid, without_swept, writes_of, CallWrites, writes_left_in, Work, is_move, sweep_facts, sweep_left, sweep_locks, sweep_turn}
-use Rattle.xsi_calls.specs.Payments.{owes_now, payment_left, unwritten}
-use Rattle.xsi_calls.specs.Paying.{IsPayingSweep}
+use Rattle.call_writes.specs.xsi_remove.SweepSteps.{IsOf, IsOver, MakesSweep, Rests, SweepsAway, SweepsOn}
+use Rattle.call_writes.specs.xsi_remove.Sweeps.{IsSweeping, IsWorking}
+use Rattle.call_writes.proofs.RecordLemmas.{apart_round, deleted_elsewhere, deleted_owed, none_swept, same_round, same_without, stands_none, swept_guard}
+use Rattle.call_writes.proofs.PaymentNames.{Blocked, ends_swept, nears_next, nears_with, no_more, written_local}
+use Rattle.call_writes.specs.PaymentStages as stages
+use Rattle.call_writes.specs.PaymentWords.{RecordKey, PoolState, Table, Lock, Change, Store, store_of, row_of, IsSeat, NearsOrSpares, Progress, Moved, Ended, Fault, is_fault, Step, world, StandsAt, is_write, kind_of, Owns, Queue, State, guard_of, Plan, Records, Owes, overlaid, without_swept, writes_of, writes_left_in, Work, is_move, sweep_facts, sweep_left, sweep_locks, sweep_turn}
+use Rattle.call_writes.specs.declared.writes.CallWrites.{CallWrites}
+use Rattle.call_writes.specs.Payments.{owes_now, payment_left, unwritten}
+use Rattle.call_writes.specs.Paying.{IsPayingSweep}
 use Rattle.xsi_calls.specs.PaySteps.{Pays}
 
 -- ---- the sweep

@@ -1,7 +1,7 @@
 -- The names that a call takes by what it was told are those that its system has.
 use Rattle.std.proofs.Common.{◌≡◌, ◌⊎◌, refl, sym, ap, ◌∙◌, subst, ℕ, inl, inr, List, [], ◌∷◌, ◌++◌, map, Option, Some, None, Err}
 use Rattle.std.specs.List.{AllByRecursion, find}
-use Rattle.call_decisions.specs.Anything.{FollowsOf, KnowsOf, asked_of, of_get, of_remove}
+use Rattle.call_writes.specs.call_decisions.Anything.{FollowsOf, KnowsOf, asked_of, of_get, of_remove}
 use Rattle.page_locks.specs.declared.lock.LockName.TheVariants as names
 use Rattle.queue_model.specs.declared.call.Call.TheVariants as calls
 use Rattle.queue_model.specs.declared.queue.Queue.{Queue}

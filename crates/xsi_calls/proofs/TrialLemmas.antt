@@ -1,7 +1,7 @@
 -- What was inserted on trial under names is owed under these again.
 use Rattle.std.proofs.Common.{List}
 use Rattle.std.specs.List.{All, Contains}
-use Rattle.xsi_calls.proofs.OwnLemmas.{own_written, undoing_own}
+use Rattle.call_writes.proofs.OwnLemmas.{own_written, undoing_own}
 use Rattle.xsi_calls.proofs.Names.{Record, Writes, key_of, undoing}
 use Rattle.xsi_calls.specs.Words.{LockName, OwesUnder, RecordKey, guard_of}
 

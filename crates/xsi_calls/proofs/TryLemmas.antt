@@ -4,10 +4,10 @@ use Rattle.std.proofs.lemmas.Bool.Decides.{nat_tests}
 use Rattle.std.proofs.lemmas.Option.{slice_get_within}
 use Rattle.std.specs.Prelude.{nat_lt, option_map, slice_get}
 use Rattle.xsi_inquiry.specs.declared.write.TheConstants.{MAX_TRIALS}
-use Rattle.xsi_calls.specs.declared.deed.Deed.TheVariants as deeds
-use Rattle.xsi_calls.specs.CarrySteps.{AsMade, AsTheyWere, FindsNoRoom, IsPaid, Stays}
-use Rattle.xsi_calls.specs.declared.due.Due.TheVariants.{Undoing, Writing}
-use Rattle.xsi_calls.specs.WriteWords.{Replace, Relink, Delete}
+use Rattle.call_writes.specs.declared.deed.Deed.TheVariants as deeds
+use Rattle.call_writes.specs.CarrySteps.{AsMade, AsTheyWere, FindsNoRoom, IsPaid, Stays}
+use Rattle.call_writes.specs.declared.due.Due.TheVariants.{Undoing, Writing}
+use Rattle.call_writes.specs.WriteWords.{Replace, Relink, Delete}
 use Rattle.xsi_calls.proofs.UndecidedNames.{Advances, AreAbsent, CanAllBe, CanGoOn, Deed, IsSmall, Leaves, Owns, OwnsPlan, Write, after_deed, all_stand, deed_key, drop_next, is_same, key_of, next_deed, one_more_stands, own_deed, same_keys, undoing, undoing_next, with_at}
 use Rattle.xsi_calls.specs.UndecidedWords.{AreAlike, Due, Exclusive, Full, Lock, LockName, Plan, Progress, Record, RecordKey, Records, Trying, guard_of, inserted, kind_of}
 use Rattle.xsi_calls.specs.Knowing.{IsOnTrial, standing}

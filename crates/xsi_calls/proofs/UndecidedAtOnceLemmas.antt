@@ -4,15 +4,15 @@ use Rattle.file_pages.specs.declared.fault.FileFault.{FileFault}
 use Rattle.step_rules.specs.declared.kind.Kind.{Kind}
 use Rattle.step_rules.specs.declared.kind.Kind.TheVariants as kinds
 use Rattle.xsi_calls.specs.Undecided.{UndecidedCall, its_plan}
-use Rattle.xsi_calls.specs.declared.writes.CallWrites.{CallWrites}
+use Rattle.call_writes.specs.declared.writes.CallWrites.{CallWrites}
 use Rattle.xsi_calls.specs.declared.part.Part.{Part}
 use Rattle.xsi_calls.specs.declared.questions.Questions.{Questions}
 use Rattle.xsi_calls.specs.Beginning.{Tries}
 use Rattle.xsi_calls.specs.Parts.{undecided_with}
 use Rattle.xsi_calls.specs.Counting.{MOST_FINDS, finds_behind}
 use Rattle.xsi_calls.specs.Machine.{undecided_searches}
-use Rattle.xsi_calls.specs.MakeSteps.{MakesWrites}
-use Rattle.xsi_calls.specs.Views.{writes_search}
+use Rattle.call_writes.specs.MakeSteps.{MakesWrites}
+use Rattle.call_writes.specs.Views.{writes_search}
 use Rattle.xsi_calls.specs.QuestionWords.{Moved}
 use Rattle.xsi_calls.specs.UndecidedSteps.{MakesUndecided}
 use Rattle.xsi_calls.specs.UndecidedWords.{AreNames, AskStep, At, Call, Decision, IsSeat, Plan, PoolState, QuestionsView, RecordKey, Table, WritesAtOnce, at, row_of, writes_locks}

@@ -2,10 +2,10 @@
 use Rattle.std.proofs.Common.{ℕ, zero, suc, ◌≡◌, ◌+◌, Bool, true, false, List, [], ◌∷◌, ◌++◌, Option, Some, None, option_map, drop, take, refl, sym, ap, ◌∙◌, subst}
 use Rattle.std.proofs.lemmas.Bool.{true≢false}
 use Rattle.std.specs.Prelude.{if◌then◌else◌, nat_lt, slice_get}
-use Rattle.call_decisions.specs.Owing.{is_written, owes_at}
-use Rattle.xsi_calls.specs.CarrySteps.{AsMade, AsTheyWere}
-use Rattle.xsi_calls.specs.declared.deed.Deed.TheVariants as deeds
-use Rattle.xsi_calls.specs.declared.due.Due.TheVariants.{Undoing}
+use Rattle.call_writes.specs.call_decisions.Owing.{is_written, owes_at}
+use Rattle.call_writes.specs.CarrySteps.{AsMade, AsTheyWere}
+use Rattle.call_writes.specs.declared.deed.Deed.TheVariants as deeds
+use Rattle.call_writes.specs.declared.due.Due.TheVariants.{Undoing}
 use Rattle.xsi_inquiry.specs.Writing.{somes, turned}
 use Rattle.xsi_inquiry.specs.declared.write.TheConstants.{MAX_TRIALS}
 use Rattle.xsi_inquiry.specs.declared.write.Write.TheVariants.{Delete}

@@ -3,12 +3,12 @@ use Rattle.std.proofs.Common.{◌≡◌, refl, sym, ap, ◌∙◌, subst, ℕ, B
 use Rattle.std.specs.List.{Contains}
 use Rattle.std.specs.Option.{is_some}
 use Rattle.std.specs.Prelude.{option_map, slice_get}
-use Rattle.call_decisions.specs.Anything.{decided_of}
-use Rattle.xsi_calls.specs.declared.deed.Deed.TheVariants as deeds
-use Rattle.xsi_calls.specs.Views.{is_full_at}
-use Rattle.xsi_calls.specs.declared.due.Due.TheVariants.{Undoing, Writing}
-use Rattle.xsi_calls.specs.WriteWords.{AccessView}
-use Rattle.xsi_calls.specs.declared.writes.CallWrites.{CallWrites}
+use Rattle.call_writes.specs.call_decisions.Anything.{decided_of}
+use Rattle.call_writes.specs.declared.deed.Deed.TheVariants as deeds
+use Rattle.call_writes.specs.Views.{is_full_at}
+use Rattle.call_writes.specs.declared.due.Due.TheVariants.{Undoing, Writing}
+use Rattle.call_writes.specs.WriteWords.{AccessView}
+use Rattle.call_writes.specs.declared.writes.CallWrites.{CallWrites}
 use Rattle.xsi_calls.specs.Parts.{tried_in, trials_for}
 use Rattle.xsi_calls.specs.Undecided.{CanDecideIn, Trials, its_plan, trials_in, untried}
 use Rattle.xsi_calls.proofs.UndecidedNames.{all_stand, settles, tries_rightly, write_under_names, agrees_itself}

@@ -4,7 +4,7 @@ use Rattle.xsi_calls.proofs.QuestionFewLemmas.{few_left as few_questions}
 use Rattle.xsi_calls.proofs.QuestionHeldLemmas.{all_held}
 use Rattle.xsi_calls.proofs.ToldLemmas.{all_told, told_names_in}
 use Rattle.xsi_calls.proofs.WriteFewLemmas.{few_left as few_writes}
-use Rattle.xsi_calls.specs.declared.due.Due.TheVariants.{Undoing, Writing}
+use Rattle.call_writes.specs.declared.due.Due.TheVariants.{Undoing, Writing}
 use Rattle.xsi_inquiry.proofs.AgreeLemmas.{agrees_itself}
 use Rattle.xsi_inquiry.specs.declared.write.TheConstants.{MAX_TRIALS}
 use Rattle.xsi_calls.specs.ToldNames.{AreNamesIn, AreTold}

@@ -4,7 +4,7 @@ use Rattle.std.proofs.lemmas.Bool.{true≢false}
 use Rattle.std.specs.List.{Contains}
 use Rattle.std.specs.Option.{is_some}
 use Rattle.std.specs.Prelude.{slice_get}
-use Rattle.call_decisions.specs.Anything.{if_of, of_receive}
+use Rattle.call_writes.specs.call_decisions.Anything.{if_of, of_receive}
 use Rattle.queue_model.specs.declared.call.Call.TheVariants as calls
 use Rattle.queue_model.specs.declared.call.ReceiveArguments.{ReceiveArguments}
 use Rattle.xsi_receive.specs.Asking.{plan_at}

@@ -1,13 +1,14 @@
 -- What a call that writes asks for while it searches is what its seat knows.
 use Rattle.std.proofs.Common.{ℕ, List, Option, Some, None, sym, subst}
-use Rattle.record_file.proofs.AskLemmas.{access_aimed, begun_asks}
-use Rattle.record_file.specs.step_rules.Known.{Known}
-use Rattle.record_file.specs.step_rules.Searching.{IsAimed}
-use Rattle.record_file.specs.step_rules.Turns.{Ask}
-use Rattle.xsi_calls.specs.declared.writes.CallWrites.{CallWrites}
-use Rattle.xsi_calls.specs.Dues.{next_deed, purpose_of}
-use Rattle.xsi_calls.specs.Views.{facts_under, set_out, turn_under, writes_facts, writes_turn}
-use Rattle.xsi_calls.specs.WriteWords.{AccessView, Deed, Plan, RecordKey, Store}
+use Rattle.call_writes.proofs.of_record_file.AskLemmas.{access_aimed, begun_asks}
+use Rattle.call_writes.specs.record_file.step_rules.Known.{Known}
+use Rattle.call_writes.specs.record_file.step_rules.Searching.{IsAimed}
+use Rattle.call_writes.specs.record_file.step_rules.Turns.{Ask}
+use Rattle.call_writes.specs.declared.writes.CallWrites.{CallWrites}
+use Rattle.call_writes.specs.Dues.{next_deed, purpose_of}
+use Rattle.call_writes.specs.Views.{facts_under, set_out, turn_under, writes_facts, writes_turn}
+use Rattle.call_writes.specs.WriteWords.{AccessView, Plan, RecordKey, Store}
+use Rattle.call_writes.specs.declared.deed.Deed.{Deed}
 
 -- an access that begins asks for nothing of a search yet
 pub sets_out_aimed : (hash : RecordKey → ℕ) (d : Option Deed) (s : Store) (facts : List Known) →

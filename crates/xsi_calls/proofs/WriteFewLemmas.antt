@@ -1,12 +1,12 @@
 -- A call that writes has few steps left wherever it is.
 use Rattle.std.proofs.Common.{ℕ, ◌≤◌, ◌+◌, ◌-◌, ◌*◌, Bool, true, false, List, Option, Some, None, if◌then◌else◌, arith}
-use Rattle.xsi_calls.specs.declared.writes.CallWrites.{CallWrites}
-use Rattle.xsi_calls.specs.WriteWords.{AccessView, Change, Lock, MOST_STEPS, Plan, PoolState, RecordKey, Records, Sees, Table, store_of}
-use Rattle.xsi_calls.specs.Carrying.{IsCarrying}
-use Rattle.xsi_calls.specs.Dues.{deeds_left}
-use Rattle.xsi_calls.specs.Views.{deeds_behind, facts_under, left_under, writes_left_in}
-use Rattle.xsi_calls.proofs.WriteLawLemmas.{times_most}
-use Rattle.xsi_calls.proofs.WriteNames.{has_few_steps}
+use Rattle.call_writes.specs.declared.writes.CallWrites.{CallWrites}
+use Rattle.call_writes.specs.WriteWords.{AccessView, Change, Lock, MOST_STEPS, Plan, PoolState, RecordKey, Records, Sees, Table, store_of}
+use Rattle.call_writes.specs.Carrying.{IsCarrying}
+use Rattle.call_writes.specs.Dues.{deeds_left}
+use Rattle.call_writes.specs.Views.{deeds_behind, facts_under, left_under, writes_left_in}
+use Rattle.call_writes.proofs.WriteLawLemmas.{times_most}
+use Rattle.call_writes.proofs.WriteNames.{has_few_steps}
 
 few_behind : (o : Option AccessView) (deeds : ℕ) → deeds_behind o deeds ≤ deeds
 few_behind None deeds = omega arith

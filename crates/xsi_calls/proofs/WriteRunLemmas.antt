@@ -3,12 +3,12 @@ use Rattle.std.proofs.Common.{◌≡◌, ℕ, Bool, List, [], ◌∷◌, ap, sym
 use Rattle.page_locks.proofs.ChangeLemmas.{IsSeat-with_row}
 use Rattle.page_locks.proofs.TableLemmas.{row_of-same}
 use Rattle.page_locks.specs.Table.{with_row}
-use Rattle.record_file.specs.stale_search.SearchRuns.{At, at}
+use Rattle.call_writes.specs.record_file.stale_search.SearchRuns.{At, at}
 use Rattle.step_rules.specs.Runs.{MovesAlong, Stop, stops_in}
 use Rattle.step_rules.specs.declared.kind.Kind.{Kind}
 use Rattle.step_rules.specs.declared.progress.Progress.{Progress}
 use Rattle.step_rules.specs.declared.progress.Progress.TheVariants.{Moved}
-use Rattle.xsi_calls.specs.QuestionRuns.{AskStep, Promise, WritesAtOnce, stops_through}
+use Rattle.call_writes.specs.WriteRuns.{AskStep, Promise, WritesAtOnce, stops_through}
 use Rattle.xsi_calls.specs.QuestionWords.{IsSeat, Lock, PoolState, Table, row_of}
 use Rattle.xsi_calls.proofs.QuestionRunLemmas.{counted_in, way_in}
 

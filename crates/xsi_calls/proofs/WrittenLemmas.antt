@@ -1,19 +1,21 @@
 -- A step of the writes in a sound world.
 use Rattle.std.proofs.Common.{◌≡◌, refl, sym, ap, ◌∙◌, subst, ℕ, Bool, true, false, List}
 use Rattle.bucket_page.specs.Keys.{is_same}
-use Rattle.xsi_calls.proofs.DueLemmas.{own_deed}
-use Rattle.xsi_calls.specs.CarrySteps.{Advances, AsMade, AsTheyWere, Carries, FindsNoRoom, IsPaid, Leaves, Stays}
-use Rattle.xsi_calls.specs.Dues.{IsBehind, after_deed, deed_key}
-use Rattle.xsi_calls.specs.declared.deed.Deed.{Deed}
-use Rattle.xsi_calls.specs.declared.deed.Deed.TheVariants as deeds
-use Rattle.xsi_calls.specs.declared.due.Due.TheVariants.{Undoing}
+use Rattle.call_writes.proofs.DueLemmas.{own_deed}
+use Rattle.call_writes.specs.CarrySteps.{Advances, AsMade, AsTheyWere, Carries, FindsNoRoom, IsPaid, Leaves, Stays}
+use Rattle.call_writes.specs.Dues.{IsBehind, after_deed, deed_key}
+use Rattle.call_writes.specs.declared.deed.Deed.{Deed}
+use Rattle.call_writes.specs.declared.deed.Deed.TheVariants as deeds
+use Rattle.call_writes.specs.declared.due.Due.TheVariants.{Undoing, Trying, Full, Writing}
 use Rattle.file_pages.specs.declared.fault.FileFault.{FileFault}
 use Rattle.xsi_inquiry.proofs.LeadLemmas.{same_keys}
 use Rattle.xsi_inquiry.specs.declared.write.Write.TheVariants.{Replace, Relink, Delete}
-use Rattle.xsi_calls.specs.PaymentStages as stages
-use Rattle.xsi_calls.specs.PaymentWords.{RecordKey, PoolState, Table, Lock, Change, Progress, is_fault, Owns, Plan, Records, Due, Trying, Full, Writing, CallWrites, OwnsPlan, decided_at}
-use Rattle.xsi_calls.specs.Paying.{IsPayingWrites}
-use Rattle.xsi_calls.specs.MakeSteps.{MakesWrites}
+use Rattle.call_writes.specs.PaymentStages as stages
+use Rattle.call_writes.specs.PaymentWords.{RecordKey, PoolState, Table, Lock, Change, Progress, is_fault, Owns, Plan, Records, OwnsPlan, decided_at}
+use Rattle.call_writes.specs.declared.due.Due.{Due}
+use Rattle.call_writes.specs.declared.writes.CallWrites.{CallWrites}
+use Rattle.call_writes.specs.Paying.{IsPayingWrites}
+use Rattle.call_writes.specs.MakeSteps.{MakesWrites}
 use Rattle.xsi_calls.specs.PaySteps.{Pays}
 
 -- ---- what is due

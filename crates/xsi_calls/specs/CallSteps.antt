@@ -2,8 +2,8 @@
 use Rattle.std.specs.Prelude.{ℕ, ◌≡◌, ◌↔◌, true, false, not, Bool, Option, Some, None, IsSome, if◌then◌else◌, ⊤}
 use Rattle.file_pages.specs.declared.fault.FileFault.{FileFault}
 use Rattle.step_rules.specs.declared.kind.Kind.TheVariants.{Decide}
-use Rattle.xsi_remove.specs.Words.{StepHasCause}
-use Rattle.xsi_remove.specs.UnderWay.{StepsUnderWay}
+use Rattle.call_writes.specs.xsi_remove.Words.{StepHasCause}
+use Rattle.call_writes.specs.xsi_remove.UnderWay.{StepsUnderWay}
 use Rattle.xsi_calls.specs.declared.conclusion.Conclusion.{Conclusion}
 use Rattle.xsi_calls.specs.Stages.{Stage, Undecided, Paying, Releasing}
 use Rattle.xsi_calls.specs.Deciding.{IsDecidedIn}

@@ -1,7 +1,7 @@
 -- What a call comes to, and what it is answered. docs/STEPS.md, "Calls"; docs/QUEUES.md, "Calls".
 use Rattle.std.specs.Prelude.{ℕ, ◌≡◌, Bool, true, List, Option, Some, None}
 use Rattle.std.specs.List.{Contains}
-use Rattle.call_decisions.specs.declared.settled.Settled.TheVariants as settlements
+use Rattle.call_writes.specs.call_decisions.declared.settled.Settled.TheVariants as settlements
 use Rattle.queue_model.specs.declared.answer.Answer.{Answer}
 use Rattle.queue_model.specs.Rules.{outcome}
 use Rattle.xsi_inquiry.specs.Deciding.{answer_of}

@@ -1,23 +1,8 @@
 -- The searches that a call begins, told by its steps and the locks that its seat then holds. docs/STEPS.md, "Search".
-use Rattle.std.specs.Prelude.{ℕ, ◌+◌, ◌-◌, Bool, true, false, min, List, length, Option, Some, None, slice_get, if◌then◌else◌}
-use Rattle.page_locks.specs.declared.lock.LockKind.{LockKind}
-use Rattle.page_locks.specs.declared.lock.LockKind.TheVariants.{Read}
-use Rattle.page_locks.specs.declared.lock.LockName.TheVariants.{Directory}
+use Rattle.std.specs.Prelude.{ℕ, ◌+◌, Bool, false, min, List, if◌then◌else◌}
 use Rattle.step_rules.specs.declared.kind.Kind.TheVariants as kinds
-use Rattle.xsi_calls.specs.QuestionWords.{Lock, LockName, Progress, Moved}
-
--- the lock that a seat with this row was granted last
-abbrev pub last_of : List Lock → Option Lock
-last_of row = slice_get row (length row - 1)
-
--- the directory, to read: a search asks for it first, and nothing else does
-abbrev pub is_directory_read : LockName → LockKind → Bool
-is_directory_read Directory Read = true
-is_directory_read name kind = false
-
-abbrev pub is_to_search : Option Lock → Bool
-is_to_search None = false
-is_to_search (Some lock) = is_directory_read lock.name lock.kind
+use Rattle.call_writes.specs.WriteRuns.{is_to_search, last_of}
+use Rattle.xsi_calls.specs.QuestionWords.{Lock, Progress, Moved}
 
 -- by the step, behind which the seat has this row, it was granted that lock: a search has begun
 abbrev pub enters_directory : {F : Type 0} → Progress F → List Lock → Bool

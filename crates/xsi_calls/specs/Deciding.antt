@@ -1,8 +1,8 @@
 -- What a call has come to at its Decide. docs/STEPS.md, "Calls".
 use Rattle.std.specs.Prelude.{ℕ, ◌≡◌, ◌≢◌, Bool, Option, Some, None, if◌then◌else◌}
 use Rattle.std.specs.List.{All, Contains}
-use Rattle.xsi_calls.specs.declared.writes.CallWrites.{CallWrites}
-use Rattle.call_decisions.specs.declared.settled.Settled.TheVariants.{Sweeps}
+use Rattle.call_writes.specs.declared.writes.CallWrites.{CallWrites}
+use Rattle.call_writes.specs.call_decisions.declared.settled.Settled.TheVariants.{Sweeps}
 use Rattle.xsi_calls.specs.declared.decided.Decided.{Decided}
 use Rattle.xsi_calls.specs.Undecided.{Trials, UndecidedCall, its_plan, trials_of}
 use Rattle.xsi_calls.specs.UndecidedWords.{AreAlike, Call, Change, Exclusive, Full, IsCarrying, LockName, Means, PoolState, QuestionsView, Record, RecordKey, Records, Settled, State, Sweep, Table, Trying, caller_of, guard_of, inserted, is_full, key_of, kind_of, locked_of, names_in, next_deed, nothing, record_of, settled_by}

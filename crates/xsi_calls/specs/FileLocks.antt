@@ -5,25 +5,25 @@ use Rattle.page_locks.specs.Locks.{kind_of}
 use Rattle.page_locks.specs.declared.lock.LockKind.{LockKind}
 use Rattle.page_locks.specs.declared.lock.LockKind.TheVariants.{Read, Selective, Exclusive}
 use Rattle.page_locks.specs.declared.lock.LockName.TheVariants.{Directory, Page}
-use Rattle.record_file.specs.Deletes.{part}
-use Rattle.record_file.specs.declared.bucket_access.BucketStage.{BucketStage}
-use Rattle.record_file.specs.declared.bucket_access.BucketStage.TheVariants as stages
-use Rattle.record_file.specs.declared.insert.InsertStage.{InsertStage}
-use Rattle.record_file.specs.declared.insert.InsertStage.TheVariants as tries
-use Rattle.record_file.specs.declared.operation.RecordOperation.{RecordOperation}
-use Rattle.record_file.specs.declared.operation.RecordOperation.TheVariants as operations
-use Rattle.record_file.specs.declared.second_place.SecondPlace.{SecondPlace}
-use Rattle.record_file.specs.declared.second_place.SecondPlace.TheVariants as second
-use Rattle.record_file.specs.split_merge.declared.merge_place.MergePlace.{MergePlace}
-use Rattle.record_file.specs.split_merge.declared.merge_place.MergePlace.TheVariants as merge
-use Rattle.record_file.specs.stale_search.declared.place.ApproachPlace.{ApproachPlace}
-use Rattle.record_file.specs.stale_search.declared.place.ApproachPlace.TheVariants as approach
-use Rattle.record_file.specs.stale_search.declared.place.SearchPlace.{SearchPlace}
-use Rattle.record_file.specs.stale_search.declared.place.SearchPlace.TheVariants as search_at
-use Rattle.record_file.specs.AccessWords.{HasNoFileLock}
+use Rattle.call_writes.specs.record_file.Deletes.{part}
+use Rattle.call_writes.specs.record_file.declared.bucket_access.BucketStage.{BucketStage}
+use Rattle.call_writes.specs.record_file.declared.bucket_access.BucketStage.TheVariants as stages
+use Rattle.call_writes.specs.record_file.declared.insert.InsertStage.{InsertStage}
+use Rattle.call_writes.specs.record_file.declared.insert.InsertStage.TheVariants as tries
+use Rattle.call_writes.specs.record_file.declared.operation.RecordOperation.{RecordOperation}
+use Rattle.call_writes.specs.record_file.declared.operation.RecordOperation.TheVariants as operations
+use Rattle.call_writes.specs.record_file.declared.second_place.SecondPlace.{SecondPlace}
+use Rattle.call_writes.specs.record_file.declared.second_place.SecondPlace.TheVariants as second
+use Rattle.call_writes.specs.record_file.split_merge.declared.merge_place.MergePlace.{MergePlace}
+use Rattle.call_writes.specs.record_file.split_merge.declared.merge_place.MergePlace.TheVariants as merge
+use Rattle.call_writes.specs.record_file.stale_search.declared.place.ApproachPlace.{ApproachPlace}
+use Rattle.call_writes.specs.record_file.stale_search.declared.place.ApproachPlace.TheVariants as approach
+use Rattle.call_writes.specs.record_file.stale_search.declared.place.SearchPlace.{SearchPlace}
+use Rattle.call_writes.specs.record_file.stale_search.declared.place.SearchPlace.TheVariants as search_at
+use Rattle.call_writes.specs.record_file.AccessWords.{HasNoFileLock}
 use Rattle.xsi_calls.specs.Machine.{CallView, access_under_way, call_locks}
-use Rattle.xsi_calls.specs.Views.{locks_under}
-use Rattle.xsi_calls.specs.WriteWords.{AccessView}
+use Rattle.call_writes.specs.Views.{locks_under}
+use Rattle.call_writes.specs.WriteWords.{AccessView}
 
 -- ---- the directory
 

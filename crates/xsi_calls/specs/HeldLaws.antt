@@ -1,8 +1,8 @@
 -- Laws of the turns of a call with names. Each is the contract of a function of held_laws.rt.
 use Rattle.std.specs.Prelude.{suc, ◌≡◌, ◌↔◌, ◌≤◌, ◌*◌, List, [], ◌∷◌, ◌++◌}
 use Rattle.page_locks.specs.declared.lock.Lock.{Lock}
-use Rattle.call_decisions.specs.NameLaws.{AreNames}
-use Rattle.call_decisions.specs.declared.held.TheConstants.{MAX_NAMES}
+use Rattle.call_writes.specs.call_decisions.NameLaws.{AreNames}
+use Rattle.call_writes.specs.call_decisions.declared.held.TheConstants.{MAX_NAMES}
 use Rattle.xsi_calls.specs.declared.turn.NameTurn.TheVariants.{Take, GiveBack, Ready}
 use Rattle.xsi_calls.specs.NameTurns.{name_turn, names_left}
 

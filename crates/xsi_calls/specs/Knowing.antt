@@ -4,7 +4,7 @@ use Rattle.std.specs.Prelude.{ℕ, ◌≡◌, ◌≢◌, Option, Some, None, IsS
 use Rattle.xsi_calls.specs.QuestionSteps.{Faces}
 use Rattle.xsi_calls.specs.Undecided.{Trials, UndecidedCall, its_plan}
 use Rattle.xsi_calls.specs.UndecidedWords.{AreAlike, Call, Change, Decision, Due, Full, IsCarrying, IsFiled, IsRight, KnowsNear, KnowsOf, PoolState, QuestionsView, RecordKey, Records, State, Table, Trying, asked_of, caller_of, inserted, locked_of, names_for, names_in, nothing, questions_locks, record_of, row_of}
-use Rattle.xsi_calls.specs.declared.due.Due.TheVariants.{Undoing, Writing}
+use Rattle.call_writes.specs.declared.due.Due.TheVariants.{Undoing, Writing}
 
 -- ---- it asks
 

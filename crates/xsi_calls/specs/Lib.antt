@@ -1,13 +1,6 @@
 pub mod HeldLaws
 pub mod NameSteps
 pub mod NameTurns
-pub mod WriteWords
-pub mod Dues
-pub mod Views
-pub mod Carrying
-pub mod CarrySteps
-pub mod MakeSteps
-pub mod WriteLaws
 pub mod QuestionWords
 pub mod Answering
 pub mod ToldNames
@@ -18,12 +11,7 @@ pub mod QuestionSteps
 pub mod QuestionLaws
 pub mod QuestionRuns
 pub mod OneGo
-pub mod PaymentWords
-pub mod PaymentStages
-pub mod Payments
-pub mod Paying
 pub mod PaySteps
-pub mod PaymentLaws
 pub mod UndecidedWords
 pub mod UndecidedBelow
 pub mod Undecided
@@ -42,5 +30,6 @@ pub mod Calling
 pub mod CallSteps
 pub mod FileLocks
 pub mod Laws
-pub use Rattle.call_decisions.specs as call_decisions
-pub use Rattle.record_file.specs.stale_search
+pub use Rattle.call_writes.specs.call_decisions
+pub use Rattle.call_writes.specs.record_file.stale_search
+pub use Rattle.call_writes.specs as call_writes

@@ -2,14 +2,14 @@
 use Rattle.std.specs.Prelude.{ℕ, ◌≡◌, ◌+◌, Bool, true, false, List, [], Option, Some, None, length, ⊤}
 use Rattle.queue_model.specs.declared.answer.Answer.{Answer}
 use Rattle.step_rules.specs.Turns.{no_ask}
-use Rattle.xsi_calls.specs.PaymentLaws.{MOST_PAYMENT_STEPS}
+use Rattle.call_writes.specs.PaymentLaws.{MOST_PAYMENT_STEPS}
 use Rattle.xsi_calls.specs.declared.conclusion.Conclusion.{Conclusion}
 use Rattle.xsi_calls.specs.declared.question.Question.{Question}
 use Rattle.xsi_calls.specs.Concluding.{answer_in}
 use Rattle.xsi_calls.specs.Stages.{Stage, Undecided, Paying, Releasing}
-use Rattle.xsi_calls.specs.Payments.{payment_access}
+use Rattle.call_writes.specs.Payments.{payment_access}
 use Rattle.xsi_calls.specs.Questions.{question_access}
-use Rattle.xsi_calls.specs.WriteWords.{AccessView, searches_under}
+use Rattle.call_writes.specs.WriteWords.{AccessView, searches_under}
 use Rattle.xsi_calls.specs.Words.{MAX_NAMES, Writes, Call, Caller, HasRoom, IsCalm, IsFresh, IsPaid, KnowsNear, Known, Lock, Owes, RecordKey, State, Store, Trials, Turn, UndecidedCall, caller_of, its_plan, owes_now, payment_facts, payment_left, payment_locks, payment_turn, undecided_facts, undecided_left, undecided_locks, undecided_owes, undecided_turn}
 
 -- a call, with what it has asked and the names that it holds, and where it stands

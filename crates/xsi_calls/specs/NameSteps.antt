@@ -1,11 +1,11 @@
 -- The steps in which a name is taken or given back. docs/STEPS.md, "The kinds of step".
 use Rattle.std.specs.Prelude.{ℕ, ◌≡◌, List, [], ◌∷◌, ◌++◌, Option}
 use Rattle.page_locks.specs.declared.lock.Lock.{Lock}
-use Rattle.hash_file.specs.Changes.{RecordWrite}
+use Rattle.file_pages.specs.hash_file.Changes.{RecordWrite}
 use Rattle.step_rules.specs.declared.kind.Kind.TheVariants as kinds
 use Rattle.step_rules.specs.Words.{Change}
-use Rattle.call_decisions.specs.stale_search.Words.{Ask, Blocked, Ended, Moved, Opposes, PoolState, Progress, RecordKey, Table}
-use Rattle.call_decisions.specs.stale_search.Steps.{Sees, Step}
+use Rattle.call_writes.specs.call_decisions.stale_search.Words.{Ask, Blocked, Ended, Moved, Opposes, PoolState, Progress, RecordKey, Table}
+use Rattle.call_writes.specs.call_decisions.stale_search.Steps.{Sees, Step}
 
 -- the lock stands last among those that are held, or another seat stands in its way and all stays
 abbrev pub Takes : {F : Type 0} → Progress F → ℕ → Lock → Table → (held held' : List Lock) → Type 0

@@ -2,7 +2,8 @@
 use Rattle.std.specs.Prelude.{ℕ, ◌≡◌, ◌≤◌, ◌+◌, Bool, List, [], ◌∷◌, Option, Some, None}
 use Rattle.file_pages.specs.declared.fault.FileFault.{FileFault}
 use Rattle.step_rules.specs.declared.kind.Kind.TheVariants as kinds
-use Rattle.xsi_calls.specs.QuestionRuns.{AskStep, AsksAtOnce, At, Promise, WritesAtOnce}
+use Rattle.xsi_calls.specs.QuestionRuns.{AsksAtOnce}
+use Rattle.call_writes.specs.WriteRuns.{AskStep, At, Promise, WritesAtOnce}
 use Rattle.xsi_calls.specs.QuestionWords.{Fault, Moved}
 
 -- all steps of a question, or of a write; the Decide; or a name that is given back

@@ -1,6 +1,6 @@
 -- What of a call is under way has one room, and the call is seen by what stands there. docs/STEPS.md, "Calls".
 use Rattle.std.specs.Prelude.{◌≡◌, Bool, true, false, Option, Some, None, Result, Ok, Err, ⊤}
-use Rattle.call_decisions.specs.Anything.{decided_of}
+use Rattle.call_writes.specs.call_decisions.Anything.{decided_of}
 use Rattle.xsi_inquiry.specs.declared.decision.Decision.{Decision}
 use Rattle.xsi_inquiry.specs.declared.decision.Decision.TheVariants.{PutOff}
 use Rattle.xsi_inquiry.specs.declared.verdict.Verdict.TheVariants as verdicts
@@ -13,10 +13,10 @@ use Rattle.xsi_calls.specs.declared.phase.Phase.TheVariants as phases
 use Rattle.xsi_calls.specs.declared.question.Question.{Question}
 use Rattle.xsi_calls.specs.declared.questions.Questions.{Questions}
 use Rattle.xsi_calls.specs.declared.trials.TrialsPlace.{TrialsPlace}
-use Rattle.xsi_calls.specs.declared.writes.CallWrites.{CallWrites}
+use Rattle.call_writes.specs.declared.writes.CallWrites.{CallWrites}
 use Rattle.xsi_calls.specs.Machine.{CallView, IsOneCall}
-use Rattle.xsi_calls.specs.Payments.{unwritten}
-use Rattle.xsi_calls.specs.PaymentStages as stages
+use Rattle.call_writes.specs.Payments.{unwritten}
+use Rattle.call_writes.specs.PaymentStages as stages
 use Rattle.xsi_calls.specs.Questions.{QuestionsView}
 use Rattle.xsi_calls.specs.Undecided.{Trials, UndecidedCall, untried}
 use Rattle.xsi_calls.specs.UndecidedWords.{AnyInquiry, NotASystem}

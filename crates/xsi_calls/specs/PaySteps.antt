@@ -2,17 +2,18 @@
 use Rattle.std.specs.Prelude.{ℕ, ◌≡◌, ◌↔◌, true, false, not, List, Option}
 use Rattle.file_pages.specs.declared.fault.FileFault.{FileFault}
 use Rattle.file_pages.specs.declared.fault.FileFault.TheVariants.{Failed}
-use Rattle.xsi_calls.specs.CarrySteps.{Advances, Leaves}
-use Rattle.xsi_calls.specs.MakeSteps.{MakesWrites}
-use Rattle.call_decisions.specs.Owing.{is_swept}
-use Rattle.xsi_remove.specs.Words.{StepHasCause}
-use Rattle.xsi_remove.specs.UnderWay.{StepsUnderWay}
-use Rattle.xsi_remove.specs.SweepSteps.{IsOf, IsOver, MakesSweep}
-use Rattle.xsi_calls.specs.PaymentStages.{Stage}
-use Rattle.xsi_calls.specs.PaymentStages as stages
-use Rattle.xsi_calls.specs.PaymentWords.{RecordKey, PoolState, Table, Lock, Change, store_of, OnlyWrites, FollowsRow, NearsOrSpares, Progress, Ended, Fault, is_fault, is_write, Step, Owns, Plan, Records, overlaid, CallWrites, Work, is_move}
-use Rattle.xsi_calls.specs.Payments.{IsPaid, owes_now, payment_access, payment_facts, payment_left, payment_locks, payment_turn, unwritten}
-use Rattle.xsi_calls.specs.Paying.{IsPaying}
+use Rattle.call_writes.specs.CarrySteps.{Advances, Leaves}
+use Rattle.call_writes.specs.MakeSteps.{MakesWrites}
+use Rattle.call_writes.specs.call_decisions.Owing.{is_swept}
+use Rattle.call_writes.specs.xsi_remove.Words.{StepHasCause}
+use Rattle.call_writes.specs.xsi_remove.UnderWay.{StepsUnderWay}
+use Rattle.call_writes.specs.xsi_remove.SweepSteps.{IsOf, IsOver, MakesSweep}
+use Rattle.call_writes.specs.PaymentStages.{Stage}
+use Rattle.call_writes.specs.PaymentStages as stages
+use Rattle.call_writes.specs.PaymentWords.{RecordKey, PoolState, Table, Lock, Change, store_of, OnlyWrites, FollowsRow, NearsOrSpares, Progress, Ended, Fault, is_fault, is_write, Step, Owns, Plan, Records, overlaid, Work, is_move}
+use Rattle.call_writes.specs.declared.writes.CallWrites.{CallWrites}
+use Rattle.call_writes.specs.Payments.{IsPaid, owes_now, payment_access, payment_facts, payment_left, payment_locks, payment_turn, unwritten}
+use Rattle.call_writes.specs.Paying.{IsPaying}
 
 -- ---- whatever the device gives
 

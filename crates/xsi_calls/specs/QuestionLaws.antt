@@ -2,7 +2,7 @@
 -- docs/STEPS.md, "What a call reads".
 use Rattle.std.specs.Prelude.{ℕ, ◌≡◌, ◌≢◌, ◌≤◌, true, Option, Some, None, [], List}
 use Rattle.std.specs.List.{Contains}
-use Rattle.call_decisions.specs.Anything.{locked_of}
+use Rattle.call_writes.specs.call_decisions.Anything.{locked_of}
 use Rattle.page_locks.specs.declared.lock.LockKind.TheVariants.{Exclusive}
 use Rattle.page_locks.specs.Locks.{kind_of}
 use Rattle.xsi_calls.specs.QuestionWords.{Store, Record, StandsAt, AnyInquiry, KnowsOf, asked_of, left_of, plan_of, LockName, names_in, names_for, Call, State, Wanted, Roomful}

@@ -1,7 +1,7 @@
 -- What a step of a call does that asks the file its questions. docs/STEPS.md, "Calls".
 use Rattle.std.specs.Prelude.{ℕ, ◌≡◌, ◌<◌, ◌↔◌, ◌⊎◌, Bool, true, false, not, List, Option, Some, None, IsOk, Result, ⊤}
 use Rattle.file_pages.specs.declared.fault.FileFault.{FileFault}
-use Rattle.xsi_remove.specs.Words.{StepHasCause}
+use Rattle.call_writes.specs.xsi_remove.Words.{StepHasCause}
 use Rattle.xsi_calls.specs.declared.question.Question.{Question}
 use Rattle.xsi_calls.specs.QuestionWords.{RecordKey, PoolState, Table, Change, with_row, store_of, OnlyWrites, Progress, Moved, Blocked, Fault, Ended, Look, is_fault, Sees, Step, NearsOrSpares, Record, is_write, HasEnded, ToFind, AccessView, HasFound, Serves, access_answer, begun, AnyInquiry, FollowsOf, KnowsOf, asked_of, caller_of, left_of, names_in, names_for, name_turn, Ready, LockName, Call, State, Wanted, NotASystem, IsCovered, IsSoNear, IsFiled, Roomful}
 use Rattle.xsi_calls.specs.Answering.{Answers, key_asked}

@@ -1,9 +1,9 @@
 -- Words of the crates below, under one name.
-pub use Rattle.record_file.specs.AccessWords.{RecordKey, PoolState, Table, Lock, Change, Store, row_of, store_of, IsReady, OnlyWrites, Progress, Moved, Blocked, Fault, Ended, Look, World, Known, Turn, is_fault, IsSeat, HasNoFileLock, Sees, Step, world, NearsOrSpares, HasEnded, Record}
-pub use Rattle.record_file.specs.Purposes.{ToFind, StandsAt, is_write}
-pub use Rattle.record_file.specs.Accesses.{AccessView, HasFound, Serves, access_answer, access_facts, access_key, access_left, access_locks, access_pseudokey, access_turn, begun, has_set_out, searches_under}
-pub use Rattle.call_decisions.specs.declared.any_inquiry.AnyInquiry.{AnyInquiry}
-pub use Rattle.call_decisions.specs.Anything.{FollowsOf, KnowsOf, asked_of, caller_of, left_of, plan_of}
+pub use Rattle.call_writes.specs.record_file.AccessWords.{RecordKey, PoolState, Table, Lock, Change, Store, row_of, store_of, IsReady, OnlyWrites, Progress, Moved, Blocked, Fault, Ended, Look, World, Known, Turn, is_fault, IsSeat, HasNoFileLock, Sees, Step, world, NearsOrSpares, HasEnded, Record}
+pub use Rattle.call_writes.specs.record_file.Purposes.{ToFind, StandsAt, is_write}
+pub use Rattle.call_writes.specs.record_file.Accesses.{AccessView, HasFound, Serves, access_answer, access_facts, access_key, access_left, access_locks, access_pseudokey, access_turn, begun, has_set_out, searches_under}
+pub use Rattle.call_writes.specs.call_decisions.declared.any_inquiry.AnyInquiry.{AnyInquiry}
+pub use Rattle.call_writes.specs.call_decisions.Anything.{FollowsOf, KnowsOf, asked_of, caller_of, left_of, plan_of}
 pub use Rattle.xsi_calls.specs.call_decisions.NameLaws.{AreNames, names_in}
 pub use Rattle.xsi_calls.specs.call_decisions.Names.{by_phase, exclusively, names_for, queue_for}
 pub use Rattle.xsi_calls.specs.call_decisions.declared.held.TheConstants.{MAX_NAMES}
@@ -20,7 +20,7 @@ pub use Rattle.queue_model.specs.State.{State}
 pub use Rattle.queue_records.specs.declared.counter.Counter.{Counter}
 pub use Rattle.queue_records.specs.Keys.{guard_of}
 pub use Rattle.queue_records.specs.Spelling.{counter_key}
-pub use Rattle.type_chains.specs.RecordOf.{record_of}
+pub use Rattle.xsi_inquiry.specs.type_chains.RecordOf.{record_of}
 pub use Rattle.xsi_inquiry.specs.declared.wanted.Wanted.{Wanted}
 pub use Rattle.xsi_inquiry.specs.declared.wanted.Wanted.TheVariants.{At, Given}
 pub use Rattle.xsi_inquiry.specs.declared.inquiry.NotASystem.{NotASystem}

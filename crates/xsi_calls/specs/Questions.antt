@@ -1,9 +1,9 @@
 -- A call that asks the file its questions: what it holds, knows, asks for, and is about. docs/STEPS.md, "Calls".
 use Rattle.std.specs.Prelude.{ℕ, ◌≡◌, ◌≤◌, ◌<◌, ◌⊎◌, ◌+◌, ◌*◌, ◌&&◌, ◌||◌, Bool, true, false, not, List, [], Option, Some, None, IfSome, if◌then◌else◌, slice_get}
 use Rattle.std.specs.Option.{is_some}
-use Rattle.call_decisions.specs.InquiryWords.{RemoveInquiry}
-use Rattle.call_decisions.specs.declared.any_inquiry.AnyInquiry.TheVariants as any
-use Rattle.call_decisions.specs.Others.{HoldsOwn}
+use Rattle.call_writes.specs.call_decisions.InquiryWords.{RemoveInquiry}
+use Rattle.call_writes.specs.call_decisions.declared.any_inquiry.AnyInquiry.TheVariants as any
+use Rattle.call_writes.specs.call_decisions.Others.{HoldsOwn}
 use Rattle.page_locks.specs.declared.lock.LockKind.TheVariants.{Read}
 use Rattle.page_locks.specs.declared.lock.LockName.TheVariants.{Directory}
 use Rattle.queue_model.specs.declared.call.Call.TheVariants as calls

@@ -2,8 +2,8 @@
 -- docs/STEPS.md, "What a call reads".
 use Rattle.std.specs.Prelude.{ℕ, ◌≡◌, ◌⊎◌, List, Option, Some, None, Result, Ok, ⊤}
 use Rattle.std.specs.List.{AllByRecursion, find}
-use Rattle.call_decisions.specs.Anything.{decided_of, of_get, of_remove}
-use Rattle.call_decisions.specs.InquiryWords.{Decision, GetInquiry, RemoveInquiry}
+use Rattle.call_writes.specs.call_decisions.Anything.{decided_of, of_get, of_remove}
+use Rattle.call_writes.specs.call_decisions.InquiryWords.{Decision, GetInquiry, RemoveInquiry}
 use Rattle.page_locks.specs.declared.lock.LockName.TheVariants as names
 use Rattle.queue_model.specs.declared.call.Call.TheVariants.{Get, Remove}
 use Rattle.queue_model.specs.declared.errno.Errno.{Errno}

@@ -1,6 +1,6 @@
 -- A call up to its Decide: what it holds, knows, asks for and owes. docs/STEPS.md, "Calls".
 use Rattle.std.specs.Prelude.{ℕ, ◌≡◌, ◌≤◌, ◌+◌, ◌*◌, Bool, true, List, [], Option, Some, None, if◌then◌else◌, slice_get, ⊤}
-use Rattle.xsi_calls.specs.declared.writes.CallWrites.{CallWrites}
+use Rattle.call_writes.specs.declared.writes.CallWrites.{CallWrites}
 use Rattle.xsi_inquiry.specs.declared.write.TheConstants.{MAX_TRIALS}
 use Rattle.xsi_inquiry.specs.Telling.{most_asked}
 use Rattle.xsi_calls.specs.UndecidedWords.{Call, Decision, IsBare, IsOver, Known, Lock, MOST_STEPS, Owes, Plan, QuestionsView, RecordKey, Store, Trying, Turn, Writes, is_done, is_full, left_of, owes, plan_of, questions_facts, questions_left, questions_locks, questions_turn, writes_facts, writes_left_in, writes_locks, writes_turn}

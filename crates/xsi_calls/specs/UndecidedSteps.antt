@@ -1,7 +1,7 @@
 -- What a step of a call does up to its Decide. docs/STEPS.md, "Calls".
 use Rattle.std.specs.Prelude.{ℕ, ◌≡◌, ◌↔◌, true, false, not, Option, Some, None}
 use Rattle.file_pages.specs.declared.fault.FileFault.{FileFault}
-use Rattle.xsi_remove.specs.Words.{StepHasCause}
+use Rattle.call_writes.specs.xsi_remove.Words.{StepHasCause}
 use Rattle.xsi_calls.specs.Undecided.{Trials, UndecidedCall, CanDecide, IsCalm, has_no_room, its_plan, trials_of, undecided_facts, undecided_left, undecided_locks, undecided_owes, undecided_turn}
 use Rattle.xsi_calls.specs.UndecidedWords.{Call, Change, Ended, Exclusive, IsRightSoFar, KnowsNear, NearsOrSpares, OnlyWrites, PoolState, Progress, QuestionsView, RecordKey, Records, State, Step, Table, TrialLacksRoom, caller_of, finds_behind, guard_of, is_fault, is_write, kind_of, overlaid, store_of, with_row, world}
 use Rattle.xsi_calls.specs.Knowing.{IsTrying, IsUndecided}

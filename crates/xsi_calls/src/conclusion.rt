@@ -3,7 +3,7 @@
 ghost use Rattle.std.specs.Prelude.{◌≡◌};
 ghost use Rattle.xsi_calls.specs.Concluding.{answer_in, conclusion_by};
 
-use call_decisions::Settled;
+use call_writes::Settled;
 use queue_model::Answer;
 use xsi_inquiry::{Room, Verdict};
 

@@ -2,7 +2,8 @@
 
 ghost use Rattle.std.specs.Prelude.{◌≡◌};
 ghost use Rattle.xsi_calls.specs.QuestionWords.{IsSeat, row_of};
-ghost use Rattle.xsi_calls.specs.Counting.{enters_directory, finds_behind, is_to_search};
+ghost use Rattle.xsi_calls.specs.Counting.{enters_directory, finds_behind};
+ghost use Rattle.call_writes.specs.WriteRuns.{is_to_search};
 
 use file_pages::FileFault;
 use page_locks::{Lock, LockKind, LockName, LockTable};

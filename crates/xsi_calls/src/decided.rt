@@ -1,7 +1,6 @@
 //! What a call has come to at its Decide.
 
-use crate::due::Due;
-use call_decisions::Settled;
+use call_writes::{Due, Settled};
 
 /// What a call has come to at its Decide, and how far its trials are, which rest, and are carried
 /// out further after it.

@@ -6,7 +6,7 @@ ghost use Rattle.queue_records.specs.declared.record.Record.TheVariants as recor
 ghost use Rattle.xsi_calls.specs.QuestionWords.{Counter, asked_of};
 ghost use Rattle.xsi_calls.specs.QuestionSteps.{Hears};
 
-use call_decisions::AnyInquiry;
+use call_writes::AnyInquiry;
 use queue_model::Call;
 use queue_records::Record;
 use xsi_inquiry::{Inquiry, NotASystem, Room, Wanted, counter_in, tell, tell_given};

@@ -3,15 +3,15 @@
 ghost use Rattle.std.specs.Prelude.{◌≡◌, ◌↔◌, [], ◌∷◌, ◌++◌, IfSome, IsTrue, Some, None};
 ghost use Rattle.page_locks.specs.Table.{IsSeat, row_of, with_row};
 ghost use Rattle.step_rules.specs.Turns.{ForLock};
-ghost use Rattle.call_decisions.specs.NameLaws.{AreNames};
-ghost use Rattle.call_decisions.specs.Names.{names_for};
+ghost use Rattle.call_writes.specs.call_decisions.NameLaws.{AreNames};
+ghost use Rattle.call_writes.specs.call_decisions.Names.{names_for};
 ghost use Rattle.xsi_calls.specs.NameSteps.{GivesBack, MakesNameStep, Takes};
 ghost use Rattle.xsi_calls.specs.NameTurns.{is_there, name_turn};
 
 use crate::turn::NameTurn;
 use arrayvec::ArrayVec;
-use call_decisions::file_pages::FileFault;
-use call_decisions::{AnyInquiry, MAX_NAMES, name_at};
+use call_writes::{AnyInquiry, MAX_NAMES, name_at};
+use file_pages::FileFault;
 use page_locks::{Grant, Lock, LockKind, LockName, LockTable};
 use queue_model::Call;
 use std::marker::Model;
@@ -26,7 +26,7 @@ pub struct HeldNames {
 impl Model for HeldNames {
     ghost use Rattle.std.specs.Prelude.{List};
     ghost use Rattle.page_locks.specs.declared.lock.Lock.{Lock};
-    ghost use Rattle.call_decisions.specs.NameLaws.{AreNames};
+    ghost use Rattle.call_writes.specs.call_decisions.NameLaws.{AreNames};
 
     ghost Value = { List Lock };
 

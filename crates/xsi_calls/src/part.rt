@@ -4,19 +4,15 @@ ghost use Rattle.std.specs.Prelude.{◌≡◌, None, Some, false, true};
 ghost use Rattle.std.specs.Option.{is_some};
 ghost use Rattle.xsi_calls.specs.Parts.{conclusion_under, paying, question_under, tried_under};
 ghost use Rattle.xsi_calls.specs.Concluding.{conclusion_by};
-ghost use Rattle.xsi_calls.specs.Payments.{begun_payment, decided};
+ghost use Rattle.call_writes.specs.Payments.{begun_payment, decided};
 ghost use Rattle.xsi_calls.specs.Undecided.{untried};
 
 use crate::conclusion::Conclusion;
-use crate::due::Due;
-use crate::payment::{decide_at, decided, sweep_of};
 use crate::question::QuestionPlace;
 use crate::trials::TrialsPlace;
-use crate::writes::CallWrites;
 use bucket_page::PseudoKey;
-use call_decisions::Settled;
+use call_writes::{CallWrites, Due, Settled, SweepTurns, decide_at, decided, sweep_of};
 use xsi_inquiry::Verdict;
-use xsi_remove::SweepTurns;
 
 /// What of a call is under way. Each part has an access of its own, and they come one after the
 /// other, so they share one room. It stays that of the writes from call to call as long as no step

@@ -7,11 +7,10 @@ ghost use Rattle.xsi_calls.specs.QuestionSteps.{Closes, Listens};
 
 use crate::hearing::hear;
 use bucket_page::RecordKey;
-use call_decisions::AnyInquiry;
+use call_writes::{Access, AnyInquiry};
 use file_pages::FileFault;
 use queue_model::Call;
 use queue_records::counter_key;
-use record_file::Access;
 use std::marker::Model;
 use step_rules::{Kind, Progress};
 use xsi_inquiry::{Inquiry, NotASystem, Room};

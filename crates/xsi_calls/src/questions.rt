@@ -20,7 +20,7 @@ use crate::question::{QuestionPlace, goes_on, listen};
 use crate::turn::NameTurn;
 use bucket_page::{PseudoKey, RecordKey};
 use buffer_pool::Pool;
-use call_decisions::AnyInquiry;
+use call_writes::AnyInquiry;
 use file_pages::FileFault;
 use page_device::PageDevice;
 use page_locks::LockTable;

@@ -8,14 +8,13 @@ ghost use Rattle.xsi_calls.specs.Beginning.{GoesOnTrying};
 ghost use Rattle.xsi_calls.specs.Knowing.{IsUndecided};
 ghost use Rattle.xsi_calls.specs.Parts.{asked_with, question_under, tried_in, tried_under, undecided_with};
 ghost use Rattle.xsi_calls.specs.Deciding.{IsDecided};
-ghost use Rattle.xsi_calls.specs.Views.{is_full};
+ghost use Rattle.call_writes.specs.Views.{is_full};
 
 use crate::decided::Decided;
-use crate::due::Due;
 use crate::part::Part;
 use crate::questions::Questions;
 use crate::trials::TrialsPlace;
-use call_decisions::{Settled, decide};
+use call_writes::{Due, Settled, decide};
 use queue_model::Call;
 use xsi_inquiry::{Inquiry, NotASystem};
 

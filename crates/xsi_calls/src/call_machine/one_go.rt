@@ -9,11 +9,10 @@ ghost use Rattle.xsi_calls.specs.Words.{CanDecide, Fault, IsReady, IsSeat, Moved
 
 use crate::call_machine::{CallMachine, decide};
 use crate::part::Part;
-use crate::payment::is_move;
 use crate::phase::Phase;
-use crate::plan::PlanOf;
 use bucket_page::PseudoKey;
 use buffer_pool::Pool;
+use call_writes::{PlanOf, is_move};
 use file_pages::FileFault;
 use page_device::PageDevice;
 use page_locks::LockTable;

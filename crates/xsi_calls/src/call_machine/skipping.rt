@@ -7,9 +7,9 @@ ghost use Rattle.xsi_calls.specs.Words.{AsksAtOnce, Fault, IsReady, IsSeat, Writ
 
 use crate::call_machine::CallMachine;
 use crate::part::Part;
-use crate::plan::PlanOf;
 use bucket_page::PseudoKey;
 use buffer_pool::Pool;
+use call_writes::PlanOf;
 use file_pages::FileFault;
 use page_device::PageDevice;
 use page_locks::LockTable;

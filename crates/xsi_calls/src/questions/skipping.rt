@@ -12,10 +12,10 @@ use crate::hearing::hear;
 use crate::questions::{Questions, is_ready, key_asked};
 use bucket_page::PseudoKey;
 use buffer_pool::Pool;
+use call_writes::{BucketAccess, BucketDeed as Deed, record_ahead};
 use page_device::PageDevice;
 use page_locks::LockTable;
 use queue_model::Call;
-use record_file::{BucketAccess, Deed, record_ahead};
 use xsi_inquiry::Inquiry;
 
 impl Questions {

@@ -5,7 +5,7 @@ use Rattle.xsi_calls.specs.CallSteps.{MakesCall}
 use Rattle.xsi_calls.specs.Machine.{CallView, is_searching}
 use Rattle.xsi_calls.specs.OneGo.{Decides, RunsAtOnce}
 use Rattle.xsi_calls.specs.Words.{at}
-use Rattle.xsi_calls.proofs.HeldLemmas.{none_of}
+use Rattle.call_writes.proofs.StartLemmas.{none_of}
 use Rattle.xsi_calls.proofs.OneGoLemmas.{goes_behind, goes_so_far, goes_within, joined, one_more, ran, stands_behind}
 use Rattle.xsi_calls.proofs.call_machine.CallMachine.decide_through.Given as given
 use Rattle.xsi_calls.proofs.call_machine.CallMachine.decide_through.Goals as goal

@@ -4,7 +4,7 @@ use Rattle.file_pages.specs.declared.fault.FileFault.{FileFault}
 use Rattle.xsi_calls.specs.CallSteps.{MakesCall, MakesRelease}
 use Rattle.xsi_calls.specs.Machine.{CallView}
 use Rattle.xsi_calls.specs.Parts.{IsToPay, asked_with, conclusion_under, payment_under, question_under, undecided_with}
-use Rattle.xsi_calls.specs.PaymentStages.{Writing}
+use Rattle.call_writes.specs.PaymentStages.{Writing}
 use Rattle.xsi_calls.specs.Stages.{Releasing}
 use Rattle.xsi_calls.specs.UndecidedWords.{AnyInquiry, plan_of}
 use Rattle.xsi_calls.specs.Words.{Ended, Progress}

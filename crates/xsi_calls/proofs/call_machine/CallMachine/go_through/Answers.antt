@@ -3,7 +3,7 @@ use Rattle.std.proofs.Common.{sym, ◌∙◌}
 use Rattle.xsi_calls.specs.CallSteps.{MakesCall}
 use Rattle.xsi_calls.specs.Machine.{is_searching}
 use Rattle.xsi_calls.specs.Words.{at}
-use Rattle.xsi_calls.proofs.HeldLemmas.{none_of}
+use Rattle.call_writes.proofs.StartLemmas.{none_of}
 use Rattle.xsi_calls.proofs.OneGoLemmas.{goes_behind, ran}
 use Rattle.xsi_calls.proofs.call_machine.CallMachine.go_through.Goals as goal
 

@@ -4,7 +4,7 @@ use Rattle.xsi_calls.specs.CallSteps.{MakesCall}
 use Rattle.xsi_calls.specs.Machine.{is_searching}
 use Rattle.xsi_calls.specs.OneGo.{GivesBack}
 use Rattle.xsi_calls.specs.Words.{at}
-use Rattle.xsi_calls.proofs.HeldLemmas.{none_of}
+use Rattle.call_writes.proofs.StartLemmas.{none_of}
 use Rattle.xsi_calls.proofs.OneGoLemmas.{goes_so_far, one_more, ran}
 use Rattle.xsi_calls.proofs.call_machine.CallMachine.pay_through.Goals as goal
 

@@ -2,7 +2,7 @@
 use Rattle.std.proofs.Common.{sym, ap, ◌∙◌, Option, false}
 use Rattle.xsi_calls.specs.declared.question.Question.{Question}
 use Rattle.xsi_calls.specs.Questions.{locks_behind}
-use Rattle.xsi_calls.proofs.HeldLemmas.{none_of}
+use Rattle.call_writes.proofs.StartLemmas.{none_of}
 use Rattle.xsi_calls.proofs.MachineLemmas.{asking_row, asks_at_once_there}
 use Rattle.xsi_calls.proofs.call_machine.CallMachine.skip.Goals as goal
 

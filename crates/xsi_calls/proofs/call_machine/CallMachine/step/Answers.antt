@@ -17,13 +17,13 @@ use Rattle.xsi_calls.specs.Machine.{CallView, is_undecided}
 use Rattle.xsi_calls.specs.Parts.{asked_with, conclusion_under, decision_by, payment_under, question_under, tried_under, undecided_with}
 use Rattle.xsi_calls.specs.Questions.{has_asked, is_done}
 use Rattle.xsi_calls.specs.QuestionSteps.{MakesQuestions}
-use Rattle.xsi_calls.specs.PaymentStages.{Sweeping, Writing}
+use Rattle.call_writes.specs.PaymentStages.{Sweeping, Writing}
 use Rattle.xsi_calls.specs.Stages.{Releasing, stage_at}
 use Rattle.xsi_calls.specs.UndecidedWords.{AnyInquiry, NotASystem, plan_of}
 use Rattle.xsi_calls.specs.Words.{AreNames, Ended, Fault}
 use Rattle.xsi_calls.proofs.DecidedLemmas.{decides_by, fails_from}
 use Rattle.xsi_calls.proofs.GoLemmas.{at_end, not_end, undecided_row}
-use Rattle.xsi_calls.proofs.HeldLemmas.{none_of}
+use Rattle.call_writes.proofs.StartLemmas.{none_of}
 use Rattle.xsi_calls.proofs.MachineLemmas.{asks_one, asks_there, blocked_there, first_there, no_trials, pays_there, releases_there, tries_there, undecided_here}
 use Rattle.xsi_calls.proofs.PartLemmas.{ends_part, failed_part, goes_part, writes_part}
 use Rattle.xsi_calls.proofs.PayLemmas.{pays_from, released_from, sweeps_from}

@@ -1,5 +1,5 @@
 use Rattle.std.proofs.Common.{sym, ◌∙◌, subst, [], ◌∷◌}
-use Rattle.call_decisions.specs.NameLaws.{AreNames}
+use Rattle.call_writes.specs.call_decisions.NameLaws.{AreNames}
 use Rattle.xsi_calls.proofs.OrderLemmas.{begin_are_names}
 use Rattle.xsi_calls.proofs.HeldStepLemmas.{gave_last_back, row_without}
 use Rattle.xsi_calls.proofs.held_names.HeldNames.give_back.Goals as goal

@@ -1,9 +1,9 @@
 use Rattle.std.proofs.Common.{ap, ◌∙◌, [], arith, length}
 use Rattle.std.proofs.lemmas.List.{length_push}
 use Rattle.step_rules.specs.Words.{Page}
-use Rattle.call_decisions.specs.stale_search.Words.{kind_of}
-use Rattle.call_decisions.specs.stale_search.Steps.{world}
-use Rattle.call_decisions.proofs.of_stale_search.StepLemmas.{granted_to}
+use Rattle.call_writes.specs.call_decisions.stale_search.Words.{kind_of}
+use Rattle.call_writes.specs.call_decisions.stale_search.Steps.{world}
+use Rattle.call_writes.proofs.of_call_decisions.of_stale_search.StepLemmas.{granted_to}
 use Rattle.xsi_calls.proofs.OrderLemmas.{last_is_new, last_is_not, next_may}
 use Rattle.xsi_calls.proofs.held_names.HeldNames.take.Goals as goal
 

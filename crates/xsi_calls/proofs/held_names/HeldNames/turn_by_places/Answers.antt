@@ -1,5 +1,5 @@
 use Rattle.std.proofs.Common.{sym, ◌∙◌, arith, length}
-use Rattle.call_decisions.specs.Names.{names_for}
+use Rattle.call_writes.specs.call_decisions.Names.{names_for}
 use Rattle.xsi_calls.proofs.HeldTurnLemmas.{differs_in, ends_in, goes_on_in, takes_next}
 use Rattle.xsi_calls.proofs.held_names.HeldNames.turn_by_places.Goals as goal
 

@@ -1,5 +1,5 @@
 use Rattle.std.proofs.Common.{◌≡◌, drop}
-use Rattle.call_decisions.specs.Names.{names_for}
+use Rattle.call_writes.specs.call_decisions.Names.{names_for}
 use Rattle.xsi_calls.specs.NameTurns.{name_turn}
 use Rattle.xsi_calls.proofs.held_names.HeldNames.turn_by_places.Given as goal
 

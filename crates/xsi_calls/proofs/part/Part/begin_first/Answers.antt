@@ -8,7 +8,8 @@ use Rattle.xsi_calls.specs.Undecided.{undecided_locks}
 use Rattle.xsi_calls.specs.UndecidedSteps.{MakesUndecided}
 use Rattle.xsi_calls.specs.UndecidedWords.{AnyInquiry, plan_of}
 use Rattle.xsi_calls.proofs.BeginLemmas.{decision_made}
-use Rattle.xsi_calls.proofs.HeldLemmas.{none_of, some_of}
+use Rattle.xsi_calls.proofs.HeldLemmas.{some_of}
+use Rattle.call_writes.proofs.StartLemmas.{none_of}
 use Rattle.xsi_calls.proofs.RoomLemmas.{bare_undecided, still_done}
 use Rattle.xsi_calls.proofs.StepLemmas.{begun, rests}
 use Rattle.xsi_calls.proofs.part.Part.begin_first.Goals as goal

@@ -2,9 +2,9 @@
 use Rattle.std.proofs.Common.{◌≡◌, sym, ap, ◌∙◌, subst, Result, Ok}
 use Rattle.std.proofs.lemmas.Bool.{true≢false}
 use Rattle.std.specs.Option.{is_some}
-use Rattle.call_decisions.specs.Anything.{decided_of}
+use Rattle.call_writes.specs.call_decisions.Anything.{decided_of}
 use Rattle.xsi_inquiry.specs.Telling.{Gives}
-use Rattle.xsi_calls.specs.declared.writes.CallWrites.{CallWrites}
+use Rattle.call_writes.specs.declared.writes.CallWrites.{CallWrites}
 use Rattle.xsi_calls.specs.Deciding.{IsSettled}
 use Rattle.xsi_calls.specs.Parts.{asked_with, decision_by, question_under, tried_under, trials_under, undecided_with}
 use Rattle.xsi_calls.specs.Undecided.{trials_of}

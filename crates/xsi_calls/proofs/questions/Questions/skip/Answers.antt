@@ -1,12 +1,12 @@
 -- The find makes its moves, and the inquiry hears of what was read ahead.
 use Rattle.std.proofs.Common.{◌≡◌, ℕ, ◌+◌, ◌≤◌, List, min, sym, ap, ◌∙◌, subst, arith, length, None}
 use Rattle.page_locks.specs.declared.row.TheConstants.{MAX_LOCKS}
-use Rattle.record_file.specs.AccessWords.{HasNoFileLock}
-use Rattle.record_file.specs.BucketAccesses.{BucketView, begun_access}
-use Rattle.record_file.specs.BucketRuns.{FindsStraight}
-use Rattle.record_file.specs.Readings.{IsReadAhead, value_on}
-use Rattle.record_file.specs.declared.bucket_access.Deed.TheVariants as deeds
-use Rattle.record_file.proofs.FindAheadLemmas.{finds_ahead, found_there, same_ahead}
+use Rattle.call_writes.specs.record_file.AccessWords.{HasNoFileLock}
+use Rattle.call_writes.specs.record_file.BucketAccesses.{BucketView, begun_access}
+use Rattle.call_writes.specs.record_file.BucketRuns.{FindsStraight}
+use Rattle.call_writes.specs.record_file.Readings.{IsReadAhead, value_on}
+use Rattle.call_writes.specs.record_file.declared.bucket_access.Deed.TheVariants as deeds
+use Rattle.call_writes.proofs.of_record_file.FindAheadLemmas.{finds_ahead, found_there, same_ahead}
 use Rattle.xsi_calls.specs.Answering.{key_asked}
 use Rattle.xsi_calls.specs.Counting.{MOST_FINDS}
 use Rattle.xsi_calls.specs.QuestionRuns.{AsksAtOnce}

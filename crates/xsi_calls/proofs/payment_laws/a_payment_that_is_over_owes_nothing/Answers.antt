@@ -1,5 +1,0 @@
-use Rattle.xsi_calls.proofs.PaymentDecidedLemmas.{owes_nothing_at_end}
-use Rattle.xsi_calls.proofs.payment_laws.a_payment_that_is_over_owes_nothing.Goals as goal
-
-pub returns : goal.returns
-returns c = owes_nothing_at_end

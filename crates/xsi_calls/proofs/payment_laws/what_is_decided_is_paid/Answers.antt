@@ -1,9 +1,0 @@
-use Rattle.xsi_calls.proofs.PaymentBeginLemmas.{undoes_its_trials}
-use Rattle.xsi_calls.proofs.PaymentDecidedLemmas.{pays_what_is_decided}
-use Rattle.xsi_calls.proofs.payment_laws.what_is_decided_is_paid.Goals as goal
-
-pub returns-clause-decided : goal.returns-clause-decided
-returns-clause-decided c = pays_what_is_decided
-
-pub returns-clause-full : goal.returns-clause-full
-returns-clause-full c = undoes_its_trials
