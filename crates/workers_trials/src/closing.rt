@@ -32,7 +32,7 @@ pub fn shown<D: PageDevice + Drop, G: Gate, N: Room + Base>(
 }
 
 /// Ends a service whose threads have ended. Without its seats it comes back first, but where a step
-/// has failed.
+/// has failed. Where it ends in another way than it should, that is as if nothing was shown.
 pub fn close<D: PageDevice + Drop, G: Gate + Drop, N: Room + Base>(
     alloc: Global,
     service: Shared<D, G, N>,
@@ -41,19 +41,13 @@ pub fn close<D: PageDevice + Drop, G: Gate + Drop, N: Room + Base>(
     shown: Option<u64>,
 ) -> Result<Left<D>, Fail> {
     match service.close(Vec::new(alloc), stopper) {
-        Ending::Missing(unclosed, _, stopper) => {
+        Ending::Missing(unclosed, _none, stopper) => {
             finish(alloc, unclosed.reopen(), stopper, seats, shown)
         }
         Ending::Fault(ended, fault) => {
-            let Ended {
-                device,
-                journal,
-                seats: _,
-                failure: _,
-            } = ended;
-            leave(alloc, device, journal, seats.as_slice(), Some(fault), shown)
+            leave(alloc, with_seats(ended, seats), Some(fault), shown)
         }
-        Ending::Closed(_) => Err(Fail::from("it is closed though seats are missing")),
+        Ending::Closed(ended) => leave(alloc, with_seats(ended, seats), None, None),
     }
 }
 
@@ -66,14 +60,24 @@ fn finish<D: PageDevice + Drop, G: Gate + Drop, N: Room + Base>(
     shown: Option<u64>,
 ) -> Result<Left<D>, Fail> {
     match service.close(seats, stopper) {
-        Ending::Closed(ended) => leave_whole(alloc, ended, None, shown),
-        Ending::Fault(ended, fault) => leave_whole(alloc, ended, Some(fault), shown),
-        Ending::Missing(_, _, _) => Err(Fail::from("no seat is missing")),
+        Ending::Closed(ended) => leave(alloc, ended, None, shown),
+        Ending::Fault(ended, fault) => leave(alloc, ended, Some(fault), shown),
+        Ending::Missing(unclosed, seats, stopper) => {
+            leave(alloc, unclosed.reopen().abandon(seats, stopper), None, None)
+        }
     }
 }
 
-/// What is left of a service that has ended with all its seats.
-fn leave_whole<D: Drop, N: Room + Base>(
+/// What has ended without its seats, and these.
+fn with_seats<D: Drop, N: Room + Base>(ended: Ended<D, N>, seats: Vec<Seat<N>>) -> Ended<D, N> {
+    let mut ended = ended;
+    ended.seats = seats;
+    ended
+}
+
+/// What is left of a service, whose journal is what its seats and its passes were told, and what
+/// plain lists answer.
+fn leave<D: Drop, N: Room + Base>(
     alloc: Global,
     ended: Ended<D, N>,
     fault: Option<CloseFault>,
@@ -85,20 +89,7 @@ fn leave_whole<D: Drop, N: Room + Base>(
         seats,
         failure: _,
     } = ended;
-    leave(alloc, device, journal, seats.as_slice(), fault, shown)
-}
-
-/// What is left of a service, whose journal is what its seats and its passes were told, and what
-/// plain lists answer.
-fn leave<D: Drop, N: Room + Base>(
-    alloc: Global,
-    device: D,
-    journal: Vec<Entry>,
-    seats: &[Seat<N>],
-    fault: Option<CloseFault>,
-    shown: Option<u64>,
-) -> Result<Left<D>, Fail> {
-    match wrong_with(alloc, journal.as_slice(), seats, fault, shown) {
+    match wrong_with(alloc, journal.as_slice(), seats.as_slice(), fault, shown) {
         None => Ok(Left {
             device,
             journal,
@@ -116,7 +107,10 @@ fn wrong_with<N: Room + Base>(
     fault: Option<CloseFault>,
     shown: Option<u64>,
 ) -> Option<&'static str> {
-    if shown != Some(calls(journal) as u64) {
+    let Some(shown) = shown else {
+        return Some("another end, or passes that are shown different numbers");
+    };
+    if shown != calls(journal) as u64 {
         return Some("passes are shown another number of calls");
     }
     if !have_parts(

@@ -119,6 +119,7 @@ fn fails<R: Threads + Wait + Clock + Sync>(
     nth: u64,
     trial: Trial,
 ) -> Result<bool, Fail> {
+    let device = FaultyDevice::new(copied(alloc, file)?, nth);
     let board = Board::new();
     let plan = Plan {
         alloc,
@@ -127,19 +128,14 @@ fn fails<R: Threads + Wait + Clock + Sync>(
         rounds: 1,
         board: &board,
     };
-    match open(
-        alloc,
-        FaultyDevice::new(copied(alloc, file)?, nth),
-        2,
-        FRAMES,
-    ) {
+    match open(alloc, device, 2, FRAMES) {
         Ok(prepared) => has_failed(alloc, play(rt, prepared, Open, &plan)?, board.last_failed()),
-        Err((device, fault)) => has_failed_check(&device, fault),
+        Err((device, fault)) => has_failed_check(device, fault),
     }
 }
 
 /// Whether a transfer of the check has failed; else the file is refused for another cause.
-fn has_failed_check(device: &Faulty, fault: OpenFault) -> Result<bool, Fail> {
+fn has_failed_check(device: Faulty, fault: OpenFault) -> Result<bool, Fail> {
     match fault {
         OpenFault::Wrong(_) if device.faults() == 1 => Ok(true),
         _ => Err(fault.into()),
@@ -158,8 +154,9 @@ fn has_failed(alloc: Global, left: Left<Faulty>, told: u64) -> Result<bool, Fail
     } = left;
     let failed = device.faults();
     let entries = journal.len();
+    let has_file = is_file_of(alloc, device.into_inner(), journal.as_slice());
     let is_right = match fault {
-        None => entries == ENTRIES && is_file_of(alloc, device.into_inner(), journal.as_slice()),
+        None => entries == ENTRIES && has_file,
         Some(CloseFault::Device) => failed == 1 && entries == ENTRIES,
         Some(CloseFault::Failed) => failed == 1 && told == 2,
     };
