@@ -1,9 +1,6 @@
-//! The calls of trials as plain data, each made at the moment 1, and what they are answered.
+//! The calls of trials as plain data, each made at the moment 1.
 
-use queue_model::{
-    Answer, Body, Call, GetArguments, Permissions, QueueInfo, ReceiveArguments, SendArguments,
-    SetArguments,
-};
+use queue_model::{Body, Call, GetArguments, ReceiveArguments, SendArguments, SetArguments};
 use std::alloc::{AllocError, Global};
 
 /// A text as long as any.
@@ -41,39 +38,6 @@ impl Ask {
         match self.call(alloc) {
             Ok(own) => own == *call,
             Err(_) => false,
-        }
-    }
-}
-
-/// An answer.
-#[derive(Clone, Copy)]
-pub enum Told {
-    /// To Get: the queue's id.
-    Id(u32),
-    /// To Send: the serial of the message.
-    Sent(u64),
-    /// To Receive: the serial, sender, type and text of the message.
-    Received(u64, u32, i64, &'static [u8]),
-    /// To Stat: of queue 1 with key 7, which user 0 made, in which so many messages stand that have
-    /// so many bytes together. Seat 1 has sent the last one, and this process received one at this
-    /// moment.
-    Info(u32, u32, u32, u64),
-}
-
-impl Told {
-    /// Whether it is this answer.
-    pub fn is(self, answer: &Answer) -> bool {
-        match (self, answer) {
-            (Told::Id(id), Answer::Id(given)) => *given == id,
-            (Told::Sent(serial), Answer::Sent(given)) => *given == serial,
-            (Told::Received(serial, sender, mtype, text), Answer::Received(given)) => {
-                (given.serial, given.sender, given.mtype) == (serial, sender, mtype)
-                    && given.bytes.as_slice() == text
-            }
-            (Told::Info(qnum, cbytes, lrpid, rtime), Answer::Info(given)) => {
-                *given == info(qnum, cbytes, lrpid, rtime)
-            }
-            _ => false,
         }
     }
 }
@@ -118,26 +82,4 @@ fn receive(id: u32, size: u32) -> Call {
         noerror: false,
         moment: 1,
     })
-}
-
-fn info(qnum: u32, cbytes: u32, lrpid: u32, rtime: u64) -> QueueInfo {
-    QueueInfo {
-        id: 1,
-        key: Some(7),
-        qnum,
-        cbytes,
-        qbytes: 16_384,
-        lspid: 1,
-        lrpid,
-        stime: 1,
-        rtime,
-        ctime: 1,
-        permissions: Permissions {
-            uid: 0,
-            gid: 0,
-            cuid: 0,
-            cgid: 0,
-            mode: 0o666,
-        },
-    }
 }

@@ -3,9 +3,8 @@
 //! step a hold many threads stand in tests/threads.
 
 use crate::asks::Ask;
-use crate::closing::End;
-use crate::files::{is_file_of, prepared};
-use crate::playing::{Deed, Plan, Script, play};
+use crate::board::Board;
+use crate::playing::{Deed, Plan, Script, play_well};
 use std::test::Fail;
 use step_rules::Kind;
 use workers::{Gate, MOST_AT_ONCE};
@@ -37,16 +36,14 @@ const SCRIPTS: &[Script] = &[Script {
 /// Each seat sends a message to queue 1 and receives one, by turns.
 #[test]
 fn sixty_four_seats_send_and_receive_on_one_queue(rt: HostRuntime) -> Result<(), Fail> {
-    let alloc = rt.alloc();
+    let board = Board::new();
     let plan = Plan {
+        alloc: rt.alloc(),
         before: QUEUE,
         scripts: SCRIPTS,
-        flags: &[],
         rounds: 1,
-        end: End::Closed,
+        board: &board,
     };
-    let left = play(&rt, alloc, prepared(alloc, 352, 64)?, Wide, &plan)?;
-    assert!(rt; left.shown == 2562 && left.fault.is_none());
-    assert!(rt; is_file_of(alloc, left.device, left.journal.as_slice()));
+    assert_eq!(rt; play_well(&rt, 64, Wide, &plan, &[])?, 2562);
     Ok(())
 }

@@ -1,18 +1,18 @@
-//! A device one of whose transfers fails while messages are sent and received; a file without room.
+//! A device one of whose transfers fails while messages are sent and received.
 
 use crate::asks::{Ask, LONG};
-use crate::closing::{End, Left};
-use crate::files::{is_file_of, new_file, open, prepared};
+use crate::board::Board;
+use crate::closing::Left;
+use crate::files::{is_file_of, new_file, open};
 use crate::playing::{Deed, Plan, Script, play};
-use file_check::CheckFault;
 use page_device::{FaultyDevice, MemDevice, PageDevice, copied};
 use std::alloc::Global;
 use std::sync::Wait;
 use std::test::Fail;
 use std::thread::Threads;
 use std::time::Clock;
+use workers::Open;
 use workers::interleavings::interleaving_core::{CloseFault, OpenFault};
-use workers::{Fault, Open};
 
 /// The frames of the pool: so few that pages come and go.
 const FRAMES: usize = 16;
@@ -38,9 +38,6 @@ const QUEUE: &[(Ask, u32)] = &[(Ask::Get(7), 1), (Ask::Set(1, 65_536), 1)];
 /// So it is, and the messages are sent.
 const SENT: &[(Ask, u32)] = &[(Ask::Get(7), 1), (Ask::Set(1, 65_536), 1), (MESSAGE, 40)];
 
-/// So it is, and more messages are sent than have room.
-const TOO_MANY: &[(Ask, u32)] = &[(Ask::Get(7), 1), (Ask::Set(1, 65_536), 1), (MESSAGE, 64)];
-
 /// 40 messages are received.
 const RECEIVES: Script = Script {
     deeds: &[Deed::Call(Ask::Receive(1, 1024))],
@@ -65,101 +62,103 @@ const AT_ONCE: &[Script] = &[
     RECEIVES,
 ];
 
+/// Calls that are made again and again, each time with a transfer failed that is so much later.
+#[derive(Clone, Copy)]
+struct Trial {
+    before: &'static [(Ask, u32)],
+    scripts: &'static [Script],
+    later: u64,
+}
+
 /// 40 messages are received once all have been sent; each transfer fails in turn, from the last of
 /// the check on.
 #[test]
 fn calls_in_turn_are_answered_or_told_that_a_step_has_failed(rt: HostRuntime) -> Result<(), Fail> {
-    let plan = plan(SENT, IN_TURN);
-    fail_each(&rt, rt.alloc(), &plan, 1)
+    let trial = Trial {
+        before: SENT,
+        scripts: IN_TURN,
+        later: 1,
+    };
+    fail_each(&rt, rt.alloc(), trial)
 }
 
 /// 40 messages are received while they are sent; one of five transfers fails in turn.
 #[test]
 fn calls_at_once_are_answered_or_told_that_a_step_has_failed(rt: HostRuntime) -> Result<(), Fail> {
-    let plan = plan(QUEUE, AT_ONCE);
-    fail_each(&rt, rt.alloc(), &plan, 5)
+    let trial = Trial {
+        before: QUEUE,
+        scripts: AT_ONCE,
+        later: 5,
+    };
+    fail_each(&rt, rt.alloc(), trial)
 }
 
-/// 64 messages do not fit a file of 258 pages: the first that has no room is told so, and no step has
-/// failed.
-#[test]
-fn a_send_without_room_is_told_so(rt: HostRuntime) -> Result<(), Fail> {
-    let alloc = rt.alloc();
-    let plan = plan(TOO_MANY, &[]);
-    let left = play(&rt, alloc, prepared(alloc, 258, 2)?, Open, &plan)?;
-    assert!(rt; left.first == Some(Fault::NoRoom) && left.fault.is_none());
-    Ok(())
-}
-
-/// Seat 1 makes these calls, and then each plays its script.
-fn plan(before: &'static [(Ask, u32)], scripts: &'static [Script]) -> Plan<'static> {
-    Plan {
-        before,
-        scripts,
-        flags: &[],
-        rounds: 1,
-        end: End::Closed,
-    }
-}
-
-/// Plays a plan again and again, each time with a transfer failed that is so much later, until none
-/// is.
+/// Makes the calls of a trial again and again, until no transfer fails.
 fn fail_each<R: Threads + Wait + Clock + Sync>(
     rt: &R,
     alloc: Global,
-    plan: &Plan<'_>,
-    later: u64,
+    trial: Trial,
 ) -> Result<(), Fail> {
     let mut file = new_file(alloc, 352)?;
     let mut nth: u64 = FIRST;
     for _ in 0..MOST_TRANSFERS {
-        let device = FaultyDevice::new(copied(alloc, &mut file)?, nth);
-        if !fails(rt, alloc, device, plan)? {
+        if !fails(rt, alloc, &mut file, nth, trial)? {
             return Ok(());
         }
-        nth = nth.saturating_add(later);
+        nth = nth.saturating_add(trial.later);
     }
     Err(Fail::from("each run has failed"))
 }
 
-/// Plays a plan on a device one of whose transfers is to fail. Whether one has failed.
+/// Makes the calls of a trial on a copy of a file, of whose transfers this one is to fail. Whether one
+/// has failed.
 fn fails<R: Threads + Wait + Clock + Sync>(
     rt: &R,
     alloc: Global,
-    device: Faulty,
-    plan: &Plan<'_>,
+    file: &mut MemDevice,
+    nth: u64,
+    trial: Trial,
 ) -> Result<bool, Fail> {
+    let device = FaultyDevice::new(copied(alloc, file)?, nth);
+    let board = Board::new();
+    let plan = Plan {
+        alloc,
+        before: trial.before,
+        scripts: trial.scripts,
+        rounds: 1,
+        board: &board,
+    };
     match open(alloc, device, 2, FRAMES) {
-        Ok(prepared) => has_failed(alloc, play(rt, alloc, prepared, Open, plan)?),
-        Err((device, fault)) => has_failed_check(&device, fault),
+        Ok(prepared) => has_failed(alloc, play(rt, prepared, Open, &plan)?, board.last_failed()),
+        Err((device, fault)) => has_failed_check(device, fault),
     }
 }
 
 /// Whether a transfer of the check has failed; else the file is refused for another cause.
-fn has_failed_check(device: &Faulty, fault: OpenFault) -> Result<bool, Fail> {
+fn has_failed_check(device: Faulty, fault: OpenFault) -> Result<bool, Fail> {
     match fault {
         OpenFault::Wrong(_) if device.faults() == 1 => Ok(true),
         _ => Err(fault.into()),
     }
 }
 
-/// Whether a transfer of a run has failed. Where a step has failed, each call from there on was told so, also one that
-/// waited; else all are answered. A transfer that failed is told by then, but for one of the check before
-/// the first call, which is made once more.
-fn has_failed(alloc: Global, left: Left<Faulty>) -> Result<bool, Fail> {
+/// Whether a transfer of a run has failed. Where a step has failed, each call from there on was told
+/// so, also one that waited, and so seat 2 was the last that was; else all are answered. A transfer
+/// that failed is told by then, but for one of the check before the first call, which is made once
+/// more.
+fn has_failed(alloc: Global, left: Left<Faulty>, told: u64) -> Result<bool, Fail> {
     let Left {
         device,
         journal,
-        last,
         fault,
-        ..
     } = left;
     let failed = device.faults();
     let entries = journal.len();
+    let has_file = is_file_of(alloc, device.into_inner(), journal.as_slice());
     let is_right = match fault {
-        None => entries == ENTRIES && is_file_of(alloc, device.into_inner(), journal.as_slice()),
+        None => entries == ENTRIES && has_file,
         Some(CloseFault::Device) => failed == 1 && entries == ENTRIES,
-        Some(CloseFault::Failed) => failed == 1 && last == Some(Fault::Failed),
+        Some(CloseFault::Failed) => failed == 1 && told == 2,
     };
     if !is_right {
         return Err(Fail::new(format_args!(

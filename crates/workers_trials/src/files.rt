@@ -11,7 +11,7 @@ use record_file::format;
 use std::alloc::Global;
 use std::test::Fail;
 use workers::Prepared;
-use workers::interleavings::interleaving_core::{Kernel, OpenFault};
+use workers::interleavings::interleaving_core::OpenFault;
 
 /// The most seats.
 pub const SEATS: usize = 64;
@@ -75,22 +75,6 @@ pub fn prepared(
 {
     match open(alloc, new_file(alloc, pages)?, seats, FRAMES) {
         Ok(prepared) => Ok(prepared),
-        Err((_, fault)) => Err(fault.into()),
-    }
-}
-
-/// A kernel on a device.
-pub fn kernel(
-    alloc: Global,
-    device: MemDevice,
-    seats: u8,
-) -> Result<Kernel<MemDevice, NumberKey>, Fail>
-    requires some { 1 ≤ seats }
-    requires few { seats ≤ 64 }
-{
-    let callers = callers();
-    match Kernel::open(alloc, device, NumberKey, &callers[..seats as usize], FRAMES) {
-        Ok(kernel) => Ok(kernel),
         Err((_, fault)) => Err(fault.into()),
     }
 }

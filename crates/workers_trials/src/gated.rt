@@ -1,17 +1,12 @@
 //! Two calls that run at once: a Receive is answered while a Send is held between two of its steps,
 //! and a Stat of the queue of that Send waits for it.
 
-use crate::alone::moved_kinds;
-use crate::asks::{Ask, LONG, Told};
-use crate::closing::End;
-use crate::files::prepared;
-use crate::flag::{Flag, LOOKS};
-use crate::plain::is_told;
-use crate::playing::{Deed, Plan, Script, play};
-use queue_model::Entry;
-use std::alloc::Global;
-use std::array;
-use std::sync::{Mutex, Wait};
+use crate::asks::{Ask, LONG};
+use crate::board::{Board, LOOKS};
+use crate::playing::{Deed, Plan, Script, play_well};
+use std::sync::Wait;
+use std::sync::atomic::AtomicUsize;
+use std::sync::atomic::Ordering::SeqCst;
 use std::test::Fail;
 use std::time::Clock;
 use step_rules::Kind;
@@ -34,36 +29,29 @@ const BEFORE: &[(Ask, u32)] = &[
 /// Each of those six, and the one that is held.
 const LONG_SEND: Ask = Ask::Send(1, 1, LONG);
 
-/// What seat 1 is answered.
-const ANSWERS: &[Told] = &[
-    Told::Id(1),
-    Told::Id(2),
-    Told::Sent(1),
-    Told::Sent(2),
-    Told::Received(1, 1, 2, b"a"),
-    Told::Sent(1),
-    Told::Sent(2),
-    Told::Sent(3),
-    Told::Sent(4),
-    Told::Sent(5),
-    Told::Sent(6),
-    Told::Sent(7),
-];
+/// Whose calls are decided: the Receive comes before the Send that is held, and the Stat after it.
+const ORDER: &[u8] = &[1, 1, 1, 1, 1, 1, 1, 1, 1, 1, 1, 2, 1, 3];
 
-/// The flag that is up when the kinds of steps are to be noted, and the Send is to be held.
-const WATCHED: usize = 0;
+/// The flag that is up when the Send is to be held, and the kinds of its steps are looked at.
+const WATCHED: u64 = 1;
 
 /// That of the Send, which is held after its WriteOld.
-const HELD: usize = 1;
+const HELD: u64 = 2;
 
 /// That of the Receive, which is answered.
-const RECEIVED: usize = 2;
+const RECEIVED: u64 = 4;
 
 /// That of the Stat, which is answered.
-const TOLD: usize = 3;
+const TOLD: u64 = 8;
 
 /// That of the gate, which saw the Receive answered, and after that the Stat not answered.
-const IN_ORDER: usize = 4;
+const IN_ORDER: u64 = 16;
+
+/// That of the gate, which was told as many steps as the Send makes.
+const ALL_TOLD: u64 = 32;
+
+/// That of the gate, which was told another kind of step than the Send makes there.
+const OTHERWISE: u64 = 64;
 
 /// Seat 1 sends one message more, seat 2 receives from the other queue once that is held, and then
 /// seat 3 asks for the state of the queue.
@@ -90,29 +78,113 @@ const SCRIPTS: &[Script] = &[
     },
 ];
 
+/// The steps of the Send (docs/STEPS.md): it finds its queue and its type, and inserts the message,
+/// for which its bucket is split. Then it decides, and replaces the queue, a message and the type.
+const STEPS: &[&[Kind]] = &[
+    NAME, FIND, FIND, TRY, SPLIT, INSERT, DECIDE, WRITE, WRITE, WRITE, END,
+];
+
+/// The queue is held.
+const NAME: &[Kind] = &[Kind::Grant];
+
+/// A record is found.
+const FIND: &[Kind] = &[
+    Kind::Grant,
+    Kind::ReadDepth,
+    Kind::ReadEntry,
+    Kind::Grant,
+    Kind::Release,
+    Kind::Look,
+    Kind::Release,
+];
+
+/// A record is to be put, and its bucket has no room.
+const TRY: &[Kind] = FIND;
+
+/// The bucket is split, which is as deep as the directory.
+const SPLIT: &[Kind] = &[
+    Kind::Grant,
+    Kind::ReadDepth,
+    Kind::ReadEntry,
+    Kind::Grant,
+    Kind::Look,
+    Kind::TakePage,
+    Kind::CopyDirectory,
+    Kind::RaiseDepth,
+    Kind::WriteNew,
+    Kind::WriteOld,
+    Kind::Retarget,
+    Kind::SetCounts,
+];
+
+/// The record is put into the upper half.
+const INSERT: &[Kind] = &[
+    Kind::Look,
+    Kind::Hop,
+    Kind::Look,
+    Kind::WriteRecord,
+    Kind::Release,
+    Kind::Release,
+];
+
+/// The call is decided.
+const DECIDE: &[Kind] = &[Kind::Decide];
+
+/// A record is replaced.
+const WRITE: &[Kind] = &[
+    Kind::Grant,
+    Kind::ReadDepth,
+    Kind::ReadEntry,
+    Kind::Grant,
+    Kind::Release,
+    Kind::Look,
+    Kind::WriteRecord,
+    Kind::Release,
+];
+
+/// The queue is given back.
+const END: &[Kind] = &[Kind::Release];
+
+/// The kind of the step of this place, from 0 on, if the Send makes so many.
+fn kind_at(place: usize) -> Option<Kind> {
+    let mut left = place;
+    for part in STEPS {
+        match left.checked_sub(part.len()) {
+            Some(fewer) => left = fewer,
+            None => return part.get(left).copied(),
+        }
+    }
+    None
+}
+
 /// It asks for as many steps a hold as the gate of the program. It holds seat 1 after a WriteOld, until a
 /// Receive was answered, and a while longer.
 #[derive(Drop)]
 struct Holds<'a, R: Wait + Clock> {
     rt: &'a R,
-    flags: &'a [Flag; 5],
-    kinds: &'a Mutex<Vec<Kind>>,
+    board: &'a Board,
+    told: AtomicUsize,
 }
 
 impl<R: Wait + Clock> Gate for Holds<'_, R> {
     fn between(&self, seat: u8, kind: Kind) {
-        let flags = self.flags;
-        let flags = &flags[..];
-        if seat != 1 || !flags[WATCHED].is_up() {
+        let board = self.board;
+        if seat != 1 || !board.is_up(WATCHED) {
             return;
         }
-        let _ = self.kinds.lock(self.rt).push(kind);
+        let place = self.told.fetch_add(1, SeqCst);
+        if kind_at(place) != Some(kind) {
+            board.raise(OTHERWISE);
+        }
+        if kind_at(place.saturating_add(1)).is_none() {
+            board.raise(ALL_TOLD);
+        }
         if kind == Kind::WriteOld {
-            flags[HELD].raise();
-            if flags[RECEIVED].comes_up(self.rt, LOOKS)
-                && !flags[TOLD].comes_up(self.rt, MORE_LOOKS)
+            board.raise(HELD);
+            if board.comes_up(self.rt, RECEIVED, LOOKS)
+                && !board.comes_up(self.rt, TOLD, MORE_LOOKS)
             {
-                flags[IN_ORDER].raise();
+                board.raise(IN_ORDER);
             }
         }
     }
@@ -124,38 +196,20 @@ impl<R: Wait + Clock> Gate for Holds<'_, R> {
 
 #[test]
 fn a_receive_is_answered_while_a_send_is_held(rt: HostRuntime) -> Result<(), Fail> {
-    let alloc = rt.alloc();
-    let prepared = prepared(alloc, 288, 3)?;
-    let flags = array::from_fn(|_| Flag::new());
-    let kinds = Mutex::new(Vec::new(alloc));
+    let board = Board::new();
     let gate = Holds {
         rt: &rt,
-        flags: &flags,
-        kinds: &kinds,
+        board: &board,
+        told: AtomicUsize::new(0),
     };
     let plan = Plan {
+        alloc: rt.alloc(),
         before: BEFORE,
         scripts: SCRIPTS,
-        flags: &flags,
         rounds: 1,
-        end: End::Closed,
+        board: &board,
     };
-    let left = play(&rt, alloc, prepared, gate, &plan)?;
-    assert!(rt; flags[IN_ORDER].is_up());
-    assert!(rt; are_answered(left.journal.as_slice()));
-    assert!(rt; are_those_alone(alloc, kinds.into_inner().as_slice())?);
+    assert_eq!(rt; play_well(&rt, 3, gate, &plan, ORDER)?, 14);
+    assert!(rt; board.is_up(IN_ORDER | ALL_TOLD) && !board.is_up(OTHERWISE));
     Ok(())
-}
-
-/// Whether each seat was answered as it should.
-fn are_answered(journal: &[Entry]) -> bool {
-    is_told(journal, 1, ANSWERS)
-        && is_told(journal, 2, &[Told::Received(2, 1, 2, b"b")])
-        && is_told(journal, 3, &[Told::Info(7, 7168, 0, 0)])
-}
-
-/// Whether the Send moves by these kinds on a kernel by itself.
-fn are_those_alone(alloc: Global, kinds: &[Kind]) -> Result<bool, Fail> {
-    let alone = moved_kinds(alloc, BEFORE, LONG_SEND)?;
-    Ok(kinds == alone.as_slice())
 }

@@ -4,9 +4,9 @@
 #![tactic(auto)]
 
 #[cfg(test)]
-mod alone;
-#[cfg(test)]
 mod asks;
+#[cfg(test)]
+mod board;
 #[cfg(test)]
 mod closing;
 #[cfg(test)]
@@ -15,10 +15,6 @@ mod crowd;
 mod failing;
 #[cfg(test)]
 mod files;
-#[cfg(test)]
-mod first;
-#[cfg(test)]
-mod flag;
 #[cfg(test)]
 mod gated;
 #[cfg(test)]

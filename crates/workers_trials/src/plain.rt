@@ -1,6 +1,5 @@
-//! A journal beside plain lists, asked one call at a time, and beside what was typed.
+//! A journal beside plain lists, asked one call at a time, and beside the lists of seats.
 
-use crate::asks::Told;
 use queue_model::{Applied, Caller, Entry, System};
 use std::alloc::Global;
 
@@ -75,18 +74,20 @@ pub fn is_part(journal: &[Entry], seat: u8, list: &[Entry], more: usize) -> bool
     told == list.len()
 }
 
-/// Whether a seat was told these answers, in their order.
-pub fn is_told(journal: &[Entry], seat: u8, answers: &[Told]) -> bool {
-    let mut told: usize = 0;
-    for entry in journal {
-        if is_of(entry, seat) {
-            if !has_answer(entry, answers.get(told)) {
-                return false;
+/// Whether the last calls of a journal are those of these seats, in this order.
+pub fn ends_with(journal: &[Entry], seats: &[u8]) -> bool {
+    let first = journal.len().saturating_sub(seats.len());
+    for (place, seat) in seats.iter().enumerate() {
+        match journal.get(first.saturating_add(place)) {
+            Some(entry) => {
+                if !is_of(entry, *seat) {
+                    return false;
+                }
             }
-            told = told.saturating_add(1);
+            None => return false,
         }
     }
-    told == answers.len()
+    true
 }
 
 /// Whether an entry is one of a seat's calls.
@@ -94,13 +95,5 @@ fn is_of(entry: &Entry, seat: u8) -> bool {
     match entry {
         Entry::Decided { seat: other, .. } => *other == seat,
         Entry::Stopped => false,
-    }
-}
-
-/// Whether an entry is that of a call with this answer.
-fn has_answer(entry: &Entry, told: Option<&Told>) -> bool {
-    match (entry, told) {
-        (Entry::Decided { answer, .. }, Some(told)) => told.is(answer),
-        _ => false,
     }
 }

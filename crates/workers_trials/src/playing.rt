@@ -1,16 +1,17 @@
 //! Seats of a service at their calls, each in a thread of its own.
 
-ghost use Rattle.std.specs.Prelude.{◌≡◌};
+ghost use Rattle.std.specs.Prelude.{◌≡◌, ◌≤◌};
 ghost use Rattle.bucket_page.specs.Pseudokeys.{number_key};
 ghost use Rattle.workers.specs.Opening.{origin_of};
 
 use crate::asks::Ask;
-use crate::closing::{End, Left, close, shown};
-use crate::files::SEATS;
-use crate::flag::{Flag, LOOKS};
+use crate::board::{Board, LOOKS};
+use crate::closing::{Left, close, shown};
+use crate::files::{SEATS, is_file_of, prepared};
+use crate::plain::ends_with;
 use bucket_page::NumberKey;
 use page_device::PageDevice;
-use std::alloc::{AllocError, Global};
+use std::alloc::Global;
 use std::marker::Brand;
 use std::sync::Wait;
 use std::test::Fail;
@@ -26,10 +27,10 @@ pub enum Deed {
     Call(Ask),
     /// It makes a call, and waits for its answer so many microseconds at most.
     CallWithin(Ask, u64),
-    /// It waits for the flag of this place to come up, but not for ever.
-    Await(usize),
-    /// It raises the flag of this place.
-    Raise(usize),
+    /// It waits for this flag to come up, but not for ever.
+    Await(u64),
+    /// It raises this flag.
+    Raise(u64),
 }
 
 /// What a seat does in a thread of its own.
@@ -51,35 +52,50 @@ impl Script {
 /// What seats do.
 #[derive(Clone, Copy)]
 pub struct Plan<'a> {
+    /// Where memory is taken.
+    pub alloc: Global,
     /// The calls that seat 1 makes before the others begin, each so often.
     pub before: &'static [(Ask, u32)],
     /// What each seat does, from seat 1 on.
     pub scripts: &'static [Script],
-    /// What they show one another.
-    pub flags: &'a [Flag],
     /// How often they play, each time once all have done it.
     pub rounds: u32,
-    /// How the service ends.
-    pub end: End,
+    /// What they show one another.
+    pub board: &'a Board,
 }
 
 /// A service of trials.
 pub type Shared<D, G, N> = Service<D, NumberKey, G, N>;
 
-/// A seat, and the fault that it was told: then it makes no more calls.
-#[derive(Drop)]
-pub struct Player<N: Room + Base> {
-    pub seat: Seat<N>,
-    alloc: Global,
-    pub fault: Option<Fault>,
-    /// How many of its calls were taken back, each as it was, once its time was over.
-    pub taken_back: u32,
+/// Plays a plan on a new file. Tells how many calls were decided, the last of them by these seats in
+/// this order. The service was closed well, and the file that is left is that of the journal.
+pub fn play_well<G: Gate + Drop + Send + Sync, R: Threads + Wait + Clock + Sync>(
+    rt: &R,
+    seats: u8,
+    gate: G,
+    plan: &Plan<'_>,
+    order: &[u8],
+) -> Result<usize, Fail>
+    requires some { 1 ≤ seats }
+    requires few { seats ≤ 64 }
+{
+    let prepared = prepared(plan.alloc, 352, seats)?;
+    let Left {
+        device,
+        journal,
+        fault,
+    } = play(rt, prepared, gate, plan)?;
+    let has_file = is_file_of(plan.alloc, device, journal.as_slice());
+    if has_file && fault.is_none() && ends_with(journal.as_slice(), order) {
+        Ok(journal.len())
+    } else {
+        Err(Fail::from("another file is left, or another order"))
+    }
 }
 
 /// Plays a plan on what was prepared, and ends the service.
 pub fn play<D: PageDevice + Drop + Send, G: Gate + Drop + Send + Sync, R>(
     rt: &R,
-    alloc: Global,
     prepared: Prepared<D, NumberKey>,
     gate: G,
     plan: &Plan<'_>,
@@ -87,7 +103,7 @@ pub fn play<D: PageDevice + Drop + Send, G: Gate + Drop + Send + Sync, R>(
 where
     R: Threads + Wait + Clock + Sync,
 {
-    play_named::<D, G, Brand, R>(rt, alloc, prepared, gate, plan)
+    play_named::<D, G, Brand, R>(rt, prepared, gate, plan)
 }
 
 fn play_named<
@@ -95,48 +111,24 @@ fn play_named<
     G: Gate + Drop + Send + Sync,
     N: Room + Base + Send + Sync,
     R: Threads + Wait + Clock + Sync,
->(
-    rt: &R,
-    alloc: Global,
-    prepared: Prepared<D, NumberKey>,
-    gate: G,
-    plan: &Plan<'_>,
-) -> Result<Left<D>, Fail>
+>(rt: &R, prepared: Prepared<D, NumberKey>, gate: G, plan: &Plan<'_>) -> Result<Left<D>, Fail>
     requires table { prepared.table ≡ N.table }
     requires origin { origin_of (λ _. number_key) prepared ≡ N.origin }
 {
     let Ok(
         Started {
             service,
-            seats,
+            mut seats,
             stopper,
-            passes,
+            mut passes,
         },
     ) = prepared.start::<G, N>(gate)
     else {
         return Err(Fail::from("it starts"));
     };
-    let mut players = seated(alloc, seats)?;
-    play_rounds(rt, &service, players.as_mut_slice(), plan);
-    let shown = shown(&service, passes);
-    close(service, stopper, players, shown, plan.end)
-}
-
-/// A player for each seat.
-fn seated<N: Room + Base>(
-    alloc: Global,
-    seats: Vec<Seat<N>>,
-) -> Result<Vec<Player<N>>, AllocError> {
-    let mut players = Vec::new(alloc);
-    for seat in seats {
-        players.push(Player {
-            seat,
-            alloc,
-            fault: None,
-            taken_back: 0,
-        })?;
-    }
-    Ok(players)
+    play_rounds(rt, &service, seats.as_mut_slice(), plan);
+    let shown = shown(&service, seats.as_mut_slice(), passes.as_mut_slice());
+    close(plan.alloc, service, stopper, seats, shown)
 }
 
 /// The first makes the calls that come before, and all play each round: each its script in a thread of
@@ -146,116 +138,100 @@ fn play_rounds<
     G: Gate + Sync,
     N: Room + Base + Send + Sync,
     R: Threads + Wait + Clock + Sync,
->(rt: &R, service: &Shared<D, G, N>, players: &mut [Player<N>], plan: &Plan<'_>) {
-    if let Some(first) = players.first_mut() {
-        first.call_all(rt, service, plan.before);
+>(rt: &R, service: &Shared<D, G, N>, seats: &mut [Seat<N>], plan: &Plan<'_>) {
+    if let Some(first) = seats.first_mut() {
+        begin(rt, service, first, plan);
     }
     for _ in 0..plan.rounds {
         thread::for_each_mut(
             rt,
-            players,
+            seats,
             SEATS,
-            &|_, player: &mut Player<N>| { player.play(rt, service, plan) },
+            &|_, seat: &mut Seat<N>| { play_script(rt, service, seat, plan) },
         );
     }
 }
 
-impl<N: Room + Base> Player<N> {
-    /// It makes calls, each so often.
-    fn call_all<D: PageDevice + Drop, G: Gate, R: Wait>(
-        &mut self,
-        rt: &R,
-        service: &Shared<D, G, N>,
-        calls: &[(Ask, u32)],
-    ) {
-        for (ask, times) in calls {
-            for _ in 0..*times {
-                self.call(rt, service, *ask);
+/// A seat makes the calls that come before, each so often.
+fn begin<D: PageDevice + Drop, G: Gate, N: Room + Base, R: Wait>(
+    rt: &R,
+    service: &Shared<D, G, N>,
+    seat: &mut Seat<N>,
+    plan: &Plan<'_>,
+) {
+    for (ask, times) in plan.before {
+        for _ in 0..*times {
+            call(rt, service, seat, plan, *ask);
+        }
+    }
+}
+
+/// A seat plays the script of its number.
+fn play_script<D: PageDevice + Drop, G: Gate, N: Room + Base, R: Wait + Clock>(
+    rt: &R,
+    service: &Shared<D, G, N>,
+    seat: &mut Seat<N>,
+    plan: &Plan<'_>,
+) {
+    let place = usize::from(seat.number()).saturating_sub(1);
+    if let Some(script) = plan.scripts.get(place) {
+        for done in 0..script.many {
+            if let Some(deed) = script.deed(done) {
+                act(rt, service, seat, plan, deed);
             }
         }
     }
+}
 
-    /// It plays the script of its number.
-    fn play<D: PageDevice + Drop, G: Gate, R: Wait + Clock>(
-        &mut self,
-        rt: &R,
-        service: &Shared<D, G, N>,
-        plan: &Plan<'_>,
-    ) {
-        let place = usize::from(self.seat.number()).saturating_sub(1);
-        if let Some(script) = plan.scripts.get(place) {
-            for done in 0..script.many {
-                if let Some(deed) = script.deed(done) {
-                    self.act(rt, service, plan.flags, deed);
-                }
-            }
+/// A seat does one thing.
+fn act<D: PageDevice + Drop, G: Gate, N: Room + Base, R: Wait + Clock>(
+    rt: &R,
+    service: &Shared<D, G, N>,
+    seat: &mut Seat<N>,
+    plan: &Plan<'_>,
+    deed: Deed,
+) {
+    match deed {
+        Deed::Call(ask) => call(rt, service, seat, plan, ask),
+        Deed::CallWithin(ask, micros) => call_within(rt, service, seat, plan, ask, micros),
+        Deed::Await(flag) => {
+            plan.board.comes_up(rt, flag, LOOKS);
+        }
+        Deed::Raise(flag) => plan.board.raise(flag),
+    }
+}
+
+/// A seat makes a call.
+fn call<D: PageDevice + Drop, G: Gate, N: Room + Base, R: Wait>(
+    rt: &R,
+    service: &Shared<D, G, N>,
+    seat: &mut Seat<N>,
+    plan: &Plan<'_>,
+    ask: Ask,
+) {
+    if let Ok(call) = ask.call(plan.alloc) {
+        if service.call(rt, seat, call).err() == Some(Fault::Failed) {
+            plan.board.note_failure(seat.number());
         }
     }
+}
 
-    /// It does one thing.
-    fn act<D: PageDevice + Drop, G: Gate, R: Wait + Clock>(
-        &mut self,
-        rt: &R,
-        service: &Shared<D, G, N>,
-        flags: &[Flag],
-        deed: Deed,
-    ) {
-        match deed {
-            Deed::Call(ask) => self.call(rt, service, ask),
-            Deed::CallWithin(ask, micros) => self.call_within(rt, service, ask, micros),
-            Deed::Await(place) => {
-                if let Some(flag) = flags.get(place) {
-                    flag.comes_up(rt, LOOKS);
-                }
+/// A seat makes a call with a limit of time.
+fn call_within<D: PageDevice + Drop, G: Gate, N: Room + Base, R: Wait + Clock>(
+    rt: &R,
+    service: &Shared<D, G, N>,
+    seat: &mut Seat<N>,
+    plan: &Plan<'_>,
+    ask: Ask,
+    micros: u64,
+) {
+    let limit = Duration::from_micros(micros);
+    let start = Instant::now(rt).ok();
+    if let Ok(call) = ask.call(plan.alloc) {
+        if let Err(Unanswered::TimedOut(back)) = service.call_within(rt, seat, call, limit) {
+            if ask.is(plan.alloc, &back) && is_over(rt, start, limit) {
+                plan.board.note_taken_back();
             }
-            Deed::Raise(place) => {
-                if let Some(flag) = flags.get(place) {
-                    flag.raise();
-                }
-            }
-        }
-    }
-
-    /// It makes a call, where it was told no fault.
-    fn call<D: PageDevice + Drop, G: Gate, R: Wait>(
-        &mut self,
-        rt: &R,
-        service: &Shared<D, G, N>,
-        ask: Ask,
-    ) {
-        if self.fault.is_none() {
-            self.fault = match ask.call(self.alloc) {
-                Ok(call) => service.call(rt, &mut self.seat, call).err(),
-                Err(_) => Some(Fault::NoMemory),
-            };
-        }
-    }
-
-    /// It makes a call with a limit of time, where it was told no fault.
-    fn call_within<D: PageDevice + Drop, G: Gate, R: Wait + Clock>(
-        &mut self,
-        rt: &R,
-        service: &Shared<D, G, N>,
-        ask: Ask,
-        micros: u64,
-    ) {
-        if self.fault.is_some() {
-            return;
-        }
-        let Ok(call) = ask.call(self.alloc) else {
-            self.fault = Some(Fault::NoMemory);
-            return;
-        };
-        let limit = Duration::from_micros(micros);
-        let start = Instant::now(rt).ok();
-        match service.call_within(rt, &mut self.seat, call, limit) {
-            Ok(_) => {}
-            Err(Unanswered::TimedOut(back)) => {
-                if ask.is(self.alloc, &back) && is_over(rt, start, limit) {
-                    self.taken_back = self.taken_back.saturating_add(1);
-                }
-            }
-            Err(Unanswered::Fault(fault)) => self.fault = Some(fault),
         }
     }
 }

@@ -1,13 +1,9 @@
 //! Calls with a limit of time: what waits when it is over is taken back, and what can go on in time is
 //! answered.
 
-use crate::asks::{Ask, Told};
-use crate::closing::End;
-use crate::files::{is_file_of, prepared};
-use crate::flag::Flag;
-use crate::plain::is_told;
-use crate::playing::{Deed, Plan, Script, play};
-use queue_model::Entry;
+use crate::asks::Ask;
+use crate::board::Board;
+use crate::playing::{Deed, Plan, Script, play_well};
 use std::alloc::Global;
 use std::sync::Wait;
 use std::test::Fail;
@@ -34,10 +30,10 @@ const RECEIVE: Ask = Ask::Receive(1, 10);
 const SENDS: &[Deed] = &[Deed::Call(Ask::Send(1, 1, b"ab"))];
 
 /// The flag that seat 1 raises when the time of its call is over.
-const OVER: usize = 0;
+const OVER: u64 = 1;
 
 /// The flag that seat 2 raises when it has sent.
-const SENT: usize = 1;
+const SENT: u64 = 2;
 
 /// Seat 1 receives before anything is sent, and again once seat 2 has sent.
 const TAKEN_BACK: &[Script] = &[
@@ -96,26 +92,15 @@ const WITHOUT_TIME: &[Script] = &[
 /// then. Where one stands a Receive is answered though it has no time to wait.
 #[test]
 fn a_receive_that_waits_is_taken_back_when_its_time_is_over(rt: HostRuntime) -> Result<(), Fail> {
-    let alloc = rt.alloc();
-    let flags = [Flag::new(), Flag::new()];
-    let plan = plan(TAKEN_BACK, &flags, 1);
-    let left = play(&rt, alloc, prepared(alloc, 258, 2)?, Open, &plan)?;
-    assert_eq!(rt; left.taken_back, 1);
-    assert!(rt; are_answered(left.journal.as_slice()));
+    assert_eq!(rt; played(&rt, rt.alloc(), TAKEN_BACK, 1, &[1, 2, 1])?, (3, 1));
     Ok(())
-}
-
-/// Whether seat 1 has received the message of seat 2.
-fn are_answered(journal: &[Entry]) -> bool {
-    is_told(journal, 1, &[Told::Id(1), Told::Received(1, 2, 3, b"ab")])
-        && is_told(journal, 2, &[Told::Sent(1)])
 }
 
 /// A Receive with an hour and a Send in threads of their own, time and again: whichever comes first, the
 /// message is received. Without a limit of time so it is in tests/threads.
 #[test]
 fn a_receive_with_time_is_answered_once_its_message_is_sent(rt: HostRuntime) -> Result<(), Fail> {
-    assert_eq!(rt; played(&rt, rt.alloc(), WITH_TIME, ROUNDS)?, (401, 0));
+    assert_eq!(rt; played(&rt, rt.alloc(), WITH_TIME, ROUNDS, &[])?, (401, 0));
     Ok(())
 }
 
@@ -123,34 +108,28 @@ fn a_receive_with_time_is_answered_once_its_message_is_sent(rt: HostRuntime) -> 
 /// send: each is answered or taken back, and what nobody took is in the file.
 #[test]
 fn calls_are_answered_or_taken_back_beside_sends(rt: HostRuntime) -> Result<(), Fail> {
-    let (shown, taken_back) = played(&rt, rt.alloc(), WITHOUT_TIME, 1)?;
-    assert_eq!(rt; shown.saturating_add(u64::from(taken_back)), 1201);
+    let (answered, taken_back) = played(&rt, rt.alloc(), WITHOUT_TIME, 1, &[])?;
+    assert_eq!(rt; answered.saturating_add(taken_back), 1201);
     Ok(())
 }
 
-/// How many calls are decided where seats play these scripts, and how many are taken back. The file that
-/// is left is that of the journal.
+/// How many calls are decided where seats play these scripts once there is queue 1, the last of them by
+/// the seats of this order, and how many are taken back.
 fn played<R: Threads + Wait + Clock + Sync>(
     rt: &R,
     alloc: Global,
     scripts: &'static [Script],
     rounds: u32,
-) -> Result<(u64, u32), Fail> {
-    let plan = plan(scripts, &[], rounds);
-    let left = play(rt, alloc, prepared(alloc, 352, 3)?, Open, &plan)?;
-    if !is_file_of(alloc, left.device, left.journal.as_slice()) {
-        return Err(Fail::from("another file is left"));
-    }
-    Ok((left.shown, left.taken_back))
-}
-
-/// Seats play scripts once there is queue 1.
-fn plan<'a>(scripts: &'static [Script], flags: &'a [Flag], rounds: u32) -> Plan<'a> {
-    Plan {
+    order: &[u8],
+) -> Result<(u64, u64), Fail> {
+    let board = Board::new();
+    let plan = Plan {
+        alloc,
         before: QUEUE,
         scripts,
-        flags,
         rounds,
-        end: End::Closed,
-    }
+        board: &board,
+    };
+    let answered = play_well(rt, 3, Open, &plan, order)?;
+    Ok((answered as u64, board.taken_back()))
 }
