@@ -3,6 +3,7 @@ pub mod Changes
 pub mod Dividing
 pub mod Keys
 pub mod Laws
+pub mod Marks
 pub mod PseudokeyLaws
 pub mod Pseudokeys
 pub mod Reading

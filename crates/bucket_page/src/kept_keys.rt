@@ -12,21 +12,22 @@ use std::cell::Cell;
 use std::marker::Model;
 
 /// How many pseudokeys are kept.
-pub const SLOTS: usize = 8_192;
+pub const SLOTS: usize = 16_384;
 
 /// How many pseudokeys are computed together.
 const RUN: usize = 4;
 
-/// How far from each other the slots are of queues that follow one another: more than a run, and an
-/// odd number, so that as many queues as there are slots begin at different ones.
-const APART: u64 = 37;
+/// How far from each other the slots are of queues that follow one another: more than a run, so that
+/// 64 queues have room for as many messages each, and an odd number, so that as many queues as there
+/// are slots begin at different ones.
+const APART: u64 = 251;
 
 /// Makes the pseudokeys of another way, and keeps them: each in the slot of its key, where it
 /// takes the place of an older one.
 #[derive(Drop)]
 pub struct KeptKeys<K: Alike> {
     keys: K,
-    slots: Vec<Cell<Option<Kept<K>>>>,
+    slots: Vec<Cell<Kept<K>>>,
     ghost many: { length slots.items ≡ SLOTS },
 }
 
@@ -41,7 +42,7 @@ impl<K: Alike + Drop> KeptKeys<K> {
     pub fn new(alloc: Global, keys: K) -> Result<KeptKeys<K>, AllocError>
         ensures { IfOk result (λ kept. kept ≡ keys) }
     {
-        let slots = vec![in alloc; Cell::new(None); SLOTS]?;
+        let slots = vec![in alloc; Cell::new(Kept::none()); SLOTS]?;
         Ok(KeptKeys { keys, slots })
     }
 }
@@ -69,13 +70,13 @@ impl<K: Alike> KeptKeys<K> {
     fn kept(&self, key: &RecordKey) -> Option<u32>
         ensures { IfSome result (λ pseudokey. pseudokey ≡ K.of_key self.now key.now) }
     {
-        self.slots[slot_of(key)].get()?.of(key)
+        self.slots[slot_of(key)].get().of(key)
     }
 
     fn keep(&self, key: &RecordKey, pseudokey: u32)
         requires { pseudokey ≡ K.of_key self.now key.now }
     {
-        self.slots[slot_of(key)].set(Some(Kept::new(*key, pseudokey)));
+        self.slots[slot_of(key)].set(Kept::new(key, pseudokey));
     }
 
     /// Whether the key of the number before is kept and there are numbers behind, so that theirs

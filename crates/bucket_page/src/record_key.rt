@@ -43,10 +43,13 @@ impl RecordKey {
     pub fn is_below(&self, other: &RecordKey) -> bool
         ensures { result ≡ is_below self.now other.now }
     {
-        self.kind < other.kind
-            || self.kind == other.kind
-                && (self.queue < other.queue
-                    || self.queue == other.queue && self.number < other.number)
+        if self.kind != other.kind {
+            return self.kind < other.kind;
+        }
+        if self.queue != other.queue {
+            return self.queue < other.queue;
+        }
+        self.number < other.number
     }
 
     /// The numbers of each key fit their bytes.

@@ -79,7 +79,7 @@ impl CallWrites {
         if self.access.is_under_way() {
             return false;
         }
-        plan.is_done(self.due) || plan.next(self.due).is_none()
+        plan.is_done(self.due) || plan.is_spent(self.due)
     }
 
     /// What is due.

@@ -136,8 +136,11 @@ impl LockTable {
         requires seat { IsSeat self.now seat }
         ensures { IsTrue result ↔ IsOpposed self.now seat name kind }
     {
-        let spot = self.slots.spot(name);
-        spot.holders.opponent(seat, kind).is_some()
+        // Nobody is in the way of a seat that is alone.
+        if self.rows.len() == 1 {
+            return false;
+        }
+        self.has_opponent(seat, name, kind)
     }
 
     /// How many slots the last `try_grant` or `attempt` looked at, from the name's home to where it
@@ -190,6 +193,15 @@ impl LockTable {
         ensures { IsPairwiseCompatible self.now }
     {
         let _ = &self.rows;
+    }
+
+    /// Whether another seat holds the name in a kind that does not go with this one.
+    fn has_opponent(&self, seat: u8, name: LockName, kind: LockKind) -> bool
+        requires seat { IsSeat self.now seat }
+        ensures { IsTrue result ↔ IsOpposed self.now seat name kind }
+    {
+        let spot = self.slots.spot(name);
+        spot.holders.opponent(seat, kind).is_some()
     }
 
     /// The row of a seat.

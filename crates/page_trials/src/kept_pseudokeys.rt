@@ -4,7 +4,7 @@ use bucket_page::{Alike, KeptKeys, NumberKey, PseudoKey, RecordKey};
 use std::cell::Cell;
 use std::test::Fail;
 
-/// A message's key. Those of a number and of the 8,192nd behind it have one slot.
+/// A message's key. Those of a number and of the 16,384th behind it have one slot.
 fn message(number: u64) -> RecordKey {
     RecordKey {
         kind: 5,
@@ -50,7 +50,7 @@ fn a_pseudokey_that_is_kept_is_not_computed_again(rt: HostRuntime) -> Result<(),
         (2, 5),
         (1, 5),
         (5, 5),
-        (8_193, 6),
+        (16_385, 6),
         (2, 6),
         (1, 7),
     ] {

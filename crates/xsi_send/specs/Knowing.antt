@@ -16,7 +16,10 @@ use Rattle.type_chains.specs.Entries.{queue_entry}
 use Rattle.xsi_inquiry.specs.Seeking.{Tells, reads_left, sought_next}
 use Rattle.xsi_inquiry.specs.declared.wanted.Wanted.{Wanted}
 use Rattle.xsi_inquiry.specs.declared.wanted.Wanted.TheVariants.{At}
+use Rattle.xsi_send.specs.declared.stage.Ahead.{Ahead}
+use Rattle.xsi_send.specs.declared.stage.Ahead.TheVariants.{Ends, Goes}
 use Rattle.xsi_send.specs.declared.stage.Stage.{Stage}
+use Rattle.xsi_send.specs.declared.stage.Walk.{Walk}
 use Rattle.xsi_send.specs.declared.stage.Stage.TheVariants.{Seeking, Refused, Full, AtType, AtNeighbour, Done}
 use Rattle.xsi_send.specs.Places.{IsPlaceOf, IsWalked}
 
@@ -28,6 +31,12 @@ asked a Full = None
 asked a (AtType e) = Some (At (key_of_type a.id a.mtype))
 asked a (AtNeighbour w) = Some (At (key_of_type a.id w.next))
 asked a (Done e place) = None
+
+-- the stage to which a way up leads
+abbrev pub led_to : Walk → Ahead → Stage
+led_to w (Ends place) = Done w.queue place
+led_to w (Goes next left) =
+    AtNeighbour (record { queue = w.queue; lower = Some w.next; next = next; left = left })
 
 -- at most as many questions are still asked
 abbrev pub asks_left : Stage → ℕ

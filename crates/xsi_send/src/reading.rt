@@ -7,9 +7,9 @@ ghost use Rattle.type_chains.specs.RecordOf.{record_of};
 ghost use Rattle.xsi_inquiry.specs.Seeking.{IsEntryOf, Tells, reads_left, sought_next};
 ghost use Rattle.xsi_inquiry.specs.Telling.{AsksGiven, AsksRecord, Gives, IsFiled, IsTold, IsToldGiven};
 ghost use Rattle.xsi_send.specs.declared.stage.Stage.TheVariants.{AtNeighbour, AtType, Seeking};
-ghost use Rattle.xsi_send.specs.Knowing.{IsAllowed, KnowsAt, asked, asks_left};
+ghost use Rattle.xsi_send.specs.Knowing.{IsAllowed, KnowsAt, asked, asks_left, led_to};
 
-use crate::stage::{Stage, Walk};
+use crate::stage::{Ahead, Stage, Walk};
 use crate::type_place::TypePlace;
 use queue_model::{Access, Caller, Errno, SendArguments};
 use queue_records::{MAX_MESSAGES, QueueEntry, Record};
@@ -122,13 +122,14 @@ fn walk(caller: Caller, arguments: &SendArguments, queue: QueueEntry) -> Result<
 pub fn take_neighbour(
     caller: Caller,
     arguments: &SendArguments,
-    walk: Walk,
+    walk: &Walk,
     found: Option<Record<'_>>,
-) -> Result<Stage, NotASystem>
-    ensures told { (s : State) → IsFiled s → KnowsAt caller arguments.now (AtNeighbour walk) s →
-        IsTold s (asked arguments.now (AtNeighbour walk)) found.entry →
-        Gives result (λ stage. KnowsAt caller arguments.now stage s) }
-    ensures fewer { IfOk result (λ stage. asks_left stage < asks_left (AtNeighbour walk)) }
+) -> Result<Ahead, NotASystem>
+    ensures told { (s : State) → IsFiled s → KnowsAt caller arguments.now (AtNeighbour walk.now) s →
+        IsTold s (asked arguments.now (AtNeighbour walk.now)) found.entry →
+        Gives result (λ ahead. KnowsAt caller arguments.now (led_to walk.now ahead) s) }
+    ensures fewer { IfOk result (λ ahead. asks_left (led_to walk.now ahead)
+        < asks_left (AtNeighbour walk.now)) }
 {
     let Some(found) = found else {
         return Err(NotASystem);
@@ -141,18 +142,13 @@ pub fn take_neighbour(
         return Err(NotASystem);
     }
     if walk.next > arguments.mtype {
-        return Ok(Stage::Done(walk.queue, TypePlace::Between(walk.lower, Some(walk.next))));
+        return Ok(Ahead::Ends(TypePlace::Between(walk.lower, Some(walk.next))));
     }
     let Some(next) = entry.higher else {
-        return Ok(Stage::Done(walk.queue, TypePlace::Between(Some(walk.next), None)));
+        return Ok(Ahead::Ends(TypePlace::Between(Some(walk.next), None)));
     };
     if next <= walk.next {
         return Err(NotASystem);
     }
-    Ok(Stage::AtNeighbour(Walk {
-        lower: Some(walk.next),
-        next,
-        left,
-        ..walk
-    }))
+    Ok(Ahead::Goes(next, left))
 }

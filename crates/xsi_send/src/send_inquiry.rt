@@ -72,8 +72,7 @@ impl Inquiry for SendInquiry {
         found: Option<Record<'_>>,
         _room: &mut Room,
     ) -> Result<(), NotASystem> {
-        self.stage = self.stage.take(self.caller, arguments, found)?;
-        Ok(())
+        self.stage.take(self.caller, arguments, found)
     }
 
     fn take_given(&mut self, arguments: &SendArguments, given: bool) -> Result<(), NotASystem> {

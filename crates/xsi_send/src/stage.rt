@@ -1,6 +1,6 @@
 //! How far a Send has come with its reading.
 
-ghost use Rattle.std.specs.Prelude.{◌≡◌, ◌<◌, ◌≤◌, IfOk};
+ghost use Rattle.std.specs.Prelude.{◌≡◌, ◌<◌, ◌≤◌, IfOk, OnErr, OnOk};
 ghost use Rattle.queue_model.specs.State.{State};
 ghost use Rattle.xsi_inquiry.specs.Telling.{AsksGiven, AsksRecord, Gives, IsFiled, IsTold, IsToldGiven};
 ghost use Rattle.xsi_send.specs.Knowing.{KnowsAt, asked, asks_left};
@@ -41,6 +41,15 @@ pub struct Walk {
     pub left: u32,
 }
 
+/// Where a way up leads from the Type that was read.
+#[derive(Clone, Copy)]
+pub enum Ahead {
+    /// To the place of the message's type.
+    Ends(TypePlace),
+    /// To the Type of this type, and as many Types are read at most.
+    Goes(i64, u32),
+}
+
 impl Stage {
     /// Nothing is read yet.
     pub fn begin(caller: Caller, arguments: &SendArguments) -> Stage
@@ -65,23 +74,41 @@ impl Stage {
         }
     }
 
-    /// The stage once the record at that key was read, or that there is none.
+    /// Tells the record at that key, or that there is none. On a way up it goes on in place, since a
+    /// stage is large. After an error it stands where it stood.
     pub fn take(
-        self,
+        &mut self,
         caller: Caller,
         arguments: &SendArguments,
         found: Option<Record<'_>>,
-    ) -> Result<Stage, NotASystem>
-        requires { AsksRecord (asked arguments.now self) }
-        ensures told { (s : State) → IsFiled s → KnowsAt caller arguments.now self s →
-            IsTold s (asked arguments.now self) found.entry →
-            Gives result (λ stage. KnowsAt caller arguments.now stage s) }
-        ensures fewer { IfOk result (λ stage. asks_left stage < asks_left self) }
+    ) -> Result<(), NotASystem>
+        requires { AsksRecord (asked arguments.now self.old) }
+        ensures told { (s : State) → IsFiled s → KnowsAt caller arguments.now self.old s →
+            IsTold s (asked arguments.now self.old) found.entry →
+            Gives result (λ _. KnowsAt caller arguments.now self.new s) }
+        ensures fewer { OnOk result (asks_left self.new < asks_left self.old) }
+        ensures err { OnErr result (self.new ≡ self.old) }
     {
         match self {
-            Stage::Seeking(sought) => seek(caller, arguments, sought, found),
-            Stage::AtType(queue) => take_type(caller, arguments, queue, found),
-            Stage::AtNeighbour(walk) => take_neighbour(caller, arguments, walk, found),
+            Stage::Seeking(sought) => {
+                *self = seek(caller, arguments, *sought, found)?;
+                Ok(())
+            }
+            Stage::AtType(queue) => {
+                *self = take_type(caller, arguments, *queue, found)?;
+                Ok(())
+            }
+            Stage::AtNeighbour(walk) => {
+                match take_neighbour(caller, arguments, walk, found)? {
+                    Ahead::Ends(place) => *self = Stage::Done(walk.queue, place),
+                    Ahead::Goes(next, left) => {
+                        walk.lower = Some(walk.next);
+                        walk.next = next;
+                        walk.left = left;
+                    }
+                }
+                Ok(())
+            }
             Stage::Refused(_) | Stage::Full | Stage::Done(..) => Err(NotASystem),
         }
     }

@@ -1,4 +1,4 @@
-use Rattle.xsi_send.proofs.Names.{IsBetween, IsWalked, None, SFits, Some, TypeEntry, ap, arith, clash, false, ints, of_z, rules, subst, sym, to_z, to_z-of_z, true, w64, ◌+◌, ◌<ℤ◌, ◌∙◌, ◌≡◌}
+use Rattle.xsi_send.proofs.Names.{IsBetween, IsWalked, None, SFits, Some, TypeEntry, ap, arith, clash, false, ints, rules, subst, sym, to_z-of_z, true, w64, ◌+◌, ◌<ℤ◌, ◌∙◌, ◌≡◌}
 use Rattle.xsi_send.proofs.Told.{less_of_z, never_none, same_found, same_of_z, same_type}
 use Rattle.xsi_send.proofs.Walked.{higher_fits, next_apart, next_fits, next_told, walk_ascends, walk_ends_above, walk_ends_behind, walk_goes_on, walk_has_left}
 use Rattle.xsi_send.proofs.reading.take_neighbour.Goals as goal
@@ -7,14 +7,14 @@ use Rattle.xsi_send.proofs.reading.take_neighbour.Goals as goal
 pub returns-in_default-clause-told : goal.returns-in_default-clause-told
 returns-in_default-clause-told c s filed (known, walked) told =
     let a = c.args.arguments.now in
-    let w = c.args.walk in
+    let w = c.args.walk.now in
     let is = next_told c.args.caller a w.queue s filed known w walked c.args.found told in
     absurd (never_none c.args.found _ is c.in_default.is)
 
 -- a queue has no more types than messages
 pub returns-in_default-checked_sub-clause-told : goal.returns-in_default-checked_sub-clause-told
 returns-in_default-checked_sub-clause-told c s filed (known, walked) told =
-    let w = c.args.walk in
+    let w = c.args.walk.now in
     let none = c.in_default-checked_sub.ensures in
     let zero_left : w.left ≡ 0 = grind (arith, none) in
     walk_has_left c.args.caller c.args.arguments.now w.queue s filed known w walked zero_left
@@ -23,7 +23,7 @@ returns-in_default-checked_sub-clause-told c s filed (known, walked) told =
 pub returns-in_err-entry-clause-told : goal.returns-in_err-entry-clause-told
 returns-in_err-entry-clause-told c s filed (known, walked) told =
     let a = c.args.arguments.now in
-    let w = c.args.walk in
+    let w = c.args.walk.now in
     let is = next_told c.args.caller a w.queue s filed known w walked c.args.found told in
     let one = same_found c.args.found _ _ c.in-Some.is is in
     absurd (clash _ _ (c.type_in.ensures.only _ one) _ c.in_err-entry.was)
@@ -32,7 +32,7 @@ returns-in_err-entry-clause-told c s filed (known, walked) told =
 pub returns-then-walk-arguments-clause-told : goal.returns-then-walk-arguments-clause-told
 returns-then-walk-arguments-clause-told c s filed (known, walked) told =
     let a = c.args.arguments.now in
-    let w = c.args.walk in
+    let w = c.args.walk.now in
     let its : SFits w64 a.mtype = search rules in
     let fits = next_fits c.args.caller a w.queue s filed known w walked in
     absurd (next_apart c.args.caller a w.queue s filed known w walked
@@ -42,7 +42,7 @@ returns-then-walk-arguments-clause-told c s filed (known, walked) told =
 pub returns-then-walk-arguments-2-clause-told : goal.returns-then-walk-arguments-2-clause-told
 returns-then-walk-arguments-2-clause-told c s filed (known, walked) told =
     let a = c.args.arguments.now in
-    let w = c.args.walk in
+    let w = c.args.walk.now in
     let its : SFits w64 a.mtype = search rules in
     let fits = next_fits c.args.caller a w.queue s filed known w walked in
     let test = less_of_z a.mtype w.next true its fits c.if-walk-arguments-2.true in
@@ -56,7 +56,7 @@ returns-then-walk-arguments-2-clause-told c s filed (known, walked) told =
 pub returns-in_default-higher-clause-told : goal.returns-in_default-higher-clause-told
 returns-in_default-higher-clause-told c s filed (known, walked) told =
     let a = c.args.arguments.now in
-    let w = c.args.walk in
+    let w = c.args.walk.now in
     let is = next_told c.args.caller a w.queue s filed known w walked c.args.found told in
     let entry = same_type _ _ (sym c.in_ok-entry.ensures.ok ∙ same_found c.args.found _ _ c.in-Some.is is) in
     let its : SFits w64 a.mtype = search rules in
@@ -74,7 +74,7 @@ returns-in_default-higher-clause-told c s filed (known, walked) told =
 pub returns-then-next-walk-clause-told : goal.returns-then-next-walk-clause-told
 returns-then-next-walk-clause-told c s filed (known, walked) told =
     let a = c.args.arguments.now in
-    let w = c.args.walk in
+    let w = c.args.walk.now in
     let is = next_told c.args.caller a w.queue s filed known w walked c.args.found told in
     let entry = same_type _ _ (sym c.in_ok-entry.ensures.ok ∙ same_found c.args.found _ _ c.in-Some.is is) in
     let its : SFits w64 a.mtype = search rules in
@@ -90,7 +90,7 @@ returns-then-next-walk-clause-told c s filed (known, walked) told =
 pub returns-clause-told : goal.returns-clause-told
 returns-clause-told c s filed (known, walked) told =
     let a = c.args.arguments.now in
-    let w = c.args.walk in
+    let w = c.args.walk.now in
     let is = next_told c.args.caller a w.queue s filed known w walked c.args.found told in
     let entry = same_type _ _ (sym c.in_ok-entry.ensures.ok ∙ same_found c.args.found _ _ c.in-Some.is is) in
     let its : SFits w64 a.mtype = search rules in
@@ -108,14 +108,8 @@ returns-clause-told c s filed (known, walked) told =
       known,
       subst (λ n. IsWalked a.mtype (record {
         queue = w.queue;
-        lower = Some n;
-        next = to_z w64 (of_z w64 higher);
+        lower = Some w.next;
+        next = n;
         left = c.in-Some-checked_sub.left;
-      }) known.queue) (sym (to_z-of_z w64 w.next fits))
-          (subst (λ n. IsWalked a.mtype (record {
-            queue = w.queue;
-            lower = Some w.next;
-            next = n;
-            left = c.in-Some-checked_sub.left;
-          }) known.queue) (sym (to_z-of_z w64 higher higher_fit)) further),
+      }) known.queue) (sym (to_z-of_z w64 higher higher_fit)) further,
     )
