@@ -16,6 +16,7 @@ pub const MAX_NAMES: usize = 3;
 ///
 /// A Stat holds its queue Read, and so does a Remove in its first phase; all other
 /// names are held Exclusive.
+#[inline(always)]
 pub fn name_at(call: &Call, inquiry: &AnyInquiry, place: usize) -> Option<Lock>
     ensures { result ≡ slice_get (names_for call.now inquiry.now) place }
 {

@@ -31,7 +31,9 @@ pub(crate) struct Draft {
 }
 
 impl Draft {
-    /// That of a call of which the answer has this room.
+    /// That of a call of which the answer has this room. It stands in whoever begins one, since a draft is
+    /// large, and would else be moved through memory.
+    #[inline(always)]
     fn of(call: &Call, room: &Room) -> Result<Draft, NoMemory>
         ensures call { IfOk result (λ d. d.call ≡ call.now) }
         ensures room { IfOk result (λ d. d.room.most ≡ room.now.most) }

@@ -52,6 +52,7 @@ pub(crate) fn note(
 
 /// A move of a seat of this kind is counted, by which a page has answered its search or not. Before
 /// it the last lock of the seat was on this page.
+#[inline(always)]
 pub(crate) fn note_move(
     searches: &mut SearchCounts,
     locks: &LockTable,

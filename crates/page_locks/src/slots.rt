@@ -70,6 +70,7 @@ impl Slots {
     }
 
     /// Gives a name these holders, at its spot. Where there are none its slot becomes free.
+    #[inline(always)]
     pub fn store(&mut self, name: LockName, place: usize, holders: Holders)
         requires few { HasFewNames self.old }
         requires spot { IsSpot self.old name place }

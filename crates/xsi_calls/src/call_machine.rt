@@ -214,7 +214,8 @@ impl CallMachine {
     /// that is given back. It owes the sweep, or else the writes, which begin in the step after that
     /// by which the sweep has ended. A sweep that has failed is refused as `Failed`, and nothing is
     /// written after it. Behind the last write a name is given back in the same step. It has ended
-    /// where nothing is owed and no name is held.
+    /// where nothing is owed and no name is held. It stands in whoever steps the call.
+    #[inline(always)]
     pub fn step<D: PageDevice, K: PseudoKey>(
         &mut self,
         pool: &mut Pool<D>,

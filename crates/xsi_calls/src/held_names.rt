@@ -76,9 +76,8 @@ impl HeldNames {
         self.turn_by_places(call, inquiry)
     }
 
-    /// The turn, by each place at which a name is held or needed. It stands apart, since `turn` would
-    /// make room for what it alone needs.
-    #[inline(never)]
+    /// The turn, by each place at which a name is held or needed.
+    #[inline(always)]
     fn turn_by_places(&self, call: &Call, inquiry: &AnyInquiry) -> NameTurn
         ensures { result ≡ name_turn self.now (names_for call.now inquiry.now) }
     {

@@ -59,6 +59,7 @@ impl Questions {
     }
 
     /// A call that has waited begins anew, over the same room. It holds no name.
+    #[inline(always)]
     pub(crate) fn begin_again(&mut self, by: Caller, call: &Call)
         requires { IsBare (asked_with self.old None) }
         ensures caller { caller_of self.new.inquiry ≡ by }

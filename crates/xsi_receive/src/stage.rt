@@ -80,6 +80,7 @@ impl Stage {
     }
 
     /// Where it goes on once the Queue is read: who may not read is refused, and the type selects.
+    #[inline(always)]
     fn of_queue(caller: Caller, arguments: &ReceiveArguments, queue: &QueueEntry) -> Stage
         ensures knows { (room : Roomful) (s : State) → IsFiled s → HasRoomFor arguments.now room →
             IsEntryOf arguments.now.id queue.now s → KnowsAt caller arguments.now result room s }
