@@ -21,7 +21,7 @@ MOST_JOBS = 3
 # What the start of a proof takes, in lines of code that take as long.
 START = 200
 # A chain is long where it has so much of the longest that is left.
-LONG = 0.9
+LONG = 0.85
 # Another proof begins where so many bytes of memory are free, and has one processor more where so many are.
 MEMORY_OF_A_PROOF, MEMORY_OF_A_JOB = 4_500_000_000, 8_000_000_000
 PARTS = ("src", "specs", "proofs")
@@ -202,17 +202,22 @@ class Proofs:
         return process.returncode, said
 
     def prove(self, name, jobs):
-        status, said = self.crates[name].prove(jobs, self.run)
+        """Proves a crate by so many processors, and notes what came of it."""
+        try:
+            status, said = self.crates[name].prove(jobs, self.run)
+        except OSError as error:
+            status, said = 1, f"{error}\n"
         with self.news:
             del self.running[name]
+            was_killed = status == -signal.SIGKILL
             if status == 0:
                 self.proved.add(name)
                 self.alone.discard(name)
-            elif status == -signal.SIGKILL and name not in self.alone and not self.is_ended:
+            elif was_killed and name not in self.alone and not self.is_ended:
                 # most likely for want of memory: once more, with nothing beside it
                 self.alone.add(name)
-            else:
-                self.failed, self.said = self.failed or name, self.said or said.splitlines()
+            elif self.failed is None:
+                self.failed, self.said = name, [*said.splitlines(), *["the proof was killed, most likely for want of memory"] * was_killed]
             self.news.notify()
 
     def all(self):
