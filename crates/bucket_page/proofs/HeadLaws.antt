@@ -1,6 +1,6 @@
 -- The head of a bucket is read from its bytes.
-use Rattle.std.proofs.Common.{◌≡◌, ℕ, ◌<◌, ◌^◌, true, List, ◌∷◌, ◌++◌, length, take, drop, ap, ◌∙◌, append_assoc, arith}
-use Rattle.std.proofs.lemmas.List.{take_at, length-append}
+use Rattle.std.proofs.Common.{◌≡◌, ℕ, ◌<◌, ◌^◌, true, List, [], ◌∷◌, ◌++◌, length, take, drop, sym, ap, ◌∙◌, append_assoc, arith}
+use Rattle.std.proofs.lemmas.List.{take_at, drop_at, length-append}
 use Rattle.bucket_page.specs.declared.layout.TheConstants.{BUCKET}
 use Rattle.bucket_page.specs.declared.head.Head.{Head}
 use Rattle.directory.specs.numbers.Numbers.{two, four, zeros, four_at}
@@ -71,3 +71,28 @@ head_again h body count pattern next used =
       blank = rw (at14, take_at (zeros 2) body 2 (length-zeros 2)) (zeros_again 2);
       rest = after_part 14 2 bytes (zeros 2) body at14 (length-zeros 2);
     }
+
+-- two numbers of a head are written over
+pub counts_set : (h : Head) (count used : ℕ) (bytes first b0 b1 between b2 last w1 w2 : List ℕ) → bytes ≡ head_bytes h
+    → first ≡ take 2 bytes → b0 ≡ drop 2 bytes → b1 ≡ drop 2 b0 → between ≡ take 8 b1 → b2 ≡ drop 8 b1
+    → last ≡ drop 2 b2 → w1 ≡ two count → w2 ≡ two used
+    → first ++ (w1 ++ (between ++ (w2 ++ last))) ≡ head_bytes (record h { count = count; used = used })
+counts_set h count used bytes first b0 b1 between b2 last w1 w2 is first-is b0-is b1-is between-is b2-is last-is w1-is
+    w2-is =
+    let x3 : List ℕ = two h.used ++ zeros 2 in
+    let x2 : List ℕ = four h.next ++ x3 in
+    let x1 : List ℕ = four h.pattern ++ x2 in
+    let f : List ℕ = four h.pattern ++ four h.next in
+    let long : length f ≡ 8 =
+    omega (arith, length-append (four h.pattern) (four h.next), length-four h.pattern, length-four h.next) in
+    let front : first ≡ BUCKET ∷ h.depth ∷ [] = first-is ∙ ap (take 2) is in
+    let rest : b1 ≡ f ++ x3 =
+    b1-is ∙ ap (drop 2) (b0-is ∙ ap (drop 2) is) ∙ drop_at (two h.count) x1 2 (length-two h.count)
+    ∙ sym (append_assoc (four h.pattern) (four h.next) x3) in
+    let middle : between ≡ f = between-is ∙ ap (take 8) rest ∙ take_at f x3 8 long in
+    let back : last ≡ zeros 2 =
+    last-is ∙ ap (drop 2) (b2-is ∙ ap (drop 8) rest ∙ drop_at f x3 8 long)
+    ∙ drop_at (two h.used) (zeros 2) 2 (length-two h.used) in
+    (λ i. front i ++ (w1-is i ++ (middle i ++ (w2-is i ++ back i))))
+    ∙ ap (λ (xs : List ℕ). BUCKET ∷ h.depth ∷ (two count ++ xs)) (append_assoc (four h.pattern) (four h.next)
+    (two used ++ zeros 2))

@@ -9,6 +9,7 @@ pub mod OrderLaws
 pub mod PageLaws
 pub mod ReadingLaws
 pub mod RecordLaws
+pub mod SeekLaws
 pub mod SpliceLaws
 pub mod StandingLaws
 pub mod Steps

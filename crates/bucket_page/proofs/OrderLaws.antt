@@ -1,13 +1,11 @@
 -- Lists of records in the order of their keys.
-use Rattle.std.proofs.Common.{◌++◌, cond, ℕ, ◌+◌, ◌-◌, ◌≤◌, length, refl, arith, ◌≡◌, Bool, true, false, Option, Some, None, List, [], ◌∷◌, sym, ap, ◌∙◌}
+use Rattle.std.proofs.Common.{◌++◌, cond, ℕ, ◌≤◌, length, refl, arith, ◌≡◌, Bool, true, false, Option, Some, None, List, [], ◌∷◌, sym, ap, ◌∙◌}
 use Rattle.std.proofs.lemmas.List.{length-append}
 use Rattle.std.proofs.lemmas.List.Concat.{flat_map-append}
 use Rattle.bucket_page.specs.declared.record_key.RecordKey.{RecordKey}
-use Rattle.bucket_page.specs.declared.layout.TheConstants.{RECORD_HEAD_BYTES}
 use Rattle.bucket_page.specs.Keys.{is_same, is_below}
 use Rattle.bucket_page.specs.Records.{Pair, pair, is_above, pair_bytes, ascend_from, ascend, lookup, record_bytes}
 use Rattle.bucket_page.specs.Changes.{below, inserted, replaced, removed}
-use Rattle.bucket_page.proofs.Steps.{length-cons}
 use Rattle.directory.proofs.of_numbers.Tests.{both_true}
 use Rattle.bucket_page.proofs.KeyLaws.{below_other, below_past, other_way, same_is}
 
@@ -40,37 +38,7 @@ lookup_on key p ps qs same is test other h =
     let others : ascend_from (Some p.key) ps ≡ true = ap ascend (sym is) ∙ h in
     (ascend_rest (Some p.key) ps others, sym (ap (lookup key) is ∙ rw (sym test ∙ other) refl))
 
--- ---- the records below a key
-
--- a walk for a key has passed some records, which are below it: these are left, of so many bytes
-pub record IsLeft (key : RecordKey) (all : List Pair) (left : ℕ) (qs : List Pair) : Type 0 where
-  pub ascends : ascend qs ≡ true
-  pub same : lookup key qs ≡ lookup key all
-  pub bytes : left ≡ length (record_bytes qs)
-  pub passed : length (record_bytes (below key all)) + left
-      ≡ length (record_bytes all) + length (record_bytes (below key qs))
-
--- it passes a record below the key
-pub passes : (key : RecordKey) (all : List Pair) (left : ℕ) (p : Pair) (ps qs : List Pair) → qs ≡ p ∷ ps
-    → is_below p.key key ≡ true → IsLeft key all left qs
-    → (RECORD_HEAD_BYTES + length p.value ≤ left) × IsLeft key all (left - (RECORD_HEAD_BYTES + length p.value)) ps
-passes key all left p ps qs is under so-far =
-    let on = lookup_on key p ps qs false is (sym (below_other p.key key under).0) refl so-far.ascends in
-    let cons = length-cons p ps in
-    let len : length (record_bytes qs) ≡ length (record_bytes (p ∷ ps)) =
-    ap (λ (xs : List Pair). length (record_bytes xs)) is in
-    let first : below key (p ∷ ps) ≡ p ∷ below key ps = rw under refl in
-    let part : length (record_bytes (below key qs)) ≡ length (record_bytes (p ∷ below key ps)) =
-    ap (λ (xs : List Pair). length (record_bytes xs)) (ap (below key) is ∙ first) in
-    let lower = length-cons p (below key ps) in (
-      omega (arith, cons, len, so-far.bytes),
-      record {
-        ascends = on.0;
-        same = on.1 ∙ so-far.same;
-        bytes = omega (arith, cons, len, so-far.bytes);
-        passed = omega (arith, cons, len, so-far.bytes, so-far.passed, part, lower);
-      },
-    )
+-- ---- the records below a key, and the others
 
 -- the records from a key on
 abbrev pub from : RecordKey → List Pair → List Pair

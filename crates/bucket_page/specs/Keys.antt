@@ -25,6 +25,10 @@ key_at bytes = record {
 abbrev pub is_same : RecordKey → RecordKey → Bool
 is_same a b = a.kind == b.kind && (a.queue == b.queue && a.number == b.number)
 
+-- two keys are of one kind and of one queue
+abbrev pub is_beside : RecordKey → RecordKey → Bool
+is_beside a b = a.kind == b.kind && a.queue == b.queue
+
 -- the order of keys: by kind, then by queue, then by number
 unfoldable pub is_below : RecordKey → RecordKey → Bool
 is_below a b =

@@ -5,7 +5,7 @@ ghost use Rattle.bucket_page.specs.Records.{ascend, pair, lookup, record_bytes};
 ghost use Rattle.bucket_page.specs.Reading.{records_in, used_at};
 ghost use Rattle.bucket_page.specs.Changes.{Appends, Changes, InsertsAt, IsBucketPage, IsPlace, fronted, inserted, place_in, removed, value_of_key};
 
-use crate::head::Head;
+use crate::head::set_counts;
 use crate::layout::{RECORD_HEAD_BYTES, ROOM_BYTES};
 use crate::place::Place;
 use crate::record_key::RecordKey;
@@ -118,17 +118,12 @@ pub fn remove_at(payload: &mut Payload, place: &Place)
     requires there { IsSome (lookup place.now.key (records_in payload.old)) }
     ensures ok { Changes (removed place.now.key) payload.old payload.new }
 {
-    let head = Head::read(payload);
-    let used = head.used as usize;
+    let count = two_at(payload, 2);
+    let used = two_at(payload, 12) as usize;
     let (front, body) = payload.split_at_mut(HEAD_BYTES);
     let len = RECORD_HEAD_BYTES + two_at(body, place.at) as usize;
     take_out(body, used, place.at, len);
-    let shrunk = Head {
-        count: head.count - 1,
-        used: (used - len) as u16,
-        ..head
-    };
-    shrunk.write(front);
+    set_counts(front, count - 1, (used - len) as u16);
 }
 
 /// Puts a record at a place among the bytes of records.
@@ -140,16 +135,12 @@ fn insert_record(payload: &mut Payload, at: usize, key: &RecordKey, value: &[u8]
     ensures { InsertsAt at (pair key.now value.now) payload.old payload.new }
 {
     key.fits_bytes();
-    let head = Head::read(payload);
-    let used = head.used as usize;
+    let count = two_at(payload, 2);
+    let used = two_at(payload, 12) as usize;
     let (front, body) = payload.split_at_mut(HEAD_BYTES);
     insert(body, used, at, key, value);
-    let grown = Head {
-        count: head.count + 1,
-        used: (used + (RECORD_HEAD_BYTES + value.len())) as u16,
-        ..head
-    };
-    grown.write(front);
+    let len = RECORD_HEAD_BYTES + value.len();
+    set_counts(front, count + 1, (used + len) as u16);
 }
 
 /// The place of a key.

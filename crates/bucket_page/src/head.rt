@@ -3,6 +3,7 @@
 ghost use Rattle.std.specs.Prelude.{◌≡◌, ◌≤◌, length};
 ghost use Rattle.bucket_page.specs.Reading.{head_at};
 ghost use Rattle.bucket_page.specs.Spelling.{head_bytes};
+ghost use Rattle.bucket_page.specs.declared.head.Head.{Head};
 
 use crate::layout::BUCKET;
 use directory::HEAD_BYTES;
@@ -53,4 +54,18 @@ impl Head {
         write_two(used, self.used);
         blank(last);
     }
+}
+
+/// Sets how many records a bucket has, and their bytes, in its head.
+pub fn set_counts(bytes: &mut [u8], count: u16, used: u16)
+    requires { length bytes.old ≡ HEAD_BYTES }
+    ensures { (h : Head) → bytes.old ≡ head_bytes h
+        → bytes.new ≡ head_bytes (record h { count = count; used = used }) }
+{
+    let (_, others) = bytes.split_at_mut(2);
+    let (records, others) = others.split_at_mut(2);
+    let (_, others) = others.split_at_mut(8);
+    let (room, _) = others.split_at_mut(2);
+    write_two(records, count);
+    write_two(room, used);
 }

@@ -52,16 +52,13 @@ impl<K: Alike> PseudoKey for KeptKeys<K> {
 
     ghost small = { K.small };
 
+    // A call costs less here than its few lines in the midst of the long functions that ask.
+    #[inline(never)]
     fn of(&self, key: &RecordKey) -> u32 {
         if let Some(pseudokey) = self.kept(key) {
             return pseudokey;
         }
-        if self.goes_on(key) {
-            return self.of_run(key);
-        }
-        let pseudokey = self.keys.of(key);
-        self.keep(key, pseudokey);
-        pseudokey
+        self.made(key)
     }
 }
 
@@ -90,8 +87,22 @@ impl<K: Alike> KeptKeys<K> {
         key.number <= u64::MAX - RUN as u64 && self.kept(&RecordKey { number, ..*key }).is_some()
     }
 
+    /// The pseudokey of a key that is not kept yet.
+    // Its locals would be zeroed in each call of `of`, of which few come here.
+    #[inline(never)]
+    fn made(&self, key: &RecordKey) -> u32
+        ensures { result ≡ K.of_key self.now key.now }
+    {
+        if self.goes_on(key) {
+            return self.of_run(key);
+        }
+        let pseudokey = self.keys.of(key);
+        self.keep(key, pseudokey);
+        pseudokey
+    }
+
     /// The pseudokey of a key. Those of the numbers behind it are computed beside it, and kept.
-    // Its locals would be zeroed in each call of `of`, of which one in four comes here.
+    // Its locals would be zeroed for keys of which no run is made as well.
     #[inline(never)]
     fn of_run(&self, key: &RecordKey) -> u32
         requires { key.now.number + RUN ≤ 2 ^ 64 }

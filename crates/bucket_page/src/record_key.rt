@@ -2,7 +2,7 @@
 
 ghost use Rattle.std.specs.Prelude.{◌≡◌, ◌≤◌, length, true, IsTrue, ◌↔◌};
 ghost use Rattle.directory.specs.numbers.Numbers.{four, eight};
-ghost use Rattle.bucket_page.specs.Keys.{IsKey, key_bytes, key_at, is_below};
+ghost use Rattle.bucket_page.specs.Keys.{IsKey, key_bytes, key_at, is_below, is_beside};
 
 use directory::fields::{eight_at, four_at, write_eight, write_four};
 
@@ -50,6 +50,13 @@ impl RecordKey {
             return self.queue < other.queue;
         }
         self.number < other.number
+    }
+
+    /// Whether another key is of the same kind and of the same queue.
+    pub(crate) fn is_beside(&self, other: &RecordKey) -> bool
+        ensures { result ≡ is_beside self.now other.now }
+    {
+        self.kind == other.kind && self.queue == other.queue
     }
 
     /// The numbers of each key fit their bytes.

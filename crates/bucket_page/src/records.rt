@@ -106,29 +106,30 @@ impl<'a> Records<'a> {
         ensures some { IfSome result.value (λ value. lookup key.now self.now ≡ Some value.now) }
         ensures none { IfNone result.value (lookup key.now self.now ≡ None) }
     {
-        let mut left = self.used();
-        for record in self.again() {
-            if record.key.is_below(key) {
-                left -= RECORD_HEAD_BYTES + record.value.len();
-                continue;
-            }
-            let place = Place {
-                key: *key,
-                at: self.used() - left,
-            };
-            if record.key == *key {
+        let bytes = self.bytes;
+        let mut at = 0;
+        'walk: while at < bytes.len() {
+            let (_, rest) = bytes.split_at(at);
+            let found = first_key(rest);
+            if found.is_beside(key) && found.number >= key.number {
+                let place = Place { key: *key, at };
+                if found.number > key.number {
+                    return Sought { place, value: None };
+                }
+                let (record, _) = split_record(rest);
                 return Sought {
                     place,
                     value: Some(record.value),
                 };
             }
-            return Sought { place, value: None };
+            if !found.is_below(key) {
+                let place = Place { key: *key, at };
+                return Sought { place, value: None };
+            }
+            at += first_len(rest);
         }
         Sought {
-            place: Place {
-                key: *key,
-                at: self.used(),
-            },
+            place: Place { key: *key, at },
             value: None,
         }
     }
@@ -164,6 +165,22 @@ fn begins(bytes: &[u8]) -> bool
 {
     bytes.len() >= RECORD_HEAD_BYTES
         && two_at(bytes, 0) as usize <= bytes[RECORD_HEAD_BYTES..].len()
+}
+
+/// The key of the record that stands first.
+fn first_key(bytes: &[u8]) -> RecordKey
+    requires { begins bytes.now ≡ true }
+    ensures { result ≡ (pair_at bytes.now).key }
+{
+    key_at(&bytes[2..])
+}
+
+/// The bytes of the record that stands first.
+fn first_len(bytes: &[u8]) -> usize
+    requires { begins bytes.now ≡ true }
+    ensures { result ≡ RECORD_HEAD_BYTES + two_at 0 bytes.now }
+{
+    RECORD_HEAD_BYTES + two_at(bytes, 0) as usize
 }
 
 /// The record that stands first, and the bytes after it.

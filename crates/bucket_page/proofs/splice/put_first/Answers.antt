@@ -1,4 +1,4 @@
-use Rattle.std.proofs.Common.{◌+◌, ◌-◌, ◌++◌, length, drop, ap, ap₂, ◌∙◌}
+use Rattle.std.proofs.Common.{◌+◌, ◌++◌, length, drop, ap, ap₂, ◌∙◌}
 use Rattle.bucket_page.proofs.SpliceLaws.{moved_back}
 use Rattle.bucket_page.specs.declared.layout.TheConstants.{RECORD_HEAD_BYTES}
 use Rattle.bucket_page.proofs.splice.put_first.Goals as goal

@@ -1,9 +1,11 @@
-use Rattle.bucket_page.proofs.OrderLaws.{IsLeft}
+use Rattle.std.proofs.Common.{◌-◌, length}
+use Rattle.bucket_page.proofs.SeekLaws.{IsAt}
 use Rattle.bucket_page.proofs.records.Records.seek.Given as goal
 
--- the records that are left are those of the iterator
-abbrev pub invariant-loop-record : goal.invariant-loop-record
-invariant-loop-record l =
-    (goal.iterator-loop-record).can_next l.record-iterator ×
-    (goal.iterator-loop-record).is_finite l.record-iterator ×
-    IsLeft l.key l.self l.left l.record-iterator
+-- the records passed so far are below the key
+abbrev pub invariant-walk : goal.invariant-walk
+invariant-walk l = IsAt l.key l.self l.bytes l.at
+
+-- fewer bytes are left after each record
+abbrev pub decreases-walk : goal.decreases-walk
+decreases-walk l = length l.bytes - l.at
