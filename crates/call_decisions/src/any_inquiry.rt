@@ -1,16 +1,19 @@
 //! The inquiry of any call.
 
-ghost use Rattle.std.specs.Prelude.{◌≡◌, MatchOption, [], slice_get};
+ghost use Rattle.std.specs.Prelude.{◌≡◌, ◌≤◌, MatchOption, [], slice_get};
 ghost use Rattle.std.specs.Option.{is_some};
+ghost use Rattle.queue_model.specs.State.{State};
+ghost use Rattle.xsi_inquiry.specs.Rooms.{HasRoom, Roomful};
 ghost use Rattle.xsi_inquiry.specs.Slots.{IsNextWrite, writes_left};
-ghost use Rattle.call_decisions.specs.Anything.{plan_of};
+ghost use Rattle.xsi_inquiry.specs.Telling.{most_asked};
+ghost use Rattle.call_decisions.specs.Anything.{KnowsOf, caller_of, left_of, plan_of};
 
 use queue_model::{Call, Caller};
 use xsi_control::queue_records::Record;
 use xsi_control::xsi_inquiry::{Decision, Inquiry, NotASystem, Room, Wanted, Write, next_write};
 use xsi_control::{GetInquiry, RemoveInquiry, SetInquiry, StatInquiry};
 use xsi_receive::ReceiveInquiry;
-use xsi_send::SendInquiry;
+use xsi_send::{SendInquiry, is_refused_unread};
 
 /// The inquiry of a call, by the call's kind. It is lent the call that it began with. Of a call of
 /// another kind it asks nothing, and decides nothing.
@@ -33,6 +36,37 @@ pub enum AnyInquiry {
 const _: () = prove!(size_of::<AnyInquiry>() <= 400);
 
 impl AnyInquiry {
+    /// Begins as `begin` does, in the place of another one: each kind is written there by itself, since
+    /// an inquiry is large, and would else be moved through memory.
+    #[inline(always)]
+    pub fn begin_anew(&mut self, by: Caller, call: &Call)
+        ensures caller { caller_of self.new ≡ by }
+        ensures knows { (room : Roomful) (s : State) → HasRoom call.now room →
+            KnowsOf call.now self.new room s }
+        ensures few { left_of call.now self.new ≤ most_asked call.now }
+    {
+        match call {
+            Call::Get(arguments) => *self = AnyInquiry::Get(GetInquiry::begin(by, arguments)),
+            Call::Send(arguments) => {
+                if is_refused_unread(arguments) {
+                    *self = AnyInquiry::Send(SendInquiry::refused(by));
+                    return;
+                }
+                *self = AnyInquiry::Send(SendInquiry::unread(by));
+            }
+            Call::Receive(arguments) => {
+                if arguments.id == 0 {
+                    *self = AnyInquiry::Receive(ReceiveInquiry::refused(by));
+                    return;
+                }
+                *self = AnyInquiry::Receive(ReceiveInquiry::unread(by));
+            }
+            Call::Stat { id } => *self = AnyInquiry::Stat(StatInquiry::begin(by, id)),
+            Call::Set(arguments) => *self = AnyInquiry::Set(SetInquiry::begin(by, arguments)),
+            Call::Remove { id } => *self = AnyInquiry::Remove(RemoveInquiry::begin(by, id)),
+        }
+    }
+
     /// The next slot from this one on that is not empty, with its write; none where no write is
     /// left. The kind of the call is told once, and not for each slot. It stands in whoever asks, since
     /// a write is large, and would else be moved through memory.
@@ -183,6 +217,7 @@ impl Inquiry for AnyInquiry {
         }
     }
 
+    #[inline(always)]
     fn decide(&self, call: &Call) -> Result<Decision, NotASystem> {
         match (self, call) {
             (AnyInquiry::Get(inquiry), Call::Get(arguments)) => inquiry.decide(arguments),

@@ -14,6 +14,7 @@ use xsi_inquiry::{Decision, Inquiry, NotASystem};
 /// What a call decides that asks for nothing more: for every system of which it was told the
 /// records, what the rules say. It is known before the call inserts on trial, and stays so while it
 /// does.
+#[inline(always)]
 pub fn decide(call: &Call, inquiry: &AnyInquiry) -> Result<Decision, NotASystem>
     requires { asked_of call.now inquiry.now ≡ None }
     ensures value { result ≡ decided_of call.now inquiry.now }

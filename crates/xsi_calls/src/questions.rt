@@ -70,7 +70,7 @@ impl Questions {
         ensures knows { (s : State) → HasRoom call.now self.old.room →
             KnowsNear call.now (asked_with self.new None) s }
     {
-        self.inquiry = AnyInquiry::begin(by, call);
+        self.inquiry.begin_anew(by, call);
         self.finds = 0;
     }
 

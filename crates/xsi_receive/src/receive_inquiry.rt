@@ -1,13 +1,16 @@
 //! A Receive as it asks for records.
 
 ghost use Rattle.std.specs.Prelude.{◌≡◌};
+ghost use Rattle.queue_model.specs.declared.errno.Errno.TheVariants.{EINVAL};
+ghost use Rattle.xsi_inquiry.specs.declared.sought.Sought.TheVariants.{Unread};
 ghost use Rattle.xsi_receive.specs.Asking.{received};
+ghost use Rattle.xsi_receive.specs.declared.stage.Stage.TheVariants.{Refused, Seeking};
 
 use crate::removal::Removal;
 use crate::stage::Stage;
-use queue_model::{Caller, ReceiveArguments};
+use queue_model::{Caller, Errno, ReceiveArguments};
 use queue_records::Record;
-use xsi_inquiry::{Decision, Inquiry, NotASystem, Room, Taken, Verdict, Wanted, Write};
+use xsi_inquiry::{Decision, Inquiry, NotASystem, Room, Sought, Taken, Verdict, Wanted, Write};
 
 /// A Receive (POSIX.1-2017, `msgrcv()`) of a caller, as far as it has come with its reading: three
 /// records at most, however many messages stand on the queue. It keeps no bytes: those of the
@@ -19,6 +22,31 @@ pub struct ReceiveInquiry {
 }
 
 const _: () = prove!(size_of::<ReceiveInquiry>() <= 400);
+
+impl ReceiveInquiry {
+    /// One that begins with its Queue. It stands in whoever begins, as `refused` does: where it is
+    /// written in the place of another one, it is not moved through memory.
+    #[inline(always)]
+    pub fn unread(by: Caller) -> ReceiveInquiry
+        ensures { result ≡ record { caller = by; stage = Seeking Unread } }
+    {
+        ReceiveInquiry {
+            caller: by,
+            stage: Stage::Seeking(Sought::Unread),
+        }
+    }
+
+    /// One on the id 0, which is refused with EINVAL before anything is read.
+    #[inline(always)]
+    pub fn refused(by: Caller) -> ReceiveInquiry
+        ensures { result ≡ record { caller = by; stage = Refused EINVAL } }
+    {
+        ReceiveInquiry {
+            caller: by,
+            stage: Stage::Refused(Errno::EINVAL),
+        }
+    }
+}
 
 impl Inquiry for ReceiveInquiry {
     ghost use Rattle.std.specs.Prelude.{[], ◌∷◌, ⊤};

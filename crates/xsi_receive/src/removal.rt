@@ -1,6 +1,6 @@
 //! A message that is taken off its queue, and what is written then.
 
-ghost use Rattle.std.specs.Prelude.{◌≡◌, IfOk, IsErr, IsTrue, None, Some, Ok, false, slice_index_or};
+ghost use Rattle.std.specs.Prelude.{◌≡◌, None, Some, slice_index_or, true};
 ghost use Rattle.xsi_receive.specs.Removing.{higher_write, is_counted, left_by, link_to, lowest_left, next_write, own_write, previous_write, queue_left, slots_of, type_deletion, where_none};
 
 use crate::head::MessageHead;
@@ -8,7 +8,7 @@ use queue_model::ReceiveArguments;
 use queue_records::{
     Link, Links, MessageLinks, QueueEntry, Record, TypeEntry, TypeLinks, message_key, type_key,
 };
-use xsi_inquiry::{NotASystem, Write};
+use xsi_inquiry::Write;
 
 /// What becomes of the Type of a message that is taken.
 #[derive(Clone, Copy)]
@@ -44,26 +44,24 @@ impl TypeLeft {
 }
 
 impl Removal {
-    /// Of a message whose Queue counts it.
+    /// Of a message whose Queue counts it. It stands in whoever takes the message, where the Queue and
+    /// the message are already.
+    #[inline(always)]
     pub fn new(
         pid: u32,
         arguments: &ReceiveArguments,
         queue: &QueueEntry,
         message: MessageHead,
         type_left: TypeLeft,
-    ) -> Result<Removal, NotASystem>
-        ensures ok { IfOk result (λ removal. removal ≡ record {
+    ) -> Removal
+        requires { is_counted queue.now message ≡ true }
+        ensures { result ≡ record {
           queue = queue_left pid arguments.now queue.now message type_left;
           message = message;
           type_left = type_left;
-        }) }
-        ensures counted { IsTrue (is_counted queue.now message) → IsErr result → ⊥ }
+        } }
     {
-        let counts = message.bytes <= queue.cbytes as usize && queue.qnum >= 1;
-        if !counts {
-            return Err(NotASystem);
-        }
-        Ok(Removal {
+        Removal {
             queue: QueueEntry {
                 cbytes: queue.cbytes - message.bytes as u32,
                 qnum: queue.qnum - 1,
@@ -76,7 +74,7 @@ impl Removal {
             },
             message,
             type_left,
-        })
+        }
     }
 
     /// What is written in a slot, on the queue of an id: the Queue; the Messages before and
@@ -180,6 +178,13 @@ impl Removal {
             TypeLeft::Goes(_, _) => Some(Write::Delete(type_key(id, self.message.mtype))),
         }
     }
+}
+
+/// Whether a Queue counts a message and its bytes.
+pub fn is_counted(queue: &QueueEntry, message: &MessageHead) -> bool
+    ensures { result ≡ is_counted queue.now message.now }
+{
+    message.bytes <= queue.cbytes as usize && queue.qnum >= 1
 }
 
 /// One or the other, by whether there is a link.

@@ -13,7 +13,7 @@ ghost use Rattle.xsi_receive.specs.Asking.{asked, asks_left, is_long, put_off_at
 ghost use Rattle.xsi_receive.specs.Knowing.{HasRoomFor, IsStage, KnowsAt, KnowsHead};
 
 use crate::head::MessageHead;
-use crate::removal::{Removal, TypeLeft};
+use crate::removal::{Removal, TypeLeft, is_counted};
 use queue_model::{Access, Caller, Errno, ReceiveArguments};
 use queue_records::{MessageEntry, QueueEntry, Record, TypeEntry, message_key, type_key};
 use type_chains::permissions_in;
@@ -64,47 +64,54 @@ impl Stage {
         }
     }
 
-    /// Where it goes on by what is known of the queue. It stands in whoever goes on, as `of_head` does: a
-    /// stage is large, and would else be moved through memory.
+    /// It goes on by what is known of the queue, in place: a stage is large, and would else be moved
+    /// through memory. So do `at_queue` and `at_head`, and all three stand in whoever goes on.
     #[inline(always)]
-    pub fn of_sought(caller: Caller, arguments: &ReceiveArguments, sought: &Sought) -> Stage
+    fn at_sought(&mut self, caller: Caller, arguments: &ReceiveArguments, sought: &Sought)
         ensures knows { (room : Roomful) (s : State) → IsFiled s → HasRoomFor arguments.now room →
-            Tells arguments.now.id sought.now s → KnowsAt caller arguments.now result room s }
-        ensures left { asks_left result ≤ asks_of_sought sought.now }
+            Tells arguments.now.id sought.now s → KnowsAt caller arguments.now self.new room s }
+        ensures left { asks_left self.new ≤ asks_of_sought sought.now }
     {
         match sought {
-            Sought::Unread | Sought::Absent => Stage::Seeking(*sought),
-            Sought::Found(queue) => Stage::of_queue(caller, arguments, queue),
-            Sought::Refused(errno) => Stage::Refused(*errno),
+            Sought::Unread => *self = Stage::Seeking(Sought::Unread),
+            Sought::Absent => *self = Stage::Seeking(Sought::Absent),
+            Sought::Found(queue) => self.at_queue(caller, arguments, queue),
+            Sought::Refused(errno) => *self = Stage::Refused(*errno),
         }
     }
 
-    /// Where it goes on once the Queue is read: who may not read is refused, and the type selects.
+    /// It goes on once the Queue is read: who may not read is refused, and the type selects.
     #[inline(always)]
-    fn of_queue(caller: Caller, arguments: &ReceiveArguments, queue: &QueueEntry) -> Stage
+    fn at_queue(&mut self, caller: Caller, arguments: &ReceiveArguments, queue: &QueueEntry)
         ensures knows { (room : Roomful) (s : State) → IsFiled s → HasRoomFor arguments.now room →
-            IsEntryOf arguments.now.id queue.now s → KnowsAt caller arguments.now result room s }
-        ensures left { asks_left result ≤ 2 }
+            IsEntryOf arguments.now.id queue.now s → KnowsAt caller arguments.now self.new room s }
+        ensures left { asks_left self.new ≤ 2 }
     {
         if permissions_in(queue).keeps_out(Access::Read, caller) {
-            return Stage::Refused(Errno::EACCES);
+            *self = Stage::Refused(Errno::EACCES);
+            return;
         }
         let Some(serial) = queue.first else {
-            return put_off(arguments);
+            *self = put_off(arguments);
+            return;
         };
         if arguments.mtype > 0 {
-            return Stage::AtType(*queue, arguments.mtype);
+            *self = Stage::AtType(*queue, arguments.mtype);
+            return;
         }
         if arguments.mtype < 0 {
             let Some(lowest) = queue.lowest else {
-                return put_off(arguments);
+                *self = put_off(arguments);
+                return;
             };
             if lowest.unsigned_abs() > arguments.mtype.unsigned_abs() {
-                return put_off(arguments);
+                *self = put_off(arguments);
+                return;
             }
-            return Stage::AtType(*queue, lowest);
+            *self = Stage::AtType(*queue, lowest);
+            return;
         }
-        Stage::AtMessage(*queue, None, serial)
+        *self = Stage::AtMessage(*queue, None, serial);
     }
 
     /// Tells the record at that key, or that there is none; it goes on in place. After an error it
@@ -126,8 +133,9 @@ impl Stage {
     {
         match self {
             Stage::Seeking(sought) => {
+                let mut sought = *sought;
                 sought.take(arguments.id, found)?;
-                *self = Stage::of_sought(caller, arguments, sought);
+                self.at_sought(caller, arguments, &sought);
                 Ok(())
             }
             Stage::AtType(queue, _) => {
@@ -146,44 +154,56 @@ impl Stage {
                     return Ok(());
                 }
                 let head = MessageHead::of(&message);
-                *self = Stage::of_head(caller.pid, arguments, queue, &head, *entry)?;
+                let queue = *queue;
+                let entry = *entry;
+                self.at_head(caller.pid, arguments, queue, head, entry)?;
                 room.fill(cut(message.body.as_slice(), arguments.size as usize));
                 Ok(())
             }
             Stage::AtTypeOf(queue, head) => {
                 let entry = type_found(found)?;
-                *self = Stage::of_head(caller.pid, arguments, queue, head, Some(entry))?;
-                Ok(())
+                let queue = *queue;
+                let head = *head;
+                self.at_head(caller.pid, arguments, queue, head, Some(entry))
             }
             Stage::Refused(_) | Stage::PutOff | Stage::Taken(_) => Err(NotASystem),
         }
     }
 
-    /// Where it goes on once the message is read: where it is the last of its type, its
-    /// Type is needed too.
+    /// It goes on once the message is read: where it is the last of its type, its Type is needed too.
     #[inline(always)]
-    fn of_head(
+    fn at_head(
+        &mut self,
         pid: u32,
         arguments: &ReceiveArguments,
-        queue: &QueueEntry,
-        head: &MessageHead,
+        queue: QueueEntry,
+        head: MessageHead,
         entry: Option<TypeEntry>,
-    ) -> Result<Stage, NotASystem>
+    ) -> Result<(), NotASystem>
         ensures knows { (c : Caller) (room : Roomful) (s : State) → IsFiled s → c.pid ≡ pid →
-            KnowsHead c arguments.now queue.now head.now entry room s →
-            Gives result (λ stage. KnowsAt c arguments.now stage room s) }
-        ensures left { IfOk result (λ stage. IsStage entry stage) }
+            KnowsHead c arguments.now queue head entry room s →
+            Gives result (λ _. KnowsAt c arguments.now self.new room s) }
+        ensures left { OnOk result (IsStage entry self.new) }
+        ensures err { OnErr result (self.new ≡ self.old) }
     {
         if let Some(first) = head.next_of_type {
-            let removal = Removal::new(pid, arguments, queue, *head, TypeLeft::Begins(first))?;
-            return Ok(Stage::Taken(removal));
+            if !is_counted(&queue, &head) {
+                return Err(NotASystem);
+            }
+            let left = TypeLeft::Begins(first);
+            *self = Stage::Taken(Removal::new(pid, arguments, &queue, head, left));
+            return Ok(());
         }
         let Some(entry) = entry else {
-            return Ok(Stage::AtTypeOf(*queue, *head));
+            *self = Stage::AtTypeOf(queue, head);
+            return Ok(());
         };
+        if !is_counted(&queue, &head) {
+            return Err(NotASystem);
+        }
         let left = TypeLeft::Goes(entry.lower, entry.higher);
-        let removal = Removal::new(pid, arguments, queue, *head, left)?;
-        Ok(Stage::Taken(removal))
+        *self = Stage::Taken(Removal::new(pid, arguments, &queue, head, left));
+        Ok(())
     }
 
     /// Tells whether the id is below the next id. After an error it stands where it stood.
@@ -203,8 +223,9 @@ impl Stage {
     {
         match self {
             Stage::Seeking(sought) => {
+                let mut sought = *sought;
                 sought.take_given(arguments.id, given)?;
-                *self = Stage::of_sought(caller, arguments, sought);
+                self.at_sought(caller, arguments, &sought);
                 Ok(())
             }
             Stage::Refused(_)

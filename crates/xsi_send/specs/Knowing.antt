@@ -38,6 +38,11 @@ led_to w (Ends place) = Done w.queue place
 led_to w (Goes next left) =
     AtNeighbour (record { queue = w.queue; lower = Some w.next; next = next; left = left })
 
+-- the stage to which the message's type leads: to its place, or up from the lowest type
+abbrev pub begun_to : QueueEntry → Ahead → Stage
+begun_to e (Ends place) = Done e place
+begun_to e (Goes next left) = AtNeighbour (record { queue = e; lower = None; next = next; left = left })
+
 -- at most as many questions are still asked
 abbrev pub asks_left : Stage → ℕ
 asks_left (Seeking sought) = reads_left sought + 1025

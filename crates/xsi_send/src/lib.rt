@@ -9,5 +9,5 @@ mod stage;
 mod type_place;
 
 pub use send_inquiry::SendInquiry;
-pub use stage::{Stage, Walk};
+pub use stage::{Stage, Walk, is_refused_unread};
 pub use type_place::TypePlace;

@@ -1,10 +1,15 @@
 //! A Send as it asks for records.
 
+ghost use Rattle.std.specs.Prelude.{◌≡◌};
+ghost use Rattle.queue_model.specs.declared.errno.Errno.TheVariants.{EINVAL};
+ghost use Rattle.xsi_inquiry.specs.declared.sought.Sought.TheVariants.{Unread};
+ghost use Rattle.xsi_send.specs.declared.stage.Stage.TheVariants.{Refused, Seeking};
+
 use crate::plan::{sent_trial, sent_write, takes_more};
 use crate::stage::Stage;
 use queue_model::{Caller, Errno, SendArguments};
 use queue_records::Record;
-use xsi_inquiry::{Decision, Inquiry, NotASystem, Room, Verdict, Wanted, Write};
+use xsi_inquiry::{Decision, Inquiry, NotASystem, Room, Sought, Verdict, Wanted, Write};
 
 /// A Send (POSIX.1-2017, `msgsnd()`) of a caller, as far as it has come with its reading: the
 /// Queue, then the Type of the message's type; where there is none, the Types from the lowest on up
@@ -16,6 +21,31 @@ pub struct SendInquiry {
 }
 
 const _: () = prove!(size_of::<SendInquiry>() <= 400);
+
+impl SendInquiry {
+    /// One that begins with its Queue. It stands in whoever begins, as `refused` does: where it is
+    /// written in the place of another one, it is not moved through memory.
+    #[inline(always)]
+    pub fn unread(by: Caller) -> SendInquiry
+        ensures { result ≡ record { caller = by; stage = Seeking Unread } }
+    {
+        SendInquiry {
+            caller: by,
+            stage: Stage::Seeking(Sought::Unread),
+        }
+    }
+
+    /// One that is refused with EINVAL before anything is read.
+    #[inline(always)]
+    pub fn refused(by: Caller) -> SendInquiry
+        ensures { result ≡ record { caller = by; stage = Refused EINVAL } }
+    {
+        SendInquiry {
+            caller: by,
+            stage: Stage::Refused(Errno::EINVAL),
+        }
+    }
+}
 
 impl Inquiry for SendInquiry {
     ghost use Rattle.std.specs.Prelude.{[], ◌∷◌, ⊤};
@@ -76,8 +106,7 @@ impl Inquiry for SendInquiry {
     }
 
     fn take_given(&mut self, arguments: &SendArguments, given: bool) -> Result<(), NotASystem> {
-        self.stage = self.stage.take_given(self.caller, arguments, given)?;
-        Ok(())
+        self.stage.take_given(self.caller, arguments, given)
     }
 
     fn decide(&self, arguments: &SendArguments) -> Result<Decision, NotASystem> {

@@ -1,14 +1,20 @@
 //! How far a Send has come with its reading.
 
-ghost use Rattle.std.specs.Prelude.{◌≡◌, ◌<◌, ◌≤◌, IfOk, OnErr, OnOk};
+ghost use Rattle.std.specs.Prelude.{◌≡◌, ◌<◌, ◌≤◌, ◌+◌, OnErr, OnOk, false, true};
+ghost use Rattle.queue_model.specs.declared.caller.Caller.{Caller};
+ghost use Rattle.queue_model.specs.declared.errno.Errno.TheVariants.{EINVAL};
 ghost use Rattle.queue_model.specs.State.{State};
+ghost use Rattle.xsi_inquiry.specs.declared.sought.Sought.TheVariants.{Unread};
+ghost use Rattle.xsi_inquiry.specs.Seeking.{IsEntryOf, Tells, reads_left};
 ghost use Rattle.xsi_inquiry.specs.Telling.{AsksGiven, AsksRecord, Gives, IsFiled, IsTold, IsToldGiven};
-ghost use Rattle.xsi_send.specs.Knowing.{KnowsAt, asked, asks_left};
+ghost use Rattle.xsi_send.specs.declared.stage.Stage.TheVariants.{Refused, Seeking};
+ghost use Rattle.xsi_send.specs.Knowing.{IsAllowed, KnowsAt, asked, asks_left};
 
-use crate::reading::{at_sought, seek, seek_given, take_neighbour, take_type};
+use crate::reading::{take_neighbour, take_type};
 use crate::type_place::TypePlace;
-use queue_model::{Caller, Errno, MAX_BODY, SendArguments};
+use queue_model::{Access, Caller, Errno, MAX_BODY, SendArguments};
 use queue_records::{QueueEntry, Record, type_key};
+use type_chains::{lacks_room_in, permissions_in};
 use xsi_inquiry::{NotASystem, Sought, Wanted};
 
 /// What is known, and with it which record is read next.
@@ -56,10 +62,10 @@ impl Stage {
         ensures knows { (s : State) → KnowsAt caller arguments.now result s }
         ensures few { asks_left result ≤ 1027 }
     {
-        if arguments.mtype < 1 || arguments.body.len() > MAX_BODY {
+        if is_refused_unread(arguments) {
             return Stage::Refused(Errno::EINVAL);
         }
-        at_sought(caller, arguments, Sought::new(arguments.id))
+        Stage::Seeking(Sought::Unread)
     }
 
     /// What is asked next, where there is something to ask.
@@ -74,8 +80,42 @@ impl Stage {
         }
     }
 
-    /// Tells the record at that key, or that there is none. On a way up it goes on in place, since a
-    /// stage is large. After an error it stands where it stood.
+    /// It goes on by what is known of the queue, in place: it is still sought, or it is found, or calls
+    /// on it are refused. It stands in whoever goes on.
+    #[inline(always)]
+    fn at_sought(&mut self, caller: Caller, arguments: &SendArguments, sought: &Sought)
+        ensures told { (s : State) → IsAllowed arguments.now → Tells arguments.now.id sought.now s →
+            KnowsAt caller arguments.now self.new s }
+        ensures fewer { asks_left self.new ≤ reads_left sought.now + 1025 }
+    {
+        match sought {
+            Sought::Unread => *self = Stage::Seeking(Sought::Unread),
+            Sought::Absent => *self = Stage::Seeking(Sought::Absent),
+            Sought::Found(queue) => self.at_queue(caller, arguments, queue),
+            Sought::Refused(errno) => *self = Stage::Refused(*errno),
+        }
+    }
+
+    /// It goes on by what the Queue says: no permission, no room, or more is to be read.
+    #[inline(always)]
+    fn at_queue(&mut self, caller: Caller, arguments: &SendArguments, queue: &QueueEntry)
+        ensures told { (s : State) → IsAllowed arguments.now →
+            IsEntryOf arguments.now.id queue.now s → KnowsAt caller arguments.now self.new s }
+        ensures fewer { asks_left self.new ≤ 1025 }
+    {
+        if permissions_in(queue).keeps_out(Access::Write, caller) {
+            *self = Stage::Refused(Errno::EACCES);
+            return;
+        }
+        if lacks_room_in(arguments.body.len(), queue) {
+            *self = Stage::Full;
+            return;
+        }
+        *self = Stage::AtType(*queue);
+    }
+
+    /// Tells the record at that key, or that there is none. It goes on in place, since a stage is
+    /// large. After an error it stands where it stood.
     pub fn take(
         &mut self,
         caller: Caller,
@@ -91,11 +131,23 @@ impl Stage {
     {
         match self {
             Stage::Seeking(sought) => {
-                *self = seek(caller, arguments, *sought, found)?;
+                let mut sought = *sought;
+                sought.take(arguments.id, found)?;
+                self.at_sought(caller, arguments, &sought);
                 Ok(())
             }
             Stage::AtType(queue) => {
-                *self = take_type(caller, arguments, *queue, found)?;
+                match take_type(caller, arguments, queue, found)? {
+                    Ahead::Ends(place) => *self = Stage::Done(*queue, place),
+                    Ahead::Goes(next, left) => {
+                        *self = Stage::AtNeighbour(Walk {
+                            queue: *queue,
+                            lower: None,
+                            next,
+                            left,
+                        });
+                    }
+                }
                 Ok(())
             }
             Stage::AtNeighbour(walk) => {
@@ -113,21 +165,27 @@ impl Stage {
         }
     }
 
-    /// The stage once it was told whether the id is below the next id.
+    /// Tells whether the id is below the next id. After an error it stands where it stood.
     pub fn take_given(
-        self,
+        &mut self,
         caller: Caller,
         arguments: &SendArguments,
         given: bool,
-    ) -> Result<Stage, NotASystem>
-        ensures told { (s : State) → IsFiled s → KnowsAt caller arguments.now self s →
-            AsksGiven (asked arguments.now self) →
-            IsToldGiven s (asked arguments.now self) given →
-            Gives result (λ stage. KnowsAt caller arguments.now stage s) }
-        ensures fewer { IfOk result (λ stage. asks_left stage < asks_left self) }
+    ) -> Result<(), NotASystem>
+        ensures told { (s : State) → IsFiled s → KnowsAt caller arguments.now self.old s →
+            AsksGiven (asked arguments.now self.old) →
+            IsToldGiven s (asked arguments.now self.old) given →
+            Gives result (λ _. KnowsAt caller arguments.now self.new s) }
+        ensures fewer { OnOk result (asks_left self.new < asks_left self.old) }
+        ensures err { OnErr result (self.new ≡ self.old) }
     {
         match self {
-            Stage::Seeking(sought) => seek_given(caller, arguments, sought, given),
+            Stage::Seeking(sought) => {
+                let mut sought = *sought;
+                sought.take_given(arguments.id, given)?;
+                self.at_sought(caller, arguments, &sought);
+                Ok(())
+            }
             Stage::Refused(_)
             | Stage::Full
             | Stage::AtType(_)
@@ -135,4 +193,15 @@ impl Stage {
             | Stage::Done(..) => Err(NotASystem),
         }
     }
+}
+
+/// Whether it is refused with EINVAL before anything is read, as one without a type, too long, or on the
+/// id 0 is.
+pub fn is_refused_unread(arguments: &SendArguments) -> bool
+    ensures refused { result ≡ true → (c : Caller) (s : State) →
+        KnowsAt c arguments.now (Refused EINVAL) s }
+    ensures begun { result ≡ false → (c : Caller) (s : State) →
+        KnowsAt c arguments.now (Seeking Unread) s }
+{
+    arguments.mtype < 1 || arguments.body.len() > MAX_BODY || arguments.id == 0
 }

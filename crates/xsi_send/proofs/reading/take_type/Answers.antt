@@ -11,13 +11,13 @@ returns-in_default-clause-told c s filed known told =
 -- what stands at the key of a Type is one
 pub returns-in_err-entry-clause-told : goal.returns-in_err-entry-clause-told
 returns-in_err-entry-clause-told c s filed known told =
-    let (stands, is) = type_told c.args.caller c.args.arguments.now c.args.queue s filed known c.in-Some.found
+    let (stands, is) = type_told c.args.caller c.args.arguments.now c.args.queue.now s filed known c.in-Some.found
     (rw c.in-Some.is at told) in
     absurd (clash _ _ (c.type_in.ensures.only _ is) _ c.in_err-entry.was)
 
 pub returns-clause-told : goal.returns-clause-told
 returns-clause-told c s filed known told =
-    let (stands, is) = type_told c.args.caller c.args.arguments.now c.args.queue s filed known c.in-Some.found
+    let (stands, is) = type_told c.args.caller c.args.arguments.now c.args.queue.now s filed known c.in-Some.found
     (rw c.in-Some.is at told) in
     let entry = same_type _ _ (sym c.in_ok-entry.ensures.ok ∙ is) in
     (known, record { stands = stands; last = ap (λ (x : TypeEntry). x.last) entry })

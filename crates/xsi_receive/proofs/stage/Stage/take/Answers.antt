@@ -49,8 +49,8 @@ returns-then-is_long-clause-told c s filed knows told =
     (sym c.is_long.ensures ∙ c.if-is_long.true)
 
 -- or is given: its Queue counts it
-pub returns-in_err-self-in-AtMessage-clause-told : goal.returns-in_err-self-in-AtMessage-clause-told
-returns-in_err-self-in-AtMessage-clause-told c s filed knows told =
+pub returns-in_err-at_head-in-AtMessage-clause-told : goal.returns-in_err-at_head-in-AtMessage-clause-told
+returns-in_err-at_head-in-AtMessage-clause-told c s filed knows told =
     let known = rw c.in-AtMessage.is at knows in
     let it = rw c.in-AtMessage.is at told in
     let head = message_is_taken c.args.caller c.args.arguments.now s filed c.args.found c.in-AtMessage.queue
@@ -59,17 +59,17 @@ returns-in_err-self-in-AtMessage-clause-told c s filed knows told =
     let after = record c.args.room.now {
       bytes = take c.args.room.now.most (take c.args.arguments.now.size c.in_ok-message-in-AtMessage.message.body);
     } in
-    absurd (c.in_err-self-in-AtMessage.ensures.knows c.args.caller after s filed refl (rw c.of-head.ensures head))
+    absurd (c.in_err-at_head-in-AtMessage.ensures.knows c.args.caller after s filed refl (rw c.of-head.ensures head))
 
 -- and its bytes are in the room
-pub returns-in_ok-self-in-AtMessage-clause-told : goal.returns-in_ok-self-in-AtMessage-clause-told
-returns-in_ok-self-in-AtMessage-clause-told c s filed knows told =
+pub returns-in_ok-at_head-in-AtMessage-clause-told : goal.returns-in_ok-at_head-in-AtMessage-clause-told
+returns-in_ok-at_head-in-AtMessage-clause-told c s filed knows told =
     let known = rw c.in-AtMessage.is at knows in
     let it = rw c.in-AtMessage.is at told in
     let head = message_is_taken c.args.caller c.args.arguments.now s filed c.args.found c.in-AtMessage.queue
     c.in-AtMessage.entry c.in-AtMessage.field-2 known.1 it c.in_ok-message-in-AtMessage.message
     c.in_ok-message-in-AtMessage.ensures.ok (sym c.is_long.ensures ∙ c.if-is_long.false) c.args.room.now known.0 in
-    rw (c.fill.ensures, c.cut.ensures, c.as_slice.ensures) (c.in_ok-self-in-AtMessage.ensures.knows c.args.caller _ s
+    rw (c.fill.ensures, c.cut.ensures, c.as_slice.ensures) (c.in_ok-at_head-in-AtMessage.ensures.knows c.args.caller _ s
     filed refl (rw c.of-head.ensures head))
 
 -- it was the last of its type, whose Type stands
@@ -82,18 +82,10 @@ returns-in_err-entry-in-AtTypeOf-clause-told c s filed knows told =
     c.type_found-in-AtTypeOf.ensures.only _
     c.in_err-entry-in-AtTypeOf.was)
 
-pub returns-in_err-self-in-AtTypeOf-clause-told : goal.returns-in_err-self-in-AtTypeOf-clause-told
-returns-in_err-self-in-AtTypeOf-clause-told c s filed knows told =
+pub returns-in_ok-entry-in-AtTypeOf-clause-told : goal.returns-in_ok-entry-in-AtTypeOf-clause-told
+returns-in_ok-entry-in-AtTypeOf-clause-told c s filed knows told =
     let known = rw c.in-AtTypeOf.is at knows in
     let it = rw c.in-AtTypeOf.is at told in
-    absurd (c.in_err-self-in-AtTypeOf.ensures.knows c.args.caller c.args.room.now s filed refl
-    (last_type_is_taken c.args.caller c.args.arguments.now s filed c.args.found c.in-AtTypeOf.queue c.in-AtTypeOf.head
-    c.args.room.now known.0 it c.in_ok-entry-in-AtTypeOf.entry c.in_ok-entry-in-AtTypeOf.ensures.ok))
-
-pub returns-in_ok-self-in-AtTypeOf-clause-told : goal.returns-in_ok-self-in-AtTypeOf-clause-told
-returns-in_ok-self-in-AtTypeOf-clause-told c s filed knows told =
-    let known = rw c.in-AtTypeOf.is at knows in
-    let it = rw c.in-AtTypeOf.is at told in
-    c.in_ok-self-in-AtTypeOf.ensures.knows c.args.caller c.args.room.now s filed refl
+    c.at_head-in-AtTypeOf.ensures.knows c.args.caller c.args.room.now s filed refl
     (last_type_is_taken c.args.caller c.args.arguments.now s filed c.args.found c.in-AtTypeOf.queue c.in-AtTypeOf.head
     c.args.room.now known.0 it c.in_ok-entry-in-AtTypeOf.entry c.in_ok-entry-in-AtTypeOf.ensures.ok)

@@ -1,5 +1,5 @@
 use Rattle.xsi_receive.proofs.Names.{FitsSigned, arith, ints, pos, rules, sym, to_z-of_z, w64, ◌<ℤ◌, ◌∙◌, ◌≡◌}
-use Rattle.xsi_receive.proofs.stage.Stage.of_queue.Goals as goal
+use Rattle.xsi_receive.proofs.stage.Stage.at_queue.Goals as goal
 use Rattle.xsi_receive.proofs.KnowingLemmas.{knows_above, knows_below, knows_first, knows_none, knows_out}
 
 -- a type above 0
