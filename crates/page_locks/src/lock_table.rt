@@ -123,7 +123,7 @@ impl LockTable {
             };
         }
         self.slots
-            .store(name, spot.place, spot.holders.with(seat, kind));
+            .put(name, spot.place, spot.holders.with(seat, kind));
         self.rows[seat as usize - 1].push(Lock { name, kind });
         Attempt {
             grant: Grant::Granted,
@@ -195,7 +195,9 @@ impl LockTable {
         let _ = &self.rows;
     }
 
-    /// Whether another seat holds the name in a kind that does not go with this one.
+    /// Whether another seat holds the name in a kind that does not go with this one. It stands apart:
+    /// nobody asks it of the one seat of a table.
+    #[inline(never)]
     fn has_opponent(&self, seat: u8, name: LockName, kind: LockKind) -> bool
         requires seat { IsSeat self.now seat }
         ensures { IsTrue result ↔ IsOpposed self.now seat name kind }
