@@ -195,9 +195,7 @@ impl LockTable {
         let _ = &self.rows;
     }
 
-    /// Whether another seat holds the name in a kind that does not go with this one. It stands apart:
-    /// nobody asks it of the one seat of a table.
-    #[inline(never)]
+    /// Whether another seat holds the name in a kind that does not go with this one.
     fn has_opponent(&self, seat: u8, name: LockName, kind: LockKind) -> bool
         requires seat { IsSeat self.now seat }
         ensures { IsTrue result ↔ IsOpposed self.now seat name kind }

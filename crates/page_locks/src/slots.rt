@@ -52,7 +52,9 @@ impl Slots {
         Ok(Slots { slots })
     }
 
-    /// Where the name stands, else the first free slot from its home on.
+    /// Where the name stands, else the first free slot from its home on. It stands in whoever asks, as
+    /// do its parts: most names stand at their homes, and a call costs more than one look.
+    #[inline(always)]
     pub fn spot(&self, name: LockName) -> Spot
         requires few { HasFewNames self.now }
         ensures spot { IsSpot self.now name result.place }
@@ -100,6 +102,7 @@ impl Slots {
 
 /// How many steps lead from the home of a name to its spot: none, where nobody else's name stands
 /// there.
+#[inline(always)]
 fn steps_to(slots: &[Slot], name: LockName, first: usize) -> usize
     requires first { first ≡ home name }
     requires as_many { length slots.now ≡ SLOTS }
@@ -115,8 +118,8 @@ fn steps_to(slots: &[Slot], name: LockName, first: usize) -> usize
     steps_past(slots, name)
 }
 
-/// The same, slot by slot. It stands apart, since few names have one home.
-#[inline(never)]
+/// The same, slot by slot.
+#[inline(always)]
 fn steps_past(slots: &[Slot], name: LockName) -> usize
     requires as_many { length slots.now ≡ SLOTS }
     requires free { HasFree slots.now }
