@@ -6,11 +6,11 @@
 /* ---- sentences */
 
 /* A refusal of what is asked, whoever is to do it. */
-static int no_argument(const msgq *queues, struct subject it, int wrong) {
+static SELDOM int no_argument(const msgq *queues, struct subject it, int wrong) {
     return refuses(wrong, queues == NULL ? "the file" : queues->name, it);
 }
 
-static int no_queues(void) {
+static SELDOM int no_queues(void) {
     return fails(why(EINVAL, "there is none"), "the file", "the call is not made");
 }
 
@@ -32,8 +32,9 @@ static int because(int wrong) {
 
 /* Where a wait ends whose limit begins to count here. */
 static int begin_wait(const msgq *queues, const struct timespec *limit, struct timespec *end) {
-    int wrong = limit == NULL ? 0 : end_of(limit, end);
-    return fails(wrong, queues == NULL ? "the file" : queues->name, "the clock can't be read");
+    if (limit == NULL)
+        return 0;
+    return fails(end_of(limit, end), queues == NULL ? "the file" : queues->name, "the clock can't be read");
 }
 
 /* ---- calls */
@@ -86,7 +87,7 @@ uint64_t msgq_last_serial(void) {
 }
 
 /* What is asked of a message that is sent, but for its type: that is the rules' to test. */
-static int test_body(const msgq *queues, uint32_t id, const void *body, size_t length) {
+static inline int test_body(const msgq *queues, uint32_t id, const void *body, size_t length) {
     if (body == NULL && length > 0)
         return no_argument(queues, of_id(id), why(EINVAL, "there is no body"));
     if (length > MSGQ_MAX_BODY)
@@ -94,20 +95,23 @@ static int test_body(const msgq *queues, uint32_t id, const void *body, size_t l
     return 0;
 }
 
-static struct sending sending_of(uint32_t id, int64_t type, const void *body, size_t length, int flags) {
+/* What a queue that had no room was like is not set: nothing was met yet. */
+static void begin_sending(struct sending *it, uint32_t id, int64_t type, const void *body, size_t length, int flags) {
     static const uint8_t none;
-    return (struct sending){
-        .call = {.mtype = type, .id = id, .nowait = (flags & MSGQ_NOWAIT) != 0},
-        .body = body == NULL ? &none : body,
-        .length = length,
-        .asks_again = (flags & MSGQ_AGAIN) != 0,
-    };
+    it->call = (struct send_call){.mtype = type, .id = id, .nowait = (flags & MSGQ_NOWAIT) != 0};
+    it->body = body == NULL ? &none : body;
+    it->length = length;
+    it->asks_again = (flags & MSGQ_AGAIN) != 0;
+    it->serial = 0;
+    it->has_met = false;
 }
 
 /* Notes the serial of a message that was sent, or says why it was not. */
 static int tell_sent(const msgq *queues, const struct sending *it, int wrong) {
     if (it->serial != 0)
         last_serial = it->serial;
+    if (wrong == 0)
+        return 0;
     if (wrong == EAGAIN || wrong == ETIMEDOUT)
         (void)no_room(wrong, it);
     else if (wrong == EINVAL && it->call.mtype < 1)
@@ -122,6 +126,7 @@ static int tell_sent(const msgq *queues, const struct sending *it, int wrong) {
 int msgq_send(msgq *queues, uint32_t id, int64_t type, const void *body, size_t length, int flags,
               const struct timespec *limit) {
     struct timespec end;
+    struct sending it;
     nothing_is_wrong();
     if ((flags & ~(MSGQ_NOWAIT | MSGQ_AGAIN)) != 0)
         return no_argument(queues, of_id(id), why(EINVAL, "0%o has flags that are none", (unsigned)flags));
@@ -130,11 +135,11 @@ int msgq_send(msgq *queues, uint32_t id, int64_t type, const void *body, size_t 
         return wrong;
     if (is_wrong_limit(limit))
         return no_argument(queues, of_id(id), why(EINVAL, "the limit is none"));
-    struct sending it = sending_of(id, type, body, length, flags);
     if ((wrong = begin_wait(queues, limit, &end)) != 0)
         return wrong;
     if (queues == NULL)
         return no_queues();
+    begin_sending(&it, id, type, body, length, flags);
     return tell_sent(queues, &it, queues->calls->send(queues, &it, limit == NULL ? NULL : &end));
 }
 
@@ -143,7 +148,7 @@ static int send_some(msgq *queues, uint32_t id, struct msgq_outgoing *messages, 
     struct sending all[MOST_TOGETHER];
     size_t first = count;
     for (size_t n = 0; n < count; n++)
-        all[n] = sending_of(id, messages[n].type, messages[n].body, messages[n].length, MSGQ_NOWAIT);
+        begin_sending(&all[n], id, messages[n].type, messages[n].body, messages[n].length, MSGQ_NOWAIT);
     int wrong = queues->calls->send_all(queues, all, count);
     for (size_t n = 0; n < count; n++) {
         messages[n].serial = all[n].serial;
@@ -186,7 +191,7 @@ static int no_message(int wrong, size_t size) {
 }
 
 /* What takes a message asks for: it is tested but for its flags. */
-static int test_room(const msgq *queues, uint32_t id, const void *room, size_t size, const struct timespec *limit) {
+static inline int test_room(const msgq *queues, uint32_t id, const void *room, size_t size, const struct timespec *limit) {
     if (room == NULL && size > 0)
         return no_argument(queues, of_id(id), why(EINVAL, "there is no room"));
     if (is_wrong_limit(limit))
@@ -222,8 +227,10 @@ int msgq_receive(msgq *queues, uint32_t id, int64_t type, void *room, size_t siz
         .asks_again = (flags & MSGQ_AGAIN) != 0,
     };
     wrong = queues->calls->receive(queues, &it, limit == NULL ? NULL : &end);
-    if (wrong == 0)
+    if (wrong == 0) {
         tell_message(got, &it);
+        return 0;
+    }
     return refuses(no_message(wrong, size), queues->name, of_id(id));
 }
 

@@ -61,10 +61,14 @@ static bool is_turn_of_late(const struct lock *lock) {
     return lock->late > 0 && !(lock->was_late && lock->wanting > 0);
 }
 
-/* Wakes whose turn it is, where the lock is free. */
+/* Wakes whose turn it is, where the lock is free and somebody sleeps. */
 static void tell_next(struct lock *lock) {
-    if (!lock->is_taken)
-        (void)pthread_cond_signal(is_turn_of_late(lock) ? &lock->late_freed : &lock->freed);
+    if (lock->is_taken)
+        return;
+    if (is_turn_of_late(lock))
+        (void)pthread_cond_signal(&lock->late_freed);
+    else if (lock->wanting > 0)
+        (void)pthread_cond_signal(&lock->freed);
 }
 
 static void free_it(struct lock *lock) {
@@ -72,7 +76,8 @@ static void free_it(struct lock *lock) {
     tell_next(lock);
 }
 
-static void take(struct lock *lock, const struct timespec *end) {
+/* Sleeps until it is the turn of one that wants the lock; tells whether its time was over before. */
+static bool await_turn(struct lock *lock, const struct timespec *end) {
     bool is_late = false;
     lock->wanting++;
     while (!is_late && (lock->is_taken || is_turn_of_late(lock)))
@@ -86,8 +91,12 @@ static void take(struct lock *lock, const struct timespec *end) {
             (void)sleep_for(lock, &lock->late_freed, NULL);
         lock->late--;
     }
+    return is_late;
+}
+
+static inline void take(struct lock *lock, const struct timespec *end) {
+    lock->was_late = (lock->is_taken || is_turn_of_late(lock)) && await_turn(lock, end);
     lock->is_taken = true;
-    lock->was_late = is_late;
 }
 
 void lock_take(struct lock *lock, const struct timespec *end) {

@@ -20,16 +20,6 @@ int enter(struct opened_file *file, const struct timespec *end) {
     return 0;
 }
 
-int leave(struct opened_file *file, int wrong) {
-    lock_give(&file->lock, false);
-    return wrong;
-}
-
-int leave_changed(struct opened_file *file, int wrong) {
-    lock_give(&file->lock, wrong == 0);
-    return wrong;
-}
-
 /* ---- files */
 
 static struct owner own(void) {

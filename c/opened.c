@@ -12,12 +12,12 @@ static int test_end(const struct timespec *end) {
     return wrong == 0 && left.tv_sec == 0 && left.tv_nsec == 0 ? ETIMEDOUT : wrong;
 }
 
-/* Makes a call as often as it would wait and something has changed since, under the lock. The end is also looked at where
- * something has changed: others may keep the file busy for ever. */
-static int serve(struct opened_file *file, uint32_t (*call)(struct opened_file *, void *), void *with,
-                 const struct timespec *end) {
-    uint32_t code;
-    while ((code = call(file, with)) == WAITS) {
+typedef uint32_t call_of(struct opened_file *, void *with);
+
+/* Goes on with a call of which this came: makes it as often as it would wait and something has changed since, under the lock. The end
+ * is also looked at where something has changed: others may keep the file busy for ever. */
+static int go_on(struct opened_file *file, uint32_t code, call_of *call, void *with, const struct timespec *end) {
+    for (; code == WAITS; code = call(file, with)) {
         int wrong = end == NULL ? 0 : test_end(end);
         if (wrong != 0)
             return wrong;
@@ -25,6 +25,12 @@ static int serve(struct opened_file *file, uint32_t (*call)(struct opened_file *
     }
     int wrong = error_of(code);
     return wrong == EINTR ? why(wrong, "the call would wait, and msgq_stop has ended all waits") : wrong;
+}
+
+/* Makes a call, which may wait. */
+static inline int serve(struct opened_file *file, call_of *call, void *with, const struct timespec *end) {
+    uint32_t code = call(file, with);
+    return code == DONE ? 0 : go_on(file, code, call, with, end);
 }
 
 /* ---- calls */

@@ -48,9 +48,15 @@ bool is_own(const struct opened_file *file);
 int enter(struct opened_file *file, const struct timespec *end);
 
 /* Gives the lock back, and the number of an error on. */
-int leave(struct opened_file *file, int wrong);
+static inline int leave(struct opened_file *file, int wrong) {
+    lock_give(&file->lock, false);
+    return wrong;
+}
 
 /* The same behind a call that has changed something where it went well: then who waits looks again. */
-int leave_changed(struct opened_file *file, int wrong);
+static inline int leave_changed(struct opened_file *file, int wrong) {
+    lock_give(&file->lock, wrong == 0);
+    return wrong;
+}
 
 #endif

@@ -65,8 +65,12 @@ struct calls {
 /* The moment of a call. */
 uint64_t moment(void);
 
+enum { SECOND = 1000000000 }; /* in nanoseconds */
+
 /* Whether a limit is none that there can be. */
-bool is_wrong_limit(const struct timespec *limit);
+static inline bool is_wrong_limit(const struct timespec *limit) {
+    return limit != NULL && (limit->tv_sec < 0 || limit->tv_nsec < 0 || limit->tv_nsec >= SECOND);
+}
 
 /* The moment at which a wait that begins now ends. */
 int end_of(const struct timespec *limit, struct timespec *end);

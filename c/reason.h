@@ -6,8 +6,10 @@
 
 #if defined(__GNUC__)
 #define FORMAT(at) __attribute__((format(printf, at, at + 1)))
+#define SELDOM __attribute__((cold)) /* the way there is no part of the way of a call that goes well */
 #else
 #define FORMAT(at)
+#define SELDOM
 #endif
 
 /* As many bytes of a file's name stand in a sentence, with the zero behind them. */
@@ -17,7 +19,7 @@
 void nothing_is_wrong(void);
 
 /* Notes the cause of an error and gives its number on. Where none is noted it is what the system says of the number. */
-int why(int wrong, const char *format, ...) FORMAT(2);
+int why(int wrong, const char *format, ...) FORMAT(2) SELDOM;
 
 /* The same of what the system says of a journal, but for a cause that is noted already; 0 stays. */
 int of_journal(int wrong);

@@ -3,8 +3,6 @@
 
 #include <errno.h>
 
-static const long SECOND = 1000000000; /* in nanoseconds */
-
 uint64_t moment(void) {
     time_t now = time(NULL);
     return now < 0 ? 0 : (uint64_t)now;
@@ -17,10 +15,6 @@ const struct timespec *msgq_within(int64_t milliseconds) {
     limit.tv_sec = (time_t)(milliseconds / 1000);
     limit.tv_nsec = (long)(milliseconds % 1000) * 1000000;
     return &limit;
-}
-
-bool is_wrong_limit(const struct timespec *limit) {
-    return limit != NULL && (limit->tv_sec < 0 || limit->tv_nsec < 0 || limit->tv_nsec >= SECOND);
 }
 
 int end_of(const struct timespec *limit, struct timespec *end) {

@@ -29,7 +29,8 @@ pub extern "C" fn msgq_session_get(
     ensures { Serves (get_of call.now) (TellsId id.new) result
         handle.old.held.session handle.new.held.session }
 {
-    let Some(result) = serve(alloc, handle, call.call()) else {
+    let mut call = call.call();
+    let Some(result) = serve(alloc, handle, &mut call) else {
         return NO_SESSION;
     };
     if let Ok(Answer::Id(made)) = &result {
@@ -56,12 +57,12 @@ pub extern "C" fn msgq_session_send(
     let Ok(bytes) = Vec::from_slice(alloc, body) else {
         return NO_MEMORY;
     };
-    put(alloc, handle, call.call(Body::new(bytes)), serial)
+    put(alloc, handle, &mut call.call(Body::new(bytes)), serial)
 }
 
 /// Makes a call that may put a message, and tells its serial.
-fn put(alloc: Global, handle: &mut Handle, call: Call, serial: &mut u64) -> u32
-    ensures { Serves call (TellsSerial serial.new) result
+fn put(alloc: Global, handle: &mut Handle, call: &mut Call, serial: &mut u64) -> u32
+    ensures { Serves call.old (TellsSerial serial.new) result
         handle.old.held.session handle.new.held.session }
 {
     let Some(result) = serve(alloc, handle, call) else {
@@ -88,7 +89,8 @@ pub extern "C" fn msgq_session_receive(
         handle.old.held.session handle.new.held.session }
 {
     let size = room.len().min(MOST_BYTES) as u32;
-    let Some(result) = serve(alloc, handle, call.call(size)) else {
+    let mut call = call.call(size);
+    let Some(result) = serve(alloc, handle, &mut call) else {
         return NO_SESSION;
     };
     tell_message(&result, room, got);
@@ -124,7 +126,8 @@ pub extern "C" fn msgq_session_stat(
     ensures { Serves (calls.Stat id) (TellsInfo info.new) result
         handle.old.held.session handle.new.held.session }
 {
-    let Some(result) = serve(alloc, handle, Call::Stat { id }) else {
+    let mut call = Call::Stat { id };
+    let Some(result) = serve(alloc, handle, &mut call) else {
         return NO_SESSION;
     };
     if let Ok(Answer::Info(known)) = &result {
@@ -139,7 +142,8 @@ pub extern "C" fn msgq_session_set(alloc: Global, handle: &mut Handle, call: &Se
     ensures { Serves (set_of call.now) TellsNothing result
         handle.old.held.session handle.new.held.session }
 {
-    let Some(result) = serve(alloc, handle, call.call()) else {
+    let mut call = call.call();
+    let Some(result) = serve(alloc, handle, &mut call) else {
         return NO_SESSION;
     };
     code_of(&result)
@@ -151,7 +155,8 @@ pub extern "C" fn msgq_session_remove(alloc: Global, handle: &mut Handle, id: u3
     ensures { Serves (calls.Remove id) TellsNothing result
         handle.old.held.session handle.new.held.session }
 {
-    let Some(result) = serve(alloc, handle, Call::Remove { id }) else {
+    let mut call = Call::Remove { id };
+    let Some(result) = serve(alloc, handle, &mut call) else {
         return NO_SESSION;
     };
     code_of(&result)

@@ -37,13 +37,13 @@ pub(crate) enum Unmade {
 
 impl Kept {
     /// Makes a call as the rules of queues say (docs/QUEUES.md, "Calls"), and writes it down where it
-    /// may have changed the system.
-    pub(crate) fn call(&mut self, call: Call) -> Result<Answer, Unanswered>
-        ensures { Makes call result self.old self.new }
+    /// may have changed the system. It is lent, and its result told, as by `serve`.
+    #[inline(always)]
+    pub(crate) fn call(&mut self, call: &mut Call) -> Result<Answer, Unanswered>
+        ensures { Makes call.old result self.old self.new }
     {
-        let mut call = call;
-        self.log.begin(self.caller, &call);
-        let result = self.session.call_as(self.caller, &mut call);
+        self.log.begin(self.caller, call);
+        let result = self.session.call_as(self.caller, call);
         end_with(&mut self.log, &result);
         self.lacked_room = has_lacked_room(self.lacked_room, &result);
         result
@@ -132,6 +132,7 @@ impl Kept {
 }
 
 /// Writes down what came of the call that was begun last.
+#[inline(always)]
 fn end_with(log: &mut CallLog, came: &Result<Answer, Unanswered>)
     ensures { Ends (answer_of came.now) log.old log.new }
 {

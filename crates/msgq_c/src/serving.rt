@@ -7,13 +7,16 @@ use session::Unanswered;
 use session::queue_model::{Answer, Call};
 use std::alloc::Global;
 
-/// Makes a call on the session of a handle. Where it has none there is no result.
+/// Makes a call on the session of a handle. Where it has none there is no result. The call is lent,
+/// and what is left of it counts no more. It stands in whoever tells of the result, which is large,
+/// and would else be moved through memory.
+#[inline(always)]
 pub(crate) fn serve(
     alloc: Global,
     handle: &mut Handle,
-    call: Call,
+    call: &mut Call,
 ) -> Option<Result<Answer, Unanswered>>
-    ensures { Answers call result handle.old.held.session handle.new.held.session }
+    ensures { Answers call.old result handle.old.held.session handle.new.held.session }
 {
     if !handle.is_open {
         return None;

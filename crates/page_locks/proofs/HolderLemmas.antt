@@ -2,7 +2,7 @@
 use Rattle.std.proofs.Common.{arith, ◌≡◌, ◌≢◌, ℕ, zero, suc, ◌*◌, ◌-◌, ◌/◌, ◌%◌, ◌^◌, ◌<◌, ◌≤◌, bit_and, bit_or, w64}
 use Rattle.std.proofs.Common.{Bool, true, false, nat_eq, if◌then◌else◌, Option, Some, None, refl, sym, ap, ◌∙◌, inl, inr}
 use Rattle.std.specs.Int.{bit_at, bit_not, trailing_zeros}
-use Rattle.std.proofs.lemmas.Bool.{cases_lt, cases_eq, eq-eqb, ne_eqb, eqb-false, both_ways}
+use Rattle.std.proofs.lemmas.Bool.{cases_Bool, cases_lt, cases_eq, eq-eqb, ne_eqb, eqb-false, both_ways}
 use Rattle.std.proofs.Math.Numerals.{sub-one}
 use Rattle.std.proofs.lemmas.Nat.{and_le_l}
 use Rattle.std.proofs.lemmas.Nat.Bits.{bit_at_and, bit_at_above, bit_at_clear_same, bit_at_clear_other, bit_at_set_same, bit_at_set_other, bit_at-zero, bit_at-trailing_zeros, bit_at_lowest, bit_at-suc}
@@ -213,4 +213,13 @@ kind_at-nobody h seat none = elim (cases_eq seat 0) [
       let parts = is_nobody-parts h none in
       kind_at-none h seat (λ e. some (sym e ∙ parts.2)) (λ s. some (sym s ∙ parts.1))
       (ap (λ (x : ℕ). bit_at x (seat - 1)) parts.0 ∙ bit_at-zero (seat - 1))
+]
+
+-- what a seat holds is not nobody's
+pub held-somebody : (h : Holders) (seat : ℕ) (kind : LockKind) → kind_at h seat ≡ Some kind → is_nobody h ≡ false
+held-somebody h seat kind held = elim (cases_Bool (is_nobody h)) [
+  | inl none ↦
+      let clash : ◌≡◌ {A = Option LockKind} None (Some kind) = sym (kind_at-nobody h seat none) ∙ held in
+      absurd cc
+  | inr some ↦ some
 ]

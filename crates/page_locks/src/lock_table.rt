@@ -123,7 +123,7 @@ impl LockTable {
             };
         }
         self.slots
-            .store(name, spot.place, spot.holders.with(seat, kind));
+            .put(name, spot.place, spot.holders.with(seat, kind));
         self.rows[seat as usize - 1].push(Lock { name, kind });
         Attempt {
             grant: Grant::Granted,

@@ -2,7 +2,7 @@
 //! leaves no hole (Knuth, The Art of Computer Programming, volume 3, section 6.4, algorithm R).
 
 ghost use Rattle.std.specs.Prelude.{◌≡◌, ◌<◌, ◌≤◌, ℕ, true, false, length, IfOk};
-ghost use Rattle.page_locks.specs.Holding.{nobody};
+ghost use Rattle.page_locks.specs.Holding.{is_nobody, nobody};
 ghost use Rattle.page_locks.specs.declared.lock.LockName.{LockName};
 ghost use Rattle.page_locks.specs.Probing.{home, after, slot_at, is_open, holders_of};
 ghost use Rattle.page_locks.specs.Probing.{IsProbed, IsOpened, IsSpot, HasFewNames, HasFree, HasFreeBut, HasHomesApart, ChangesName};
@@ -52,7 +52,9 @@ impl Slots {
         Ok(Slots { slots })
     }
 
-    /// Where the name stands, else the first free slot from its home on.
+    /// Where the name stands, else the first free slot from its home on. It stands in whoever asks, as
+    /// do its parts: most names stand at their homes, and a call costs more than one look.
+    #[inline(always)]
     pub fn spot(&self, name: LockName) -> Spot
         requires few { HasFewNames self.now }
         ensures spot { IsSpot self.now name result.place }
@@ -60,13 +62,23 @@ impl Slots {
         ensures once { HasHomesApart self.now name → result.looked ≡ 1 }
         ensures within { 1 ≤ result.looked }
     {
-        let steps = steps_to(&self.slots, name);
-        let place = (home(name) + steps) % SLOTS;
+        let first = home(name);
+        let steps = steps_to(&self.slots, name, first);
+        let place = (first + steps) % SLOTS;
         Spot {
             place,
             looked: steps as u32 + 1,
             holders: self.slots[place].holders,
         }
+    }
+
+    /// Gives a name these holders, of which there is one, at its spot.
+    pub fn put(&mut self, name: LockName, place: usize, holders: Holders)
+        requires some { is_nobody holders ≡ false }
+        requires spot { IsSpot self.old name place }
+        ensures { ChangesName name holders self.old self.new }
+    {
+        self.slots[place] = Slot { name, holders };
     }
 
     /// Gives a name these holders, at its spot. Where there are none its slot becomes free.
@@ -77,7 +89,7 @@ impl Slots {
         ensures { ChangesName name holders self.old self.new }
     {
         if !holders.is_nobody() {
-            self.slots[place] = Slot { name, holders };
+            self.put(name, place, holders);
             return;
         }
         if self.slots[place].holders.is_nobody() {
@@ -88,8 +100,27 @@ impl Slots {
     }
 }
 
-/// How many steps lead from the home of a name to its spot.
-fn steps_to(slots: &[Slot], name: LockName) -> usize
+/// How many steps lead from the home of a name to its spot: none, where nobody else's name stands
+/// there.
+#[inline(always)]
+fn steps_to(slots: &[Slot], name: LockName, first: usize) -> usize
+    requires first { first ≡ home name }
+    requires as_many { length slots.now ≡ SLOTS }
+    requires free { HasFree slots.now }
+    ensures within { result < SLOTS }
+    ensures passed { (u : ℕ) → u < result →
+        is_open name (slot_at slots.now (after (home name) u)) ≡ false }
+    ensures open { is_open name (slot_at slots.now (after (home name) result)) ≡ true }
+{
+    if slots[first].is_open_to(name) {
+        return 0;
+    }
+    steps_past(slots, name)
+}
+
+/// The same, slot by slot.
+#[inline(always)]
+fn steps_past(slots: &[Slot], name: LockName) -> usize
     requires as_many { length slots.now ≡ SLOTS }
     requires free { HasFree slots.now }
     ensures within { result < SLOTS }

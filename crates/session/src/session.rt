@@ -31,9 +31,9 @@ const SEAT: u8 = 1;
 /// The frames that one seat needs.
 const LEAST_FRAMES: usize = 12;
 
-/// The journal of a session is let go once it has so many entries: so few that malloc has their memory
-/// at hand for the next ones.
-const LONG_JOURNAL: usize = 12;
+/// The journal of a session is let go once it has so many entries: so few that malloc keeps all their
+/// memory at hand for the next ones, and that of a call beside it.
+const LONG_JOURNAL: usize = 6;
 
 /// The calls of one caller, one at a time, over the pages of a device.
 #[derive(Drop)]

@@ -7,7 +7,7 @@ use Rattle.msgq_c.proofs.kept.Kept.call.Goals as goal
 pub returns : goal.returns
 returns c = record {
   becomes = c.call_as-result.ensures.becomes;
-  notes = noted_is c.args.self.now.caller c.args.call (answer_of c.call_as-result.result) c.args.self.now.log
+  notes = noted_is c.args.self.now.caller c.args.call.now (answer_of c.call_as-result.result) c.args.self.now.log
       c.begin.new.self c.end_with.new.log c.begin.ensures c.end_with.ensures;
   room = c.has_lacked_room-self.ensures;
   caller = refl;

@@ -3,6 +3,7 @@ use Rattle.page_locks.specs.Holding.{kind_at}
 use Rattle.page_locks.specs.Locks.{is_against}
 use Rattle.page_locks.specs.Table.{Table, with_lock}
 use Rattle.page_locks.specs.Ties.{AreHomesApart}
+use Rattle.page_locks.proofs.HolderLemmas.{held-somebody}
 use Rattle.page_locks.proofs.SeatRowLemmas.{row_is, row-granted}
 use Rattle.page_locks.proofs.TieLemmas.{IsSoundTable-looked, HasFewNames-tied, HasHomesApart-tied, IsFree-holders, IsTied-grant}
 use Rattle.page_locks.proofs.lock_table.LockTable.attempt.Goals as goal
@@ -12,8 +13,9 @@ pub spot-spot-requires : goal.spot-spot-requires
 spot-spot-requires c =
     record { few = HasFewNames-tied c.self.inside.slots c.self.inside.rows.items c.self.invariant.tied }
 
-pub store-requires-clause-few : goal.store-requires-clause-few
-store-requires-clause-few c = HasFewNames-tied c.self.inside.slots c.self.inside.rows.items c.self.invariant.tied
+-- the seat holds it now
+pub put-requires-clause-some : goal.put-requires-clause-some
+put-requires-clause-some c = held-somebody c.with.result c.args.seat c.args.kind c.with.ensures.own
 
 -- the row that is written is the seat's
 pub push-requires : goal.push-requires
@@ -48,7 +50,7 @@ invariant_of-self-2 c =
     rw (row-granted t seat is _ _ c.index_mut.ensures.value c.args.name c.args.kind c.push.ensures)
     (IsSoundTable-looked
     (IsTied-grant c.self.inside.slots t c.self.invariant.tied seat is c.args.name holders its c.with.result
-    c.store.new.self c.store.ensures c.args.kind room fresh free c.with.ensures) _ c.spot-spot.ensures.within)
+    c.put.new.self c.put.ensures c.args.kind room fresh free c.with.ensures) _ c.spot-spot.ensures.within)
 
 -- where homes are apart one slot is looked at
 pub returns-in-Some-clause-once : goal.returns-in-Some-clause-once

@@ -21,11 +21,11 @@ returns-clause-holders c =
     let steps = c.steps_to-steps.result in
     let end = rw c.deref.ensures.value at c.steps_to-steps.ensures in
     let spot = IsSpot-found slots name steps end.within end.passed end.open in
-    let place_is : (c.home.result + steps) % 1024 ≡ after (home name) steps =
-    ap (λ (x : ℕ). (x + steps) % 1024) c.home.ensures.value
+    let place_is : (c.home-first.result + steps) % 1024 ≡ after (home name) steps =
+    ap (λ (x : ℕ). (x + steps) % 1024) c.home-first.ensures.value
     in
     let read =
-    slot-read slots ((c.home.result + steps) % 1024) _ _ (omega (arith, c.self.invariant.as_many)) c.index.ensures
+    slot-read slots ((c.home-first.result + steps) % 1024) _ _ (omega (arith, c.self.invariant.as_many)) c.index.ensures
     in
     ap (λ (s : Slot). s.holders) (read ∙ ap (slot_at slots) place_is) ∙
     spot-holders slots name (after (home name) steps) c.self.invariant spot ∙

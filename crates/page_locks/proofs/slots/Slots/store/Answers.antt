@@ -1,21 +1,7 @@
 use Rattle.std.proofs.Common.{rules, ◌≡◌, false, true}
 use Rattle.page_locks.specs.Holding.{is_nobody}
-use Rattle.page_locks.proofs.StoreLemmas.{IsProbed-stored, ChangesName-stored, ChangesName-nothing, IsOpened-freed, HasFreeBut-freed, ChangesName-freed}
+use Rattle.page_locks.proofs.StoreLemmas.{ChangesName-nothing, IsOpened-freed, HasFreeBut-freed, ChangesName-freed}
 use Rattle.page_locks.proofs.slots.Slots.store.Goals as goal
-
--- the name stands at its spot
-pub invariant_of-self : goal.invariant_of-self
-invariant_of-self c =
-    let spot = rw (← c.self.view_is) at c.requires.spot in
-    let some : is_nobody c.args.holders ≡ false = search rules in
-    IsProbed-stored c.self.inside.slots.items c.args.name c.args.place c.self.invariant spot c.args.holders some
-
-pub returns-then-not-is_nobody : goal.returns-then-not-is_nobody
-returns-then-not-is_nobody c =
-    let spot = rw (← c.self.view_is) at c.requires.spot in
-    let some : is_nobody c.args.holders ≡ false = search rules in
-    rw (← c.self.view_is) (ChangesName-stored c.self.inside.slots.items c.args.name c.args.place
-    c.self.invariant spot c.args.holders some)
 
 -- nobody held it, and nobody does
 pub returns-then-is_nobody : goal.returns-then-is_nobody

@@ -1,6 +1,6 @@
 use Rattle.std.proofs.Common.{arith}
 use Rattle.page_locks.proofs.SpotLemmas.{open_somewhere}
-use Rattle.page_locks.proofs.slots.steps_to.Goals as goal
+use Rattle.page_locks.proofs.slots.steps_past.Goals as goal
 
 -- the search passes every slot, and so a free one
 pub unreachable-requires : goal.unreachable-requires
