@@ -6,7 +6,7 @@ use Rattle.page_locks.specs.Table.{with_row}
 use Rattle.page_locks.specs.declared.lock.LockKind.TheVariants.{Read, Selective}
 use Rattle.page_locks.specs.declared.lock.LockName.TheVariants.{Directory, Page}
 use Rattle.record_file.specs.AccessRuns.{AccessStep, access_at}
-use Rattle.record_file.specs.AccessRuns.{FailsAtOnce, WritesAtOnce as GoesAtOnce}
+use Rattle.record_file.specs.AccessRuns.{IsMade, WritesAtOnce as GoesAtOnce}
 use Rattle.record_file.specs.stale_search.Searches.{locks_at}
 use Rattle.record_file.specs.stale_search.declared.place.SearchPlace.{SearchPlace}
 use Rattle.record_file.specs.stale_search.declared.place.SearchPlace.TheVariants as places
@@ -14,16 +14,15 @@ use Rattle.record_file.specs.step_rules.declared.kind.Kind.{Kind}
 use Rattle.record_file.specs.step_rules.declared.kind.Kind.TheVariants as kinds
 use Rattle.call_writes.specs.declared.deed.Deed.TheVariants as deeds
 use Rattle.call_writes.specs.declared.writes.CallWrites.{CallWrites}
-use Rattle.call_writes.specs.WriteWords.{AccessView, Deed, Delete, Due, Ended, EndsRow, Fault, HasEnded, IsSeat, Lock, MakesAccess, Moved, Plan, PoolState, RecordKey, Relink, Replace, Serves, Table, access_locks, row_of, searches_under, store_of}
+use Rattle.call_writes.specs.WriteWords.{AccessView, Deed, Delete, Due, Ended, EndsRow, HasEnded, IsSeat, Lock, MakesAccess, Moved, Plan, PoolState, RecordKey, Relink, Replace, Serves, Table, access_locks, row_of, searches_under, store_of}
 use Rattle.call_writes.specs.WriteRuns.{is_to_search, last_of}
-use Rattle.call_writes.specs.Dues.{IsNext, purpose_of}
+use Rattle.call_writes.specs.Dues.{IsNext, deed_key, purpose_of}
 use Rattle.call_writes.specs.MakeSteps.{Begins, Goes, GoesOn, IsSetOut, LetsGo, Makes, MakesDeed, MakesWrites, PaysDue, Stays}
 use Rattle.call_writes.specs.WriteRuns.{At, Way, WritesAtOnce, at}
 use Rattle.call_writes.specs.Views.{begun_deed, locks_under, writes_locks, writes_search}
 use Rattle.call_writes.proofs.LastLemmas.{last_there}
 use Rattle.call_writes.proofs.MakesLemmas.{makes_writes}
-use Rattle.call_writes.proofs.WriteNames.{FileFault}
-use Rattle.call_writes.proofs.WriteBeginLemmas.{begun_locks, begun_unwritten, not_ended}
+use Rattle.call_writes.proofs.WriteBeginLemmas.{begun_unwritten}
 
 -- ---- the row of its seat
 
@@ -32,15 +31,8 @@ module _ (w : CallWrites) (none : w.access ≡ None) (row : List Lock) (ends : E
   row_is : row ≡ ends.before
   row_is = ends.is ∙ ap (λ (o : Option AccessView). locks_under o ends.before) none
 
-  -- and so that of an access that has just begun
-  pub begun_row : (hash : RecordKey → ℕ) (d : Deed) (a : AccessView) → a ≡ begun_deed hash d →
-      EndsRow (access_locks a) 3 row
-  begun_row hash d a is = record {
-    before = ends.before;
-    bare = ends.bare;
-    room = ends.room;
-    is = row_is ∙ sym (begun_locks hash d ends.before) ∙ ap (λ (b : AccessView). access_locks b ends.before) (sym is);
-  }
+  pub plain_row : EndsRow (λ (before : List Lock). before) 3 row
+  plain_row = record { before = ends.before; bare = ends.bare; room = ends.room; is = row_is }
 
 -- its locks on the way are those of its search
 deed_locks : (hash : RecordKey → ℕ) (d : Deed) (place : SearchPlace) (before : List Lock) →
@@ -120,28 +112,6 @@ module _ (hash : RecordKey → ℕ) (seat : ℕ) (p : Plan) where
       (steps kind due due a a' pool pool' before behind
       (subst (λ (w : Bool). PaysDue p (not w && a'.written) due due) (sym was) refl) step)
       (LetsGo a' refl ended refl written refl refl))
-
-  -- ---- a fault
-
-  deed_fails : (d : Deed) (due due' : Due) → IsNext p due d due' → Serves (purpose_of d) (begun_deed hash d) →
-      (fault : FileFault) (pool pool' : PoolState) (locks : Table) →
-      AccessStep hash seat (Fault fault) (at (begun_deed hash d) pool locks) (at (begun_deed hash d) pool' locks) →
-      MakesWrites hash seat p (Fault fault) (resting due) (under due (begun_deed hash d)) pool pool' locks locks
-  deed_fails d due due' next serves fault pool pool' locks step =
-      makes_writes hash seat p (Fault fault) (resting due) (under due (begun_deed hash d)) pool pool' locks locks
-      step.may.seated step.may.ready
-      (Makes (under due (begun_deed hash d)) (under due (begun_deed hash d)) (Fault fault)
-      (Begins d refl next.deed serves refl)
-      (Goes (record {
-        before = begun_deed hash d;
-        was = refl;
-        going = not_ended hash d;
-        behind = begun_deed hash d;
-        is = refl;
-        made = step.makes;
-        due = still_due due (begun_deed hash d).written;
-      }))
-      (Stays refl refl (λ b is ended. refl)))
 
   -- ---- all of them
 
@@ -235,30 +205,17 @@ module _ (hash : RecordKey → ℕ) (seat : ℕ) (p : Plan) where
           answered = deed_found hash d page goes.found;
         }
 
--- from its place
+-- from its place, where the access is seen neither before it nor behind it
 module _ (hash : RecordKey → ℕ) (seat : ℕ) (p : Plan) (pool pool' : PoolState) (locks : Table) (w : CallWrites)
-    (none : w.access ≡ None) (d : Deed) (due' : Due) (next : IsNext p w.due d due') (b : AccessView)
-    (begun : b ≡ begun_deed hash d) (serves : Serves (purpose_of d) b) where
-  serves_it : Serves (purpose_of d) (begun_deed hash d)
-  serves_it = subst (Serves (purpose_of d)) begun serves
-
-  pub deed_from : (a : AccessView) → GoesAtOnce seat b a pool pool' locks →
-      WritesAtOnce (MakesWrites hash seat p) writes_search seat w (record { due = due'; access = None }) pool pool'
-      locks
-  deed_from a goes =
-      subst (λ (o : Option AccessView). WritesAtOnce (MakesWrites hash seat p) writes_search seat
-      (record { due = w.due; access = o }) (record { due = due'; access = None }) pool pool' locks) (sym none)
-      (deed_at_once hash seat p d w.due due' next serves_it pool pool' locks a
-      (subst (λ (x : AccessView). GoesAtOnce seat x a pool pool' locks) begun goes))
-
-  -- where its page can't be written, its access has begun
-  pub fails_from : (fault : FileFault) (a : AccessView) → FailsAtOnce seat fault b a pool pool' locks →
-      MakesWrites hash seat p (Fault fault) w (record { due = w.due; access = Some a }) pool pool' locks locks
-  fails_from fault a fails =
-      subst (λ (o : Option AccessView). MakesWrites hash seat p (Fault fault) (record { due = w.due; access = o })
-      (record { due = w.due; access = Some a }) pool pool' locks locks) (sym none)
-      (subst (λ (x : AccessView). MakesWrites hash seat p (Fault fault) (record { due = w.due; access = None })
-      (record { due = w.due; access = Some x }) pool pool' locks locks) (sym (fails.same ∙ begun))
-      (deed_fails hash seat p d w.due due' next serves_it fault pool pool' locks
-      (subst (λ (x : AccessView). AccessStep hash seat (Fault fault) (at x pool locks) (at x pool' locks)) begun
-      (fails.step hash))))
+    (none : w.access ≡ None) (d : Deed) (due due' : Due) (is : w.due ≡ due) (next : IsNext p due d due') where
+  pub deed_from : (k : ℕ) → k ≡ hash (deed_key d) → IsMade seat (purpose_of d) k pool pool' locks →
+      (o : Option AccessView) → o ≡ None →
+      WritesAtOnce (MakesWrites hash seat p) writes_search seat w (record { due = due'; access = o }) pool pool' locks
+  deed_from k k_is told o rests =
+      let made = subst (λ (n : ℕ). IsMade seat (purpose_of d) n pool pool' locks) k_is told in
+      subst (λ (x : Option AccessView). WritesAtOnce (MakesWrites hash seat p) writes_search seat w
+      (record { due = due'; access = x }) pool pool' locks) (sym rests)
+      (subst (λ (x : Option AccessView). WritesAtOnce (MakesWrites hash seat p) writes_search seat
+      (record { due = w.due; access = x }) (record { due = due'; access = None }) pool pool' locks) (sym none)
+      (deed_at_once hash seat p d w.due due' (subst (λ (x : Due). IsNext p x d due') (sym is) next) made.serves pool
+      pool' locks made.behind made.writes))

@@ -6,7 +6,7 @@ use Rattle.xsi_remove.specs.Words.{StepHasCause}
 use Rattle.xsi_remove.specs.UnderWay.{StepsUnderWay}
 use Rattle.call_writes.specs.declared.writes.CallWrites.{CallWrites}
 use Rattle.call_writes.specs.WriteWords.{RecordKey, Record, Records, Plan, PoolState, Table, Lock, Change, store_of, OnlyWrites, FollowsRow, NearsOrSpares, Progress, Ended, Fault, is_fault, HasEnded, ToInsert, Allows, Serves, AccessView, MakesAccess, has_no_room, Deed, Due, Trying, Full}
-use Rattle.call_writes.specs.Dues.{IsBehind, IsDeedInRange, IsNext, next_deed, purpose_of}
+use Rattle.call_writes.specs.Dues.{IsBehind, IsDeedInRange, next_deed, purpose_of}
 use Rattle.call_writes.specs.Views.{IsOver, begun_deed, writes_left_in, writes_locks}
 use Rattle.call_writes.specs.Carrying.{IsCarrying}
 use Rattle.call_writes.specs.CarrySteps.{Carries, KeepsPlan}
@@ -18,13 +18,6 @@ pub data IsSetOut (hash : RecordKey → ℕ) (p : Plan) (old new : CallWrites) :
   GoesOn : (a : AccessView) → old.access ≡ Some a → new ≡ old → IsSetOut hash p old new
   Begins : (d : Deed) → old.access ≡ None → next_deed p old.due ≡ Some d → Serves (purpose_of d) (begun_deed hash d) →
       new ≡ record { due = old.due; access = Some (begun_deed hash d) } → IsSetOut hash p old new
-
--- that of the deed that comes next has begun, and this is due once it has written
-pub record BeginsNext (hash : RecordKey → ℕ) (p : Plan) (due : Due) (a : AccessView) (behind : Due) : Type 0 where
-  pub deed : Deed
-  pub next : IsNext p due deed behind
-  pub begun : a ≡ begun_deed hash deed
-  pub serves : Serves (purpose_of deed) a
 
 -- a deed out of range is refused
 pub record IsRefused (p : Plan) (fault : FileFault) (old : CallWrites) : Type 0 where

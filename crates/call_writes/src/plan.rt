@@ -1,26 +1,21 @@
 //! The plan of a call, lent.
 
-ghost use Rattle.std.specs.Prelude.{◌≡◌, IfSome, MatchOption, None, true};
+ghost use Rattle.std.specs.Prelude.{◌≡◌, MatchOption, None, true};
 ghost use Rattle.call_decisions.specs.Anything.{plan_of};
 ghost use Rattle.call_writes.specs.Dues.{IsBehind, IsNext, next_deed};
-ghost use Rattle.call_writes.specs.MakeSteps.{BeginsNext};
-ghost use Rattle.call_writes.specs.WriteWords.{Trying, Writing};
 
 use crate::deed::Deed;
 use crate::due::Due;
-use crate::ranges::{has_range, key_written};
-use bucket_page::PseudoKey;
 use call_decisions::AnyInquiry;
 use queue_model::Call;
-use record_file::Access;
 use std::marker::Model;
 use xsi_inquiry::{Inquiry, MAX_TRIALS, MAX_WRITES, Write};
 
 /// The plan of a call, lent.
 #[derive(Drop)]
 pub struct PlanOf<'a> {
-    call: &'a Call,
-    inquiry: &'a AnyInquiry,
+    pub(crate) call: &'a Call,
+    pub(crate) inquiry: &'a AnyInquiry,
 }
 
 impl<'a> Model for PlanOf<'a> {
@@ -38,71 +33,6 @@ impl<'a> PlanOf<'a> {
         ensures { result ≡ plan_of call.now inquiry.now }
     {
         PlanOf { call, inquiry }
-    }
-
-    /// The access of the deed that comes next begins, in the place of another one, and what is due
-    /// once it has written is told. None where no deed is left, or it is past the limits of one
-    /// record. A deed is large, so a trial and a write are not made into one, and moved.
-    pub(crate) fn begin_next<K: PseudoKey>(
-        &self,
-        due: Due,
-        access: &mut Access,
-        keys: &K,
-    ) -> Option<Due>
-        ensures { IfSome result (λ behind.
-            BeginsNext (K.of_key keys.now) self.now due access.new behind) }
-    {
-        match due {
-            Due::Trying(place) => self.begin_trial(place, access, keys),
-            Due::Writing(from) => self.begin_write(from, access, keys),
-            Due::Full(_) | Due::Undoing(_) => self.begin_deed(due, access, keys),
-        }
-    }
-
-    /// The same for any deed. It stands apart, since `begin_next` would make room for that deed.
-    #[inline(never)]
-    fn begin_deed<K: PseudoKey>(&self, due: Due, access: &mut Access, keys: &K) -> Option<Due>
-        ensures { IfSome result (λ behind.
-            BeginsNext (K.of_key keys.now) self.now due access.new behind) }
-    {
-        let Some((deed, behind)) = self.next(due) else {
-            return None;
-        };
-        if !deed.is_in_range() {
-            return None;
-        }
-        deed.begin(access, keys);
-        Some(behind)
-    }
-
-    #[inline(always)]
-    fn begin_trial<K: PseudoKey>(&self, place: usize, access: &mut Access, keys: &K) -> Option<Due>
-        ensures { IfSome result (λ behind.
-            BeginsNext (K.of_key keys.now) self.now (Trying place) access.new behind) }
-    {
-        let Some(entry) = self.inquiry.trial(self.call, place) else {
-            return None;
-        };
-        if !entry.is_in_range() {
-            return None;
-        }
-        access.begin_insert(&entry, keys.of(&entry.key()));
-        Some(self.behind(Due::Trying(place)))
-    }
-
-    #[inline(always)]
-    fn begin_write<K: PseudoKey>(&self, from: usize, access: &mut Access, keys: &K) -> Option<Due>
-        ensures { IfSome result (λ behind.
-            BeginsNext (K.of_key keys.now) self.now (Writing from) access.new behind) }
-    {
-        let Some((slot, write)) = self.inquiry.next_write(self.call, from) else {
-            return None;
-        };
-        if !has_range(&write) {
-            return None;
-        }
-        access.begin_write(&write, keys.of(&key_written(&write)));
-        Some(Due::Writing(slot + 1))
     }
 
     /// The deed that comes next, and what is due once it has written; none where no deed is left.

@@ -22,8 +22,9 @@ pub fn peek_depth<D: PageDevice>(pool: &mut Pool<D>) -> Option<u8>
     ensures small { IfSome result (λ depth. depth ≤ GREATEST_DEPTH) }
     ensures ok { IfSome result (λ depth. depth ≡ (store_of pool.old.images).header.depth) }
 {
+    let depth = depth_of(pool.resident(0)?).ok();
     pool.touch(0);
-    depth_of(pool.resident(0)?).ok()
+    depth
 }
 
 /// The page that an entry names, where the entry's page is in a frame.
@@ -33,11 +34,13 @@ pub fn peek_entry<D: PageDevice>(pool: &mut Pool<D>, index: u32) -> Option<u32>
     ensures ok { IfSome result (λ page. page ≡ entry_at (store_of pool.old.images) index) }
 {
     let page = page_of(index);
+    let bucket = entry_of(pool.resident(page)?, slot_of(index)).ok();
     pool.touch(page);
-    entry_of(pool.resident(page)?, slot_of(index)).ok()
+    bucket
 }
 
 /// Whether a page is in a frame, and is a bucket whose range has the pseudokey.
+#[inline(always)]
 pub fn peek_range<D: PageDevice>(pool: &mut Pool<D>, page: u32, pseudokey: u32) -> bool
     ensures same { pool.new ≡ pool.old }
     ensures covers { result ≡ true →
@@ -46,11 +49,12 @@ pub fn peek_range<D: PageDevice>(pool: &mut Pool<D>, page: u32, pseudokey: u32) 
     if page < ROOT_PAGE {
         return false;
     }
-    pool.touch(page);
     let Some(image) = pool.resident(page) else {
         return false;
     };
-    covers(image, pseudokey)
+    let covers = covers(image, pseudokey);
+    pool.touch(page);
+    covers
 }
 
 /// What the bucket on a page has of a key, where that page is in a frame: the value, or none.

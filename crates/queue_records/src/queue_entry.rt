@@ -136,12 +136,15 @@ impl QueueEntry {
         requires { IsQueueInRange self.now }
         ensures { value.new ≡ queue_bytes self.now }
     {
-        self.encode_older(value);
-        value.put_four(self.uid);
-        value.put_four(self.gid);
-        value.put_four(self.cuid);
-        value.put_four(self.cgid);
-        value.put_two(self.mode);
+        // All is read before anything is written: the value might be where the entry is, for all that
+        // the compiler knows.
+        let queue = *self;
+        queue.encode_older(value);
+        value.put_four(queue.uid);
+        value.put_four(queue.gid);
+        value.put_four(queue.cuid);
+        value.put_four(queue.cgid);
+        value.put_two(queue.mode);
     }
 
     /// Makes the value that of this record in version 1, which has no owners and no mode.

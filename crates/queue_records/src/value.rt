@@ -4,22 +4,26 @@ ghost use Rattle.std.specs.Prelude.{◌≡◌, ◌≤◌, ◌+◌, [], ◌∷◌
 ghost use Rattle.bucket_page.specs.numbers.Numbers.{two, four, eight};
 
 use crate::layout::MAX_VALUE_BYTES;
-use arrayvec::ArrayVec;
-use bucket_page::fields::{write_eight, write_four, write_two};
+use bucket_page::fields::{set_bytes, write_eight, write_four, write_two};
 use std::marker::Model;
 
 /// The bytes of a record's value, which contracts see as a list. It takes no memory beside itself.
+/// Behind them the buffer holds what it held, so that nothing is written where they are taken out.
 #[derive(Drop)]
 pub struct Value {
-    bytes: ArrayVec<u8, MAX_VALUE_BYTES>,
+    bytes: [u8; MAX_VALUE_BYTES],
+    len: usize,
 }
 
 impl Model for Value {
-    ghost use Rattle.std.specs.Prelude.{ℕ, List};
+    ghost use Rattle.std.specs.Prelude.{ℕ, ◌≤◌, List, take};
+    ghost use Rattle.queue_records.specs.declared.layout.TheConstants.{MAX_VALUE_BYTES};
 
     ghost Value = { List ℕ };
 
-    ghost view = { λ v. v.bytes.items };
+    ghost view = { λ v. take v.len v.bytes };
+
+    ghost invariant = { λ v. v.len ≤ MAX_VALUE_BYTES };
 }
 
 impl Value {
@@ -28,7 +32,8 @@ impl Value {
         ensures { result ≡ [] }
     {
         Value {
-            bytes: ArrayVec::new(),
+            bytes: [0; MAX_VALUE_BYTES],
+            len: 0,
         }
     }
 
@@ -37,7 +42,7 @@ impl Value {
         ensures value { result.now ≡ self.now }
         ensures within { length self.now ≤ MAX_VALUE_BYTES }
     {
-        self.bytes.as_slice()
+        &self.bytes[..self.len]
     }
 
     /// Becomes these bytes.
@@ -53,7 +58,7 @@ impl Value {
     pub fn clear(&mut self)
         ensures { self.new ≡ [] }
     {
-        self.bytes.clear();
+        self.len = 0;
     }
 
     /// Puts a byte last.
@@ -62,7 +67,7 @@ impl Value {
         ensures value { self.new ≡ self.old ++ number ∷ [] }
         ensures len { length self.new ≡ length self.old + 1 }
     {
-        self.bytes.push(number);
+        self.put_all(&[number]);
     }
 
     /// Puts the two bytes of a number last.
@@ -104,6 +109,7 @@ impl Value {
         ensures value { self.new ≡ self.old ++ bytes.now }
         ensures len { length self.new ≡ length self.old + length bytes.now }
     {
-        self.bytes.try_extend_from_slice(bytes).unwrap();
+        set_bytes(&mut self.bytes, self.len, bytes);
+        self.len += bytes.len();
     }
 }

@@ -62,3 +62,4 @@ pub use Rattle.step_rules.proofs as of_step_rules
 pub use Rattle.split_merge.proofs as of_split_merge
 pub use Rattle.split_merge.proofs.of_file_pages
 pub use Rattle.split_merge.proofs.of_stale_search
+pub mod MadeLemmas

@@ -59,7 +59,7 @@ copied_whole n {value = Some v} {room = room} {copied = copied} copies told fits
     ∙ whole_taken v room (omega (arith, fits, long)) in
     ap (λ (x : List ℕ). Some x) (sym whole)
 
-few_linked : (links : Links) → linked_bytes links ≤ MESSAGE_BYTES
+pub few_linked : (links : Links) → linked_bytes links ≤ MESSAGE_BYTES
 few_linked (kinds.Message l) = omega arith
 few_linked (kinds.Type l) = omega arith
 

@@ -9,7 +9,8 @@ use Rattle.record_file.specs.stale_search.declared.place.SearchPlace.TheVariants
 use Rattle.record_file.specs.step_rules.Runs.{MovesAlong, Stop, stop, stops_in}
 use Rattle.record_file.specs.step_rules.declared.kind.Kind.TheVariants as kinds
 use Rattle.record_file.specs.AccessWords.{RecordKey, PoolState, Table, HasEnded, IsSeat, IsReady, EndsRow, Progress, Fault, row_of, store_of}
-use Rattle.record_file.specs.Accesses.{AccessView, access_key, access_locks}
+use Rattle.record_file.specs.Accesses.{AccessView, Serves, access_key, access_locks, begun}
+use Rattle.record_file.specs.Purposes.{Purpose}
 use Rattle.record_file.specs.AccessSteps.{MakesAccess}
 use Rattle.record_file.specs.Readings.{Takes}
 
@@ -112,3 +113,9 @@ pub record FailsAtOnce (seat : ℕ) (fault : FileFault) (old new : AccessView) (
     : Type 0 where
   pub same : new ≡ old
   pub step : (hash : RecordKey → ℕ) → AccessStep hash seat (Fault fault) (at old pool locks) (at old pool' locks)
+
+-- such a write was made in one go, by an access that nobody has seen before it or behind it
+pub record IsMade (seat : ℕ) (p : Purpose) (k : ℕ) (pool pool' : PoolState) (locks : Table) : Type 0 where
+  pub serves : Serves p (begun p k)
+  pub behind : AccessView
+  pub writes : WritesAtOnce seat (begun p k) behind pool pool' locks

@@ -10,6 +10,7 @@ ghost use Rattle.record_file.specs.AccessSteps.{MakesAccess, Settles};
 ghost use Rattle.record_file.specs.Readings.{Takes};
 
 mod ahead;
+mod at_once;
 
 use crate::bucket_access::Deed;
 use crate::fitting::links_fit;

@@ -190,7 +190,9 @@ impl BucketAccess {
     }
 
     /// The page to which an access goes straight that has not begun, and a find to give it back at
-    /// once. Nothing is done.
+    /// once. Nothing is done. It stands in whoever asks, so that an access which is begun for this
+    /// alone is never in memory.
+    #[inline(always)]
     pub fn heads_for<D: PageDevice>(
         &self,
         pool: &mut Pool<D>,

@@ -187,7 +187,9 @@ impl Search {
 
     /// The page to which a search goes straight that has not begun: that which the directory names,
     /// where it has the pseudokey, it and those on the way are in frames, and nobody stands in the
-    /// way. Nothing is done.
+    /// way. Nothing is done. It stands in whoever asks, as a search that is begun for this alone need
+    /// not be in memory.
+    #[inline(always)]
     pub fn heads_for<D: PageDevice>(
         &self,
         pool: &mut Pool<D>,

@@ -8,6 +8,6 @@ use Rattle.file_pages.proofs.resident.peek_depth.Goals as goal
 pub returns-clause-ok : goal.returns-clause-ok
 returns-clause-ok g c =
     let images = c.args.pool.now.images in
-    let here = rw c.touch.ensures at c.in_ok-resident.ensures in
-    rw (c.ok.ensures.value, header_is images, get_or_from_slice_get images 0 c.in_ok-resident.field-0.now [] here)
+    let here = c.in_ok-resident.ensures in
+    rw (c.ok-depth.ensures.value, header_is images, get_or_from_slice_get images 0 c.in_ok-resident.field-0.now [] here)
     (if_told c.depth_of.result _ c.depth_of.ensures.ok)

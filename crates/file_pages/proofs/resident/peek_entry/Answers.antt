@@ -9,8 +9,8 @@ use Rattle.file_pages.proofs.resident.peek_entry.Goals as goal
 pub returns-clause-ok : goal.returns-clause-ok
 returns-clause-ok g c =
     let images = c.args.pool.now.images in
-    let here = rw c.touch.ensures at c.in_ok-resident.ensures in
-    rw (c.ok.ensures.value) (if_told c.entry_of.result _ (same_slot c.entry_of.result c.entry_of.ensures.ok
+    let here = c.in_ok-resident.ensures in
+    rw (c.ok-bucket.ensures.value) (if_told c.entry_of.result _ (same_slot c.entry_of.result c.entry_of.ensures.ok
     c.slot_of.ensures.value
     (sym (get_or_from_slice_get images c.page_of-page.result c.in_ok-resident.field-0.now [] here)
     ∙ ap (image images) c.page_of-page.ensures.value)

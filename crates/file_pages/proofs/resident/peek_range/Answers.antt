@@ -12,9 +12,9 @@ use Rattle.file_pages.proofs.resident.peek_range.Goals as goal
 pub returns-clause-covers : goal.returns-clause-covers
 returns-clause-covers g c = λ covers.
     let images = c.args.pool.now.images in
-    let here = rw c.touch.ensures at c.in-Some.ensures in
+    let here = c.in-Some.ensures in
     let was : page_at (store_of images) c.args.page ≡ page_in c.in-Some.image.now =
     page_is images c.args.page c.if-page-lt-ROOT_PAGE.false
     (slice_get_within images c.args.page c.in-Some.image.now here)
     ∙ ap page_in (get_or_from_slice_get images c.args.page c.in-Some.image.now [] here) in
-    subst (λ (p : PageKind). CoversIn p c.args.pseudokey) (sym was) (c.covers.ensures covers)
+    subst (λ (p : PageKind). CoversIn p c.args.pseudokey) (sym was) (c.covers-covers.ensures covers)
