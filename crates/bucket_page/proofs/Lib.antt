@@ -5,6 +5,7 @@ pub mod JoinLaws
 pub mod KeyLaws
 pub mod KeyOrderLaws
 pub mod LookupLaws
+pub mod MoveLaws
 pub mod OrderLaws
 pub mod PageLaws
 pub mod ReadingLaws

@@ -1,33 +1,10 @@
 -- Bytes of records with some put in or taken out.
-use Rattle.std.proofs.Common.{◌≡◌, ℕ, ◌+◌, ◌-◌, ◌≤◌, List, [], ◌++◌, length, take, drop, refl, sym, ap, ◌∙◌, append_assoc, arith}
-use Rattle.std.proofs.lemmas.List.{append-nil, drop_all, take_rest, take_at, drop_at, drop-drop, drop-take, length-append, length-take, length-drop, take-take}
-use Rattle.std.proofs.lemmas.Int.{clamps}
-use Rattle.std.specs.List.{copy_within}
+use Rattle.std.proofs.Common.{◌≡◌, ℕ, ◌+◌, ◌-◌, ◌≤◌, List, ◌++◌, length, take, drop, refl, sym, ap, ◌∙◌, append_assoc, arith}
+use Rattle.std.proofs.lemmas.List.{take_at, drop_at, drop-drop, drop-take, length-append, length-take, length-drop, take-take}
 use Rattle.directory.specs.numbers.Numbers.{zeros}
 use Rattle.bucket_page.specs.Spelling.{padded}
 use Rattle.bucket_page.specs.Changes.{inserted_at, taken_out}
 use Rattle.directory.proofs.of_numbers.ZeroLaws.{drop-zeros, zeros-zeros}
-
--- what stands behind the first n places once the others were moved there
-pub moved_back : (bytes : List ℕ) (n : ℕ) → n ≤ length bytes
-    → drop n (copy_within bytes 0 (length bytes - n) n) ≡ take (length bytes - n) bytes
-moved_back bytes n fits =
-    let front : length (take n bytes) ≡ n = omega (arith, clamps, fits, length-take n bytes) in
-    let count : length bytes - n - 0 ≡ length bytes - n = omega arith in
-    let none : drop (n + (length bytes - n - 0)) bytes ≡ [] = drop_all _ bytes (omega (arith, fits)) in
-    ap (drop n) (append_assoc (take n bytes) _ _) ∙ drop_at (take n bytes) _ n front
-    ∙ ap (λ (l : List ℕ). take (length bytes - n - 0) bytes ++ l) none
-    ∙ append-nil (take (length bytes - n - 0) bytes)
-    ∙ ap (λ (k : ℕ). take k bytes) count
-
--- what stands in front once the first n were let go
-pub moved_front : (bytes : List ℕ) (n : ℕ) → n ≤ length bytes
-    → take (length bytes - n) (copy_within bytes n (length bytes) 0) ≡ drop n bytes
-moved_front bytes n fits =
-    let whole : take (length bytes - n) (drop n bytes) ≡ drop n bytes = take_rest bytes n in
-    let long : length (take (length bytes - n) (drop n bytes)) ≡ length bytes - n =
-    ap length whole ∙ length-drop n bytes in
-    take_at (take (length bytes - n) (drop n bytes)) _ (length bytes - n) long ∙ whole
 
 -- the parts that `insert` makes are those of its contract
 pub insert_parts : (bytes : List ℕ) (used at n : ℕ) (new front back region rest placed : List ℕ) → at ≤ used

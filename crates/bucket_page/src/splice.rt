@@ -1,13 +1,16 @@
 //! Edits of the bytes of records, which stand at the front of a slice with room behind them.
 
 ghost use Rattle.std.specs.Prelude.{◌≡◌, ◌+◌, ◌-◌, ◌≤◌, ◌++◌, drop, length, take};
-ghost use Rattle.directory.specs.numbers.Numbers.{zeros};
+ghost use Rattle.directory.specs.numbers.Numbers.{overwritten, zeros};
 ghost use Rattle.bucket_page.specs.Records.{pair, pair_bytes};
 ghost use Rattle.bucket_page.specs.Changes.{inserted_at, taken_out};
 
 use crate::layout::{RECORD_HEAD_BYTES, ROOM_BYTES};
 use crate::record_key::{KEY_BYTES, RecordKey, write_key};
-use directory::fields::{blank, write_two};
+use directory::fields::{blank, set_bytes, write_two};
+
+/// Bytes of records that are moved at once: no loop is run for them.
+const BLOCK: usize = 128;
 
 /// Puts a record among the used bytes.
 pub fn insert(bytes: &mut [u8], used: usize, at: usize, key: &RecordKey, value: &[u8])
@@ -40,7 +43,7 @@ fn put_first(region: &mut [u8], key: &RecordKey, value: &[u8])
         ++ take (length region.old - (RECORD_HEAD_BYTES + length value.now)) region.old }
 {
     let count = RECORD_HEAD_BYTES + value.len();
-    region.copy_within(..region.len() - count, count);
+    move_up(region, count);
     let (place, _) = region.split_at_mut(count);
     write_record(place, key, value);
 }
@@ -63,7 +66,47 @@ fn drop_first(region: &mut [u8], count: usize)
     requires { count ≤ length region.old }
     ensures { region.new ≡ drop count region.old ++ zeros count }
 {
-    region.copy_within(count.., 0);
+    move_down(region, count);
     let (_, last) = region.split_at_mut(region.len() - count);
     blank(last);
+}
+
+/// Moves the bytes by a count to the end. That many at the end are written over.
+fn move_up(region: &mut [u8], count: usize)
+    requires { count ≤ length region.old }
+    ensures len { length region.new ≡ length region.old }
+    ensures moved { drop count region.new ≡ take (length region.old - count) region.old }
+{
+    let mut left = region.len() - count;
+    'moves: while left >= BLOCK {
+        left -= BLOCK;
+        move_block(region, left, left + count);
+    }
+    region.copy_within(..left, count);
+}
+
+/// Moves the bytes behind the first by a count to the front. The first are written over.
+fn move_down(region: &mut [u8], count: usize)
+    requires { count ≤ length region.old }
+    ensures len { length region.new ≡ length region.old }
+    ensures moved { take (length region.old - count) region.new ≡ drop count region.old }
+{
+    let end = region.len() - count;
+    let mut moved = 0;
+    'moves: while end - moved >= BLOCK {
+        move_block(region, moved + count, moved);
+        moved += BLOCK;
+    }
+    region.copy_within(moved + count.., moved);
+}
+
+/// Copies a block of bytes.
+fn move_block(region: &mut [u8], from: usize, to: usize)
+    requires from { from + BLOCK ≤ length region.old }
+    requires to { to + BLOCK ≤ length region.old }
+    ensures { region.new ≡ overwritten region.old to (take BLOCK (drop from region.old)) }
+{
+    let mut block = [0; BLOCK];
+    block.copy_from_slice(&region[from..from + BLOCK]);
+    set_bytes(region, to, &block);
 }
