@@ -1,6 +1,6 @@
 //! A call under way at a seat, and what is kept for its entry in the journal.
 
-ghost use Rattle.std.specs.Prelude.{◌≡◌, ◌↔◌, ◌+◌, ◌≤◌, ◌++◌, IfErr, IfOk, IfSome, IsSome, IsTrue, None, Some, length, false, true, vec_capacity};
+ghost use Rattle.std.specs.Prelude.{◌≡◌, ◌↔◌, ◌+◌, ◌≤◌, ◌++◌, IfOk, IfSome, IsSome, IsTrue, None, OnErr, OnOk, Some, length, false, true, vec_capacity};
 ghost use Rattle.std.specs.Option.{is_some};
 ghost use Rattle.xsi_calls.specs.Machine.{IsNew, IsOver, answer_of_call, call_locks, conclusion_of};
 ghost use Rattle.interleaving_core.specs.Active.{BeginsAgain, HasBegun, HasRoomAs, decided_by, draft_by, drafted, entries_by, is_waiting, told_at_end};
@@ -19,6 +19,7 @@ use page_locks::LockTable;
 use queue_model::{Call, Caller, Entry, NoMemory};
 use std::alloc::Global;
 use std::marker::Model;
+use std::mem;
 use xsi_calls::{CallMachine, Conclusion};
 use xsi_inquiry::Room;
 
@@ -73,24 +74,20 @@ impl Model for Active {
 
 impl Active {
     /// A call of a caller begins while the journal has so many entries. All memory that it and its
-    /// entry can need is taken here. Where there is none the call comes back whole.
+    /// entry can need is taken here. Where there is none the call is left whole.
     pub(crate) fn begin(
         alloc: Global,
         caller: Caller,
-        call: Call,
+        call: &mut Call,
         many: usize,
-    ) -> Result<Active, Call>
-        ensures ok { IfOk result (HasBegun caller call many) }
-        ensures err { IfErr result (λ back. back ≡ call) }
+    ) -> Result<Active, NoMemory>
+        ensures ok { IfOk result (HasBegun caller call.old many) }
+        ensures err { OnErr result (call.new ≡ call.old) }
     {
-        let Ok(room) = Room::new(alloc, &call) else {
-            return Err(call);
-        };
-        let Ok(draft) = Draft::of(&call, &room) else {
-            return Err(call);
-        };
+        let room = Room::new(alloc, call)?;
+        let draft = Draft::of(call, &room)?;
         Ok(Active {
-            machine: CallMachine::new(caller, call, room),
+            machine: CallMachine::new(caller, take(call), room),
             draft: Some(draft),
             begun: many,
             decided: many,
@@ -103,19 +100,15 @@ impl Active {
         &mut self,
         alloc: Global,
         caller: Caller,
-        call: Call,
+        call: &mut Call,
         many: usize,
-    ) -> Result<(), Call>
-        ensures ok { IfOk result (λ _. HasBegun caller call many self.new) }
-        ensures err { IfErr result (λ back. back ≡ call) }
+    ) -> Result<(), NoMemory>
+        ensures ok { OnOk result (HasBegun caller call.old many self.new) }
+        ensures err { OnErr result (call.new ≡ call.old) }
     {
-        let Ok(room) = Room::new(alloc, &call) else {
-            return Err(call);
-        };
-        let Ok(draft) = Draft::of(&call, &room) else {
-            return Err(call);
-        };
-        self.machine.renew(caller, call, room);
+        let room = Room::new(alloc, call)?;
+        let draft = Draft::of(call, &room)?;
+        self.machine.renew(caller, take(call), room);
         self.draft = Some(draft);
         self.begun = many;
         self.decided = many;
@@ -263,6 +256,14 @@ impl Active {
             None => Step::Fault(StepFault::NoRoom),
         }
     }
+}
+
+/// The call moves out, and one of no meaning stays.
+#[inline(always)]
+fn take(call: &mut Call) -> Call
+    ensures { result ≡ call.old }
+{
+    mem::replace(call, Call::Stat { id: 0 })
 }
 
 /// How long the journal was at the Decide of a call; before that, how long it is.

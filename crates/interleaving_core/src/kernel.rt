@@ -226,9 +226,10 @@ impl<D: PageDevice + Drop, K: PseudoKey + Drop> Kernel<D, K> {
         let caller = self.callers[place];
         let many = self.journal.len();
         a_calls_numbers_fit(&call);
-        if let Err(call) = self.seats[place].begin(alloc, caller, call, many) {
+        let mut call = call;
+        let Ok(()) = self.seats[place].begin(alloc, caller, &mut call, many) else {
             return Err((call, BeginFault::NoMemory));
-        }
+        };
         Ok(())
     }
 

@@ -1,6 +1,6 @@
 //! A seat, and what comes of a step of its call.
 
-ghost use Rattle.std.specs.Prelude.{◌≡◌, ◌↔◌, ◌+◌, ◌≤◌, IfErr, IfOk, IfSome, IsTrue, None, length, option_map, vec_capacity};
+ghost use Rattle.std.specs.Prelude.{◌≡◌, ◌↔◌, ◌+◌, ◌≤◌, IfSome, IsTrue, None, OnErr, OnOk, length, option_map, vec_capacity};
 ghost use Rattle.std.specs.Borrow.{sem};
 ghost use Rattle.std.specs.Option.{option_copied_mut};
 ghost use Rattle.interleaving_core.specs.Active.{HasBegunAt};
@@ -20,7 +20,7 @@ use buffer_pool::Pool;
 use file_pages::FileFault;
 use page_device::PageDevice;
 use page_locks::LockTable;
-use queue_model::{Call, Caller, Entry};
+use queue_model::{Call, Caller, Entry, NoMemory};
 use std::alloc::Global;
 use std::marker::Model;
 use step_rules::Progress;
@@ -100,18 +100,18 @@ impl Seat {
     }
 
     /// A call of a caller begins while the journal has so many entries. All memory that it and its
-    /// entry can need is taken here. Where there is none the call comes back whole.
+    /// entry can need is taken here. Where there is none the call is left whole.
     pub(crate) fn begin(
         &mut self,
         alloc: Global,
         caller: Caller,
-        call: Call,
+        call: &mut Call,
         many: usize,
-    ) -> Result<(), Call>
+    ) -> Result<(), NoMemory>
         requires free { self.old ≡ None }
-        ensures ok { IfOk result (λ _. HasBegunAt caller call many self.new) }
-        ensures err { IfErr result (λ back. back ≡ call) }
-        ensures same { IfErr result (λ _. self.new ≡ None) }
+        ensures ok { OnOk result (HasBegunAt caller call.old many self.new) }
+        ensures err { OnErr result (call.new ≡ call.old) }
+        ensures same { OnErr result (self.new ≡ None) }
     {
         let Some(active) = &mut self.last else {
             return self.begin_first(alloc, caller, call, many);
@@ -128,13 +128,13 @@ impl Seat {
         &mut self,
         alloc: Global,
         caller: Caller,
-        call: Call,
+        call: &mut Call,
         many: usize,
-    ) -> Result<(), Call>
+    ) -> Result<(), NoMemory>
         requires free { self.old ≡ None }
-        ensures ok { IfOk result (λ _. HasBegunAt caller call many self.new) }
-        ensures err { IfErr result (λ back. back ≡ call) }
-        ensures same { IfErr result (λ _. self.new ≡ None) }
+        ensures ok { OnOk result (HasBegunAt caller call.old many self.new) }
+        ensures err { OnErr result (call.new ≡ call.old) }
+        ensures same { OnErr result (self.new ≡ None) }
     {
         self.last = Some(Active::begin(alloc, caller, call, many)?);
         self.is_busy = true;

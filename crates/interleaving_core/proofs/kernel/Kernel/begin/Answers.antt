@@ -14,8 +14,8 @@ use Rattle.interleaving_core.proofs.KernelLemmas.{seat_there, slot_here}
 use Rattle.interleaving_core.proofs.PlaceLemmas.{with_place}
 use Rattle.interleaving_core.proofs.kernel.Kernel.begin.Goals as goal
 
-pub returns-in-Err-clause-err : goal.returns-in-Err-clause-err
-returns-in-Err-clause-err g c =
+pub returns-in_default-begin-clause-err : goal.returns-in_default-begin-clause-err
+returns-in_default-begin-clause-err g c =
     let old : KernelState g.row.K.Denot = record {
       keys = c.self.inside.keys;
       pool = c.self.inside.pool;
@@ -52,10 +52,10 @@ returns-in-Err-clause-err g c =
     c.entries.ensures ∙ ap (λ (k : KernelState g.row.K.Denot). entries_of k) (sym c.self.view_is) in
     let made : new ≡ record old { room = new.room } =
     made_of old new.seats old.seats new.journal new.room
-    (same_seats old.seats c.args.seat c.begin.new.self is.0 free c.in-Err.ensures.same) c.in-Ok.ensures.items in
-    subst (λ (k : KernelState g.row.K.Denot). IsRefused c.args.seat c.args.call (c.in-Err.call, NoMemory) k new)
+    (same_seats old.seats c.args.seat c.begin.new.self is.0 free c.in_default-begin.ensures.same) c.in-Ok.ensures.items in
+    subst (λ (k : KernelState g.row.K.Denot). IsRefused c.args.seat c.args.call (c.begin.new.call, NoMemory) k new)
     c.self.view_is record {
-      back = c.in-Err.ensures.err;
+      back = c.in_default-begin.ensures.err;
       cause = (sym c.is_some.ensures ∙ c.if-is_some.false, free, λ full. omega (arith, full, few, same));
       same = made;
     }
@@ -99,7 +99,7 @@ invariant_of-self-2 g c =
     let (active, is_there, begun) =
     begun_at caller c.args.call (length old.journal) c.begin.new.self
     (subst (λ (n : ℕ). HasBegunAt caller c.args.call n c.begin.new.self) many
-    c.in_default-begin.ensures.ok) in
+    c.in-Ok-begin.ensures.ok) in
     let made : new ≡ record old {
       seats = with_call old.seats c.args.seat (Some active);
       room = new.room;
@@ -156,7 +156,7 @@ returns-clause-ok g c =
     let (active, is_there, begun) =
     begun_at caller c.args.call (length old.journal) c.begin.new.self
     (subst (λ (n : ℕ). HasBegunAt caller c.args.call n c.begin.new.self) many
-    c.in_default-begin.ensures.ok) in
+    c.in-Ok-begin.ensures.ok) in
     let made : new ≡ record old {
       seats = with_call old.seats c.args.seat (Some active);
       room = new.room;
