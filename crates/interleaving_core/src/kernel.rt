@@ -1,6 +1,6 @@
 //! The kernel.
 
-ghost use Rattle.std.specs.Prelude.{◌≡◌, ◌↔◌, ◌+◌, ◌*◌, ◌^◌, ◌≤◌, ◌<◌, Some, false, true, IsTrue, IsErrAnd, IfErr, IfOk, length, sum_by};
+ghost use Rattle.std.specs.Prelude.{◌≡◌, ◌↔◌, ◌+◌, ◌*◌, ◌^◌, ◌≤◌, ◌<◌, Some, false, true, IsTrue, IsErrAnd, IfErr, IfOk, OnOk, length, sum_by};
 ghost use Rattle.std.specs.List.{list_any};
 ghost use Rattle.page_device.specs.Device.{HasRisen};
 ghost use Rattle.interleaving_core.specs.Active.{ActiveView};
@@ -209,26 +209,41 @@ impl<D: PageDevice + Drop, K: PseudoKey + Drop> Kernel<D, K> {
         ensures ok { IfOk result (λ _. HasCall seat call self.old self.new) }
         ensures err { IfErr result (λ back. IsRefused seat call back self.old self.new) }
     {
+        let mut call = call;
+        match self.begin_lent(seat, &mut call) {
+            Ok(()) => Ok(()),
+            Err(fault) => Err((call, fault)),
+        }
+    }
+
+    /// The same of a call that is lent, and moves to its seat at once: a call is large. One that is
+    /// refused is left as it was, and of any other nothing is left.
+    #[inline(always)]
+    pub fn begin_lent(&mut self, seat: u8, call: &mut Call) -> Result<(), BeginFault>
+        requires { IsSeat self.old.locks seat }
+        ensures ok { OnOk result (HasCall seat call.old self.old self.new) }
+        ensures err { IfErr result (λ fault.
+            IsRefused seat call.old (call.new, fault) self.old self.new) }
+    {
         if self.failure.is_some() {
-            return Err((call, BeginFault::Failed));
+            return Err(BeginFault::Failed);
         }
         let place = seat as usize - 1;
         if self.seats[place].has_call() {
-            return Err((call, BeginFault::Busy));
+            return Err(BeginFault::Busy);
         }
         if self.entries() > MAX_DECIDED {
-            return Err((call, BeginFault::SessionFull));
+            return Err(BeginFault::SessionFull);
         }
         let Ok(()) = self.journal.reserve(self.seats.len() + 1) else {
-            return Err((call, BeginFault::NoMemory));
+            return Err(BeginFault::NoMemory);
         };
         let alloc: Global = *self.journal.allocator();
         let caller = self.callers[place];
         let many = self.journal.len();
-        a_calls_numbers_fit(&call);
-        let mut call = call;
-        let Ok(()) = self.seats[place].begin(alloc, caller, &mut call, many) else {
-            return Err((call, BeginFault::NoMemory));
+        a_calls_numbers_fit(call);
+        let Ok(()) = self.seats[place].begin(alloc, caller, call, many) else {
+            return Err(BeginFault::NoMemory);
         };
         Ok(())
     }

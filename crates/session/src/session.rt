@@ -19,7 +19,6 @@ use page_device::{MemDevice, Page, PageDevice};
 use queue_model::{Answer, Call, Caller};
 use std::alloc::Global;
 use std::marker::Model;
-use std::mem;
 
 /// How the keys of a file are spread over its buckets: by digests, which are kept for their next
 /// use.
@@ -202,8 +201,7 @@ impl<D: PageDevice + Drop> Session<D> {
         a_refusal_leaves_a_kernel_at_rest::<FileKeys>();
         a_lone_call_is_answered_by_the_rules::<FileKeys>();
         self.kernel.is_whole();
-        let made = mem::replace(call, Call::Stat { id: 0 });
-        if let Err((_, fault)) = self.kernel.begin(SEAT, made) {
+        if let Err(fault) = self.kernel.begin_lent(SEAT, call) {
             return Err(Unanswered::of(fault));
         }
         let told = self.kernel.drive(SEAT);

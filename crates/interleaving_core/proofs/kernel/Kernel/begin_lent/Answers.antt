@@ -12,7 +12,7 @@ use Rattle.interleaving_core.specs.declared.kernel.TheConstants.{MAX_DECIDED}
 use Rattle.interleaving_core.proofs.BeginLemmas.{begun_at, caller_there, has_call, made_of, no_call, same_seats, whole_begun}
 use Rattle.interleaving_core.proofs.KernelLemmas.{seat_there, slot_here}
 use Rattle.interleaving_core.proofs.PlaceLemmas.{with_place}
-use Rattle.interleaving_core.proofs.kernel.Kernel.begin.Goals as goal
+use Rattle.interleaving_core.proofs.kernel.Kernel.begin_lent.Goals as goal
 
 pub returns-in_default-begin-clause-err : goal.returns-in_default-begin-clause-err
 returns-in_default-begin-clause-err g c =
@@ -53,7 +53,7 @@ returns-in_default-begin-clause-err g c =
     let made : new ≡ record old { room = new.room } =
     made_of old new.seats old.seats new.journal new.room
     (same_seats old.seats c.args.seat c.begin.new.self is.0 free c.in_default-begin.ensures.same) c.in-Ok.ensures.items in
-    subst (λ (k : KernelState g.row.K.Denot). IsRefused c.args.seat c.args.call (c.begin.new.call, NoMemory) k new)
+    subst (λ (k : KernelState g.row.K.Denot). IsRefused c.args.seat c.args.call.now (c.begin.new.call, NoMemory) k new)
     c.self.view_is record {
       back = c.in_default-begin.ensures.err;
       cause = (sym c.is_some.ensures ∙ c.if-is_some.false, free, λ full. omega (arith, full, few, same));
@@ -97,8 +97,8 @@ invariant_of-self-2 g c =
     let caller = c.index-caller.result.now in
     let many : c.len-many.result ≡ length old.journal = grind (arith, common_steps) in
     let (active, is_there, begun) =
-    begun_at caller c.args.call (length old.journal) c.begin.new.self
-    (subst (λ (n : ℕ). HasBegunAt caller c.args.call n c.begin.new.self) many
+    begun_at caller c.args.call.now (length old.journal) c.begin.new.self
+    (subst (λ (n : ℕ). HasBegunAt caller c.args.call.now n c.begin.new.self) many
     c.in-Ok-begin.ensures.ok) in
     let made : new ≡ record old {
       seats = with_call old.seats c.args.seat (Some active);
@@ -111,7 +111,7 @@ invariant_of-self-2 g c =
     c.index-caller.ensures in
     let memory : length old.journal + (length old.seats + 1) ≤ vec_capacity c.reserve.new.self =
     grind (arith, common_steps) in
-    whole_begun c.args.seat caller c.args.call active old new c.self.invariant is free sits begun made memory
+    whole_begun c.args.seat caller c.args.call.now active old new c.self.invariant is free sits begun made memory
     (subst (λ (n : ℕ). n ≤ MAX_DECIDED)
     (c.entries.ensures ∙ ap (λ (k : KernelState g.row.K.Denot). entries_of k) (sym c.self.view_is)) few)
 
@@ -154,8 +154,8 @@ returns-clause-ok g c =
     let caller = c.index-caller.result.now in
     let many : c.len-many.result ≡ length old.journal = grind (arith, common_steps) in
     let (active, is_there, begun) =
-    begun_at caller c.args.call (length old.journal) c.begin.new.self
-    (subst (λ (n : ℕ). HasBegunAt caller c.args.call n c.begin.new.self) many
+    begun_at caller c.args.call.now (length old.journal) c.begin.new.self
+    (subst (λ (n : ℕ). HasBegunAt caller c.args.call.now n c.begin.new.self) many
     c.in-Ok-begin.ensures.ok) in
     let made : new ≡ record old {
       seats = with_call old.seats c.args.seat (Some active);
@@ -171,5 +171,5 @@ returns-clause-ok g c =
       free = free;
       few = λ full. omega (arith, full, few, same);
     } in
-    subst (λ (k : KernelState g.row.K.Denot). HasCall c.args.seat c.args.call k new) c.self.view_is
-    (has_call c.args.seat caller c.args.call active old new may sits c.a_calls_numbers_fit.ensures begun made)
+    subst (λ (k : KernelState g.row.K.Denot). HasCall c.args.seat c.args.call.now k new) c.self.view_is
+    (has_call c.args.seat caller c.args.call.now active old new may sits c.a_calls_numbers_fit.ensures begun made)
