@@ -228,8 +228,3 @@ module _ (answers : AnswersLoneCalls ShaKey) (call : Call) (old begun last : Ses
           ends = subst (λ (b : Bool). EndsDriven b did (came_of did) last last) (sym over) (refl, refl);
         }))
         (λ s holds. becomes_so s holds did refl over) (λ s holds waits. absurd (comes_of did over waits))
-
--- a call that was taken out of where it was lent
-pub of_lent : (made call left : Call) (result : Result Answer Unanswered) (old new : SessionState) → made ≡ call →
-    MakesLent made left result old new → MakesLent call left result old new
-of_lent made call left result old new same lent = subst (λ (x : Call). MakesLent x left result old new) same lent
