@@ -1,15 +1,15 @@
 -- A walk over the bytes of records for a key.
-use Rattle.std.proofs.Common.{◌≡◌, ℕ, zero, suc, ◌+◌, ◌<◌, ◌≤◌, true, false, Option, Some, None, List, ◌∷◌, length, drop, refl, sym, ap, subst, ◌∙◌, arith}
+use Rattle.std.proofs.Common.{◌≡◌, ℕ, zero, suc, ◌+◌, ◌<◌, ◌≤◌, ◌≢◌, ◌^◌, true, false, Option, Some, None, List, ◌∷◌, length, drop, refl, sym, ap, subst, ◌∙◌, arith}
 use Rattle.std.proofs.lemmas.Bool.{eqb-true}
 use Rattle.std.proofs.lemmas.Bool.Decides.{nat_tests}
 use Rattle.std.proofs.lemmas.List.{drop-drop, length-drop, length-take}
 use Rattle.directory.specs.numbers.Numbers.{two_at}
 use Rattle.bucket_page.specs.declared.record_key.RecordKey.{RecordKey}
-use Rattle.bucket_page.specs.Keys.{is_beside, is_same, is_below}
+use Rattle.bucket_page.specs.Keys.{is_beside, is_same, is_below, owner_of}
 use Rattle.bucket_page.specs.Records.{Pair, pair_at, after_pair, pairs_of, begins, fills, record_bytes, ascend, lookup}
 use Rattle.bucket_page.specs.Changes.{below, place_in}
 use Rattle.bucket_page.specs.declared.place.Place.{Place}
-use Rattle.bucket_page.proofs.KeyLaws.{below_other}
+use Rattle.bucket_page.proofs.KeyLaws.{below_other, of_lower, of_owner}
 use Rattle.bucket_page.proofs.OrderLaws.{lookup_on, none_from}
 use Rattle.bucket_page.proofs.Steps.{begins_within, length-cons}
 use Rattle.directory.proofs.of_numbers.Tests.{both_true}
@@ -36,26 +36,19 @@ begun key n bytes filled order =
       walked = record { filled = filled; ascends = order; same = refl; passed = omega arith };
     }
 
--- the walk stands before a record of this key
-pub record Meets (key : RecordKey) (all : List Pair) (bytes rest : List ℕ) (at : ℕ) (found : RecordKey) : Type 0 where
+-- the walk stands before a record
+pub record Meets (key : RecordKey) (all : List Pair) (bytes rest : List ℕ) (at : ℕ) : Type 0 where
   pub is : IsAt key all bytes at
   pub more : at < length bytes
   pub rest_is : rest ≡ drop at bytes
-  pub found_is : found ≡ (pair_at rest).key
 
-pub meets : (key : RecordKey) (all : List Pair) (bytes rest : List ℕ) (at : ℕ) (found : RecordKey)
-    → IsAt key all bytes at → at < length bytes → rest ≡ drop at bytes → found ≡ (pair_at rest).key
-    → Meets key all bytes rest at found
-meets key all bytes rest at found is more rest-is found-is =
-    record { is = is; more = more; rest_is = rest-is; found_is = found-is }
+some_left : (key : RecordKey) (all : List Pair) (bytes rest : List ℕ) (at : ℕ)
+    → Meets key all bytes rest at → 0 < length rest
+some_left key all bytes rest at m = omega (arith, m.more, ap length m.rest_is, length-drop at bytes)
 
-some_left : (key : RecordKey) (all : List Pair) (bytes rest : List ℕ) (at : ℕ) (found : RecordKey)
-    → Meets key all bytes rest at found → 0 < length rest
-some_left key all bytes rest at found m = omega (arith, m.more, ap length m.rest_is, length-drop at bytes)
-
-walked_to : (key : RecordKey) (all : List Pair) (bytes rest : List ℕ) (at : ℕ) (found : RecordKey)
-    → (m : Meets key all bytes rest at found) → IsWalked key all at m.is.count rest
-walked_to key all bytes rest at found m = subst (IsWalked key all at m.is.count) (sym m.rest_is) m.is.walked
+walked_to : (key : RecordKey) (all : List Pair) (bytes rest : List ℕ) (at : ℕ)
+    → (m : Meets key all bytes rest at) → IsWalked key all at m.is.count rest
+walked_to key all bytes rest at m = subst (IsWalked key all at m.is.count) (sym m.rest_is) m.is.walked
 
 -- where bytes are left, a record begins
 begins_by : (count : ℕ) (rest : List ℕ) → fills count rest ≡ true → 0 < length rest → begins rest ≡ true
@@ -106,13 +99,12 @@ passes_by key all bytes rest at (suc n) rest-is is more some under =
       walked = subst (IsWalked key all (at + (15 + len)) n) (sym next) (passed_by key all at n rest is under);
     }
 
-pub passes : (key : RecordKey) (all : List Pair) (bytes rest : List ℕ) (at len : ℕ) (found : RecordKey)
-    → Meets key all bytes rest at found → len ≡ 15 + two_at 0 rest → is_below found key ≡ true
-    → IsAt key all bytes (at + len)
-passes key all bytes rest at len found m len-is under =
+passes : (key : RecordKey) (all : List Pair) (bytes rest : List ℕ) (at len : ℕ) → Meets key all bytes rest at
+    → len ≡ 15 + two_at 0 rest → is_below (pair_at rest).key key ≡ true → IsAt key all bytes (at + len)
+passes key all bytes rest at len m len-is under =
     subst (λ (n : ℕ). IsAt key all bytes (at + n)) (sym len-is)
-    (passes_by key all bytes rest at m.is.count m.rest_is (walked_to key all bytes rest at found m) m.more
-    (some_left key all bytes rest at found m) (ap (λ (k : RecordKey). is_below k key) (sym m.found_is) ∙ under))
+    (passes_by key all bytes rest at m.is.count m.rest_is (walked_to key all bytes rest at m) m.more
+    (some_left key all bytes rest at m) under)
 
 -- ---- where it stops
 
@@ -174,55 +166,93 @@ over_key : (a b : RecordKey) → is_beside a b ≡ true → b.number < a.number
 unfolding is_below
 over_key a b beside over = (grind (arith, nat_tests), grind (arith, nat_tests))
 
-pub apart_key : (a b : RecordKey) → is_beside a b ≡ false → is_below a b ≡ false → is_below b a ≡ true
-unfolding is_below
-apart_key a b apart over = grind (arith, nat_tests)
-
-pub near_key : (a b : RecordKey) → is_beside a b ≡ true → a.number < b.number → is_below a b ≡ true
+near_key : (a b : RecordKey) → is_beside a b ≡ true → a.number < b.number → is_below a b ≡ true
 unfolding is_below
 near_key a b beside low = grind (arith, nat_tests)
 
-pub own : (key : RecordKey) (all : List Pair) (bytes rest : List ℕ) (at : ℕ) (found : RecordKey) (told : List ℕ)
-    → Meets key all bytes rest at found → told ≡ (pair_at rest).value → is_beside found key ≡ true
-    → key.number ≤ found.number → found.number ≤ key.number → IsFound key all at (Some told)
-own key all bytes rest at found told m told-is beside low high =
-    let some = some_left key all bytes rest at found m in
-    let walked = walked_to key all bytes rest at found m in
-    let its = own_key found key beside low high in
-    let over = ap (λ (k : RecordKey). is_below k key) (sym m.found_is) ∙ its.0 in
-    let same = ap (λ (k : RecordKey). is_same k key) (sym m.found_is) ∙ its.1 in
+-- a walk stands before a record, whose owner was read
+pub record Reads (key : RecordKey) (all : List Pair) (bytes rest : List ℕ) (at found owner : ℕ) : Type 0 where
+  pub meets : Meets key all bytes rest at
+  pub found_is : found ≡ owner_of (pair_at rest).key
+  pub owner_is : owner ≡ owner_of key
+  pub small : (pair_at rest).key.queue < 2 ^ 32
+  pub fits : key.queue < 2 ^ 32
+
+pub reads : (key : RecordKey) (all : List Pair) (bytes rest : List ℕ) (at found owner : ℕ) → IsAt key all bytes at
+    → at < length bytes → rest ≡ drop at bytes → found ≡ owner_of (pair_at rest).key → (pair_at rest).key.queue < 2 ^ 32
+    → owner ≡ owner_of key → key.queue < 2 ^ 32 → Reads key all bytes rest at found owner
+reads key all bytes rest at found owner is more rest-is found-is small owner-is fits =
+    record {
+      meets = record { is = is; more = more; rest_is = rest-is };
+      found_is = found-is;
+      owner_is = owner-is;
+      small = small;
+      fits = fits;
+    }
+
+beside_by : (key : RecordKey) (all : List Pair) (bytes rest : List ℕ) (at found owner : ℕ)
+    → Reads key all bytes rest at found owner → found ≡ owner → is_beside (pair_at rest).key key ≡ true
+beside_by key all bytes rest at found owner r same =
+    of_owner (pair_at rest).key key r.small r.fits (sym r.found_is ∙ same ∙ r.owner_is)
+
+-- the key's own record
+pub own : (key : RecordKey) (all : List Pair) (bytes rest : List ℕ) (at found owner number : ℕ) (told : List ℕ)
+    → Reads key all bytes rest at found owner → found ≡ owner → number ≡ (pair_at rest).key.number
+    → key.number ≤ number → number ≤ key.number → told ≡ (pair_at rest).value → IsFound key all at (Some told)
+own key all bytes rest at found owner number told r same number-is low high told-is =
+    let m = r.meets in
+    let some = some_left key all bytes rest at m in
+    let walked = walked_to key all bytes rest at m in
+    let its = own_key (pair_at rest).key key (beside_by key all bytes rest at found owner r same)
+    (omega (arith, number-is, low)) (omega (arith, number-is, high)) in
+    let stands = stands_by key all at m.is.count rest walked some its.0 in
+    record {
+      place = λ i. record { key = key; at = stands i };
+      value = own_by key all at m.is.count rest walked some its.1 ∙ ap (λ (v : List ℕ). Some v) (sym told-is);
+    }
+
+above : (key : RecordKey) (all : List Pair) (bytes rest : List ℕ) (at : ℕ)
+    → Meets key all bytes rest at → is_below (pair_at rest).key key ≡ false → is_below key (pair_at rest).key ≡ true
+    → IsFound key all at None
+above key all bytes rest at m over under =
+    let some = some_left key all bytes rest at m in
+    let walked = walked_to key all bytes rest at m in
     let stands = stands_by key all at m.is.count rest walked some over in
     record {
       place = λ i. record { key = key; at = stands i };
-      value = own_by key all at m.is.count rest walked some same ∙ ap (λ (v : List ℕ). Some v) (sym told-is);
+      value = above_by key all at m.is.count rest walked some under;
     }
 
--- a record that is not below the key stops it at the place of the key
-pub stops : (key : RecordKey) (all : List Pair) (bytes rest : List ℕ) (at : ℕ) (found : RecordKey)
-    → Meets key all bytes rest at found → is_below found key ≡ false
-    → ◌≡◌ {A = Place} (record { key = key; at = at }) (place_in key all)
-stops key all bytes rest at found m over =
-    let its = ap (λ (k : RecordKey). is_below k key) (sym m.found_is) ∙ over in
-    let stands = stands_by key all at m.is.count rest (walked_to key all bytes rest at found m)
-    (some_left key all bytes rest at found m) its in
-    λ i. record { key = key; at = stands i }
+-- a record of the same owner with a greater number
+pub beside_above : (key : RecordKey) (all : List Pair) (bytes rest : List ℕ) (at found owner number : ℕ)
+    → Reads key all bytes rest at found owner → found ≡ owner → number ≡ (pair_at rest).key.number
+    → key.number < number → IsFound key all at None
+beside_above key all bytes rest at found owner number r same number-is over =
+    let its = over_key (pair_at rest).key key (beside_by key all bytes rest at found owner r same)
+    (omega (arith, number-is, over)) in
+    above key all bytes rest at r.meets its.0 its.1
 
-pub above : (key : RecordKey) (all : List Pair) (bytes rest : List ℕ) (at : ℕ) (found : RecordKey)
-    → Meets key all bytes rest at found → is_below found key ≡ false → is_below key found ≡ true
-    → IsFound key all at None
-above key all bytes rest at found m over under =
-    let some = some_left key all bytes rest at found m in
-    let walked = walked_to key all bytes rest at found m in
-    let its = ap (λ (k : RecordKey). is_below k key) (sym m.found_is) ∙ over in
-    let stands = stands_by key all at m.is.count rest walked some its in
-    record {
-      place = λ i. record { key = key; at = stands i };
-      value = above_by key all at m.is.count rest walked some (ap (is_below key) (sym m.found_is) ∙ under);
-    }
+-- a record of a greater owner
+pub owner_above : (key : RecordKey) (all : List Pair) (bytes rest : List ℕ) (at found owner : ℕ)
+    → Reads key all bytes rest at found owner → owner < found → IsFound key all at None
+owner_above key all bytes rest at found owner r over =
+    let its = of_lower key (pair_at rest).key r.fits r.small (omega (arith, over, r.found_is, r.owner_is)) in
+    above key all bytes rest at r.meets its.1 its.0
 
-pub beside_above : (key : RecordKey) (all : List Pair) (bytes rest : List ℕ) (at : ℕ) (found : RecordKey)
-    → Meets key all bytes rest at found → is_beside found key ≡ true → key.number < found.number
-    → IsFound key all at None
-beside_above key all bytes rest at found m beside over =
-    let its = over_key found key beside over in
-    above key all bytes rest at found m its.0 its.1
+-- a record below the key is passed: its number is lower, or its owner
+pub passes_number : (key : RecordKey) (all : List Pair) (bytes rest : List ℕ) (at found owner number len : ℕ)
+    → Reads key all bytes rest at found owner → found ≡ owner → number ≡ (pair_at rest).key.number
+    → number < key.number → len ≡ 15 + two_at 0 rest → IsAt key all bytes (at + len)
+passes_number key all bytes rest at found owner number len r same number-is low len-is =
+    passes key all bytes rest at len r.meets len-is
+    (near_key (pair_at rest).key key (beside_by key all bytes rest at found owner r same)
+    (omega (arith, number-is, low)))
+
+pub passes_owner : (key : RecordKey) (all : List Pair) (bytes rest : List ℕ) (at found owner len : ℕ)
+    → Reads key all bytes rest at found owner → found ≢ owner → found ≤ owner → len ≡ 15 + two_at 0 rest
+    → IsAt key all bytes (at + len)
+passes_owner key all bytes rest at found owner len r other low len-is =
+    let lower : owner_of (pair_at rest).key < owner_of key =
+    omega (arith, other, low, r.found_is, r.owner_is) in
+    passes key all bytes rest at len r.meets len-is
+    (of_lower (pair_at rest).key key r.small r.fits lower).0

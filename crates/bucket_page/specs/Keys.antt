@@ -1,5 +1,5 @@
 -- Keys of records: their bytes and their order.
-use Rattle.std.specs.Prelude.{ℕ, ◌<◌, ◌^◌, ◌==◌, nat_lt, Bool, ◌&&◌, ◌||◌, List, ◌∷◌, ◌++◌, slice_index}
+use Rattle.std.specs.Prelude.{ℕ, ◌+◌, ◌*◌, ◌<◌, ◌^◌, ◌==◌, nat_lt, Bool, ◌&&◌, ◌||◌, List, ◌∷◌, ◌++◌, slice_index}
 use Rattle.bucket_page.specs.declared.record_key.RecordKey.{RecordKey}
 use Rattle.directory.specs.numbers.Numbers.{four, eight, four_at, eight_at}
 
@@ -28,6 +28,10 @@ is_same a b = a.kind == b.kind && (a.queue == b.queue && a.number == b.number)
 -- two keys are of one kind and of one queue
 abbrev pub is_beside : RecordKey → RecordKey → Bool
 is_beside a b = a.kind == b.kind && a.queue == b.queue
+
+-- the kind and the queue of a key as one number, which its five upper bytes spell
+unfoldable pub owner_of : RecordKey → ℕ
+owner_of k = k.kind * 2 ^ 32 + k.queue
 
 -- the order of keys: by kind, then by queue, then by number
 unfoldable pub is_below : RecordKey → RecordKey → Bool

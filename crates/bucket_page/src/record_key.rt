@@ -1,8 +1,8 @@
 //! Keys of records, and their thirteen bytes.
 
-ghost use Rattle.std.specs.Prelude.{◌≡◌, ◌≤◌, length, true, IsTrue, ◌↔◌};
+ghost use Rattle.std.specs.Prelude.{◌≡◌, ◌<◌, ◌≤◌, ◌^◌, length, true, IsTrue, ◌↔◌};
 ghost use Rattle.directory.specs.numbers.Numbers.{four, eight};
-ghost use Rattle.bucket_page.specs.Keys.{IsKey, key_bytes, key_at, is_below, is_beside};
+ghost use Rattle.bucket_page.specs.Keys.{IsKey, key_bytes, key_at, is_below, owner_of};
 
 use directory::fields::{eight_at, four_at, write_eight, write_four};
 
@@ -52,11 +52,13 @@ impl RecordKey {
         self.number < other.number
     }
 
-    /// Whether another key is of the same kind and of the same queue.
-    pub(crate) fn is_beside(&self, other: &RecordKey) -> bool
-        ensures { result ≡ is_beside self.now other.now }
+    /// The kind and the queue as one number.
+    #[tactic(auto, unfolding(crate::specs::Keys::owner_of))]
+    pub(crate) fn owner(&self) -> u64
+        ensures value { result ≡ owner_of self.now }
+        ensures small { self.now.queue < 2 ^ 32 }
     {
-        self.kind == other.kind && self.queue == other.queue
+        u64::from(self.kind) * (1 << 32) + u64::from(self.queue)
     }
 
     /// The numbers of each key fit their bytes.
@@ -83,6 +85,24 @@ pub fn key_at(bytes: &[u8]) -> RecordKey
         queue: four_at(bytes, 1),
         number: eight_at(bytes, 5),
     }
+}
+
+/// The kind and the queue of the key that stands first, as one number: its five upper bytes.
+pub(crate) fn owner_at(bytes: &[u8]) -> u64
+    requires { KEY_BYTES ≤ length bytes.now }
+    ensures value { result ≡ owner_of (key_at bytes.now) }
+    ensures small { (key_at bytes.now).queue < 2 ^ 32 }
+{
+    eight_at(bytes, 0) / (1 << 24)
+}
+
+/// The number of the key that stands first.
+#[tactic(auto, unfolding(crate::specs::Keys::key_at))]
+pub(crate) fn number_at(bytes: &[u8]) -> u64
+    requires { KEY_BYTES ≤ length bytes.now }
+    ensures { result ≡ (key_at bytes.now).number }
+{
+    eight_at(bytes, 5)
 }
 
 /// Writes a key's bytes.

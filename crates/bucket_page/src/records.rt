@@ -1,14 +1,14 @@
 //! Records one after the other, lent by the bytes that hold them.
 
-ghost use Rattle.std.specs.Prelude.{◌≡◌, true, false, length, ◌<◌, ◌+◌, ◌≤◌, IfSome, IfNone, Some, None};
-ghost use Rattle.bucket_page.specs.Keys.{is_below};
+ghost use Rattle.std.specs.Prelude.{◌≡◌, true, false, length, ◌<◌, ◌+◌, ◌≤◌, ◌^◌, IfSome, IfNone, Some, None};
+ghost use Rattle.bucket_page.specs.Keys.{is_below, owner_of};
 ghost use Rattle.bucket_page.specs.Records.{Pair, pair_at, after_pair, pairs_of, begins, fills, record_bytes, lookup, ascend, is_above};
 ghost use Rattle.bucket_page.specs.Changes.{place_in};
 ghost use Rattle.directory.specs.numbers.Numbers.{two_at};
 
 use crate::layout::RECORD_HEAD_BYTES;
 use crate::place::{Place, Sought};
-use crate::record_key::{RecordKey, key_at};
+use crate::record_key::{RecordKey, key_at, number_at, owner_at};
 use directory::fields::two_at;
 use std::marker::Model;
 
@@ -107,22 +107,25 @@ impl<'a> Records<'a> {
         ensures none { IfNone result.value (lookup key.now self.now ≡ None) }
     {
         let bytes = self.bytes;
+        let owner = key.owner();
         let mut at = 0;
         'walk: while at < bytes.len() {
             let (_, rest) = bytes.split_at(at);
-            let found = first_key(rest);
-            if found.is_beside(key) && found.number >= key.number {
-                let place = Place { key: *key, at };
-                if found.number > key.number {
-                    return Sought { place, value: None };
+            let found = first_owner(rest);
+            if found == owner {
+                let number = first_number(rest);
+                if number >= key.number {
+                    let place = Place { key: *key, at };
+                    if number > key.number {
+                        return Sought { place, value: None };
+                    }
+                    let (record, _) = split_record(rest);
+                    return Sought {
+                        place,
+                        value: Some(record.value),
+                    };
                 }
-                let (record, _) = split_record(rest);
-                return Sought {
-                    place,
-                    value: Some(record.value),
-                };
-            }
-            if !found.is_below(key) {
+            } else if found > owner {
                 let place = Place { key: *key, at };
                 return Sought { place, value: None };
             }
@@ -167,12 +170,21 @@ fn begins(bytes: &[u8]) -> bool
         && two_at(bytes, 0) as usize <= bytes[RECORD_HEAD_BYTES..].len()
 }
 
-/// The key of the record that stands first.
-fn first_key(bytes: &[u8]) -> RecordKey
+/// The kind and the queue of the key of the record that stands first.
+fn first_owner(bytes: &[u8]) -> u64
     requires { begins bytes.now ≡ true }
-    ensures { result ≡ (pair_at bytes.now).key }
+    ensures value { result ≡ owner_of (pair_at bytes.now).key }
+    ensures small { (pair_at bytes.now).key.queue < 2 ^ 32 }
 {
-    key_at(&bytes[2..])
+    owner_at(&bytes[2..])
+}
+
+/// The number of its key.
+fn first_number(bytes: &[u8]) -> u64
+    requires { begins bytes.now ≡ true }
+    ensures { result ≡ (pair_at bytes.now).key.number }
+{
+    number_at(&bytes[2..])
 }
 
 /// The bytes of the record that stands first.

@@ -1,9 +1,8 @@
-use Rattle.std.proofs.Common.{◌≡◌, ◌<◌, true, List, length, sym, ap, subst, ◌∙◌, arith, rules}
-use Rattle.bucket_page.specs.Keys.{is_below}
+use Rattle.std.proofs.Common.{◌+◌, ◌<◌, List, length, ap, subst, ◌∙◌, arith, rules}
 use Rattle.bucket_page.specs.Records.{Pair, ascend}
-use Rattle.bucket_page.proofs.SeekLaws.{IsAt, above, apart_key, begins_there, begun, beside_above, ends, meets, near_key, own, passes, stops}
+use Rattle.bucket_page.proofs.SeekLaws.{IsAt, begins_there, beside_above, begun, ends, own, owner_above, passes_number, passes_owner, reads}
 use Rattle.bucket_page.proofs.records.Records.seek.Goals as goal
-use Rattle.bucket_page.proofs.records.Records.seek.Goals.{else-is_beside-via-then-is_beside+else-found-key, else-is_beside-via-else-is_beside}
+use Rattle.bucket_page.proofs.records.Records.seek.Goals.{then-found-owner+else-number-key, else-found-owner+else-found-owner-2}
 
 pub walk-init : goal.walk-init
 walk-init c =
@@ -12,8 +11,12 @@ walk-init c =
     ∙ c.requires))
 
 -- a record begins where the walk stands
-pub first_key-found-requires : goal.first_key-found-requires
-first_key-found-requires c =
+pub first_owner-found-requires : goal.first_owner-found-requires
+first_owner-found-requires c =
+    begins_there _ _ _ _ _ c.walk.invariant (omega (arith, c.walk-test.true)) c.split_at.ensures.back
+
+pub first_number-number-requires : goal.first_number-number-requires
+first_number-number-requires c =
     begins_there _ _ _ _ _ c.walk.invariant (omega (arith, c.walk-test.true)) c.split_at.ensures.back
 
 pub split_record-requires : goal.split_record-requires
@@ -27,69 +30,81 @@ first_len-at-requires c =
 -- a record below the key is passed
 pub overflow_add-at : goal.overflow_add-at
 overflow_add-at c =
-    let m = meets _ _ _ _ _ _ c.walk.invariant (omega (arith, c.walk-test.true)) c.split_at.ensures.back
-    c.first_key-found.ensures in
-    let next = passes _ _ _ _ _ _ _ m c.first_len-at.ensures
-    (sym c.is_below.ensures ∙ c.if-not-is_below.false) in
+    let r = reads _ _ _ _ _ _ _ c.walk.invariant (omega (arith, c.walk-test.true)) c.split_at.ensures.back
+    c.first_owner-found.ensures.value c.first_owner-found.ensures.small c.owner-owner.ensures.value
+    c.owner-owner.ensures.small in
+    let next : IsAt c.args.key.now c.args.self.now c.self.inside.bytes.now (c.walk.at + c.first_len-at.result) =
+    elim c.if-found-owner.branch [
+      | then-found-owner+else-number-key w ↦
+          passes_number _ _ _ _ _ _ _ _ _ r w.if-found-owner.true w.first_number-number.ensures
+          w.if-number-key.false c.first_len-at.ensures
+      | else-found-owner+else-found-owner-2 w ↦
+          passes_owner _ _ _ _ _ _ _ _ r w.if-found-owner.false w.if-found-owner-2.false c.first_len-at.ensures
+    ] in
     let short : length c.self.inside.bytes.now < 18446744073709551616 = search rules in
     omega (arith, next.within, short)
 
 pub walk-preserved : goal.walk-preserved
 walk-preserved c =
-    let m = meets _ _ _ _ _ _ c.walk.invariant (omega (arith, c.walk-test.true)) c.split_at.ensures.back
-    c.first_key-found.ensures in
-    passes _ _ _ _ _ _ _ m c.first_len-at.ensures (sym c.is_below.ensures ∙ c.if-not-is_below.false)
+    let r = reads _ _ _ _ _ _ _ c.walk.invariant (omega (arith, c.walk-test.true)) c.split_at.ensures.back
+    c.first_owner-found.ensures.value c.first_owner-found.ensures.small c.owner-owner.ensures.value
+    c.owner-owner.ensures.small in
+    elim c.if-found-owner.branch [
+      | then-found-owner+else-number-key w ↦
+          passes_number _ _ _ _ _ _ _ _ _ r w.if-found-owner.true w.first_number-number.ensures
+          w.if-number-key.false c.first_len-at.ensures
+      | else-found-owner+else-found-owner-2 w ↦
+          passes_owner _ _ _ _ _ _ _ _ r w.if-found-owner.false w.if-found-owner-2.false c.first_len-at.ensures
+    ]
 
 -- the key's own record
-pub returns-then-found-key-clause-place : goal.returns-then-found-key-clause-place
-returns-then-found-key-clause-place c =
-    let m = meets _ _ _ _ _ _ c.walk.invariant (omega (arith, c.walk-test.true)) c.split_at.ensures.back
-    c.first_key-found.ensures in
-    (own _ _ _ _ _ _ _ m c.split_record.ensures.value (sym c.is_beside.ensures ∙ c.if-is_beside.true)
-    (omega (arith, c.if-found-key.true)) (omega (arith, c.if-found-key-2.false))).place
+pub returns-then-number-key-clause-place : goal.returns-then-number-key-clause-place
+returns-then-number-key-clause-place c =
+    let r = reads _ _ _ _ _ _ _ c.walk.invariant (omega (arith, c.walk-test.true)) c.split_at.ensures.back
+    c.first_owner-found.ensures.value c.first_owner-found.ensures.small c.owner-owner.ensures.value
+    c.owner-owner.ensures.small in
+    (own _ _ _ _ _ _ _ _ _ r c.if-found-owner.true c.first_number-number.ensures c.if-number-key.true
+    c.if-number-key-2.false c.split_record.ensures.value).place
 
-pub returns-then-found-key-clause-some : goal.returns-then-found-key-clause-some
-returns-then-found-key-clause-some c =
-    let m = meets _ _ _ _ _ _ c.walk.invariant (omega (arith, c.walk-test.true)) c.split_at.ensures.back
-    c.first_key-found.ensures in
-    (own _ _ _ _ _ _ _ m c.split_record.ensures.value (sym c.is_beside.ensures ∙ c.if-is_beside.true)
-    (omega (arith, c.if-found-key.true)) (omega (arith, c.if-found-key-2.false))).value
+pub returns-then-number-key-clause-some : goal.returns-then-number-key-clause-some
+returns-then-number-key-clause-some c =
+    let r = reads _ _ _ _ _ _ _ c.walk.invariant (omega (arith, c.walk-test.true)) c.split_at.ensures.back
+    c.first_owner-found.ensures.value c.first_owner-found.ensures.small c.owner-owner.ensures.value
+    c.owner-owner.ensures.small in
+    (own _ _ _ _ _ _ _ _ _ r c.if-found-owner.true c.first_number-number.ensures c.if-number-key.true
+    c.if-number-key-2.false c.split_record.ensures.value).value
 
--- a record of the same queue with a greater number
-pub returns-then-found-key-2-clause-place : goal.returns-then-found-key-2-clause-place
-returns-then-found-key-2-clause-place c =
-    let m = meets _ _ _ _ _ _ c.walk.invariant (omega (arith, c.walk-test.true)) c.split_at.ensures.back
-    c.first_key-found.ensures in
-    (beside_above _ _ _ _ _ _ m (sym c.is_beside.ensures ∙ c.if-is_beside.true)
-    (omega (arith, c.if-found-key-2.true))).place
+-- a record of the same owner with a greater number
+pub returns-then-number-key-2-clause-place : goal.returns-then-number-key-2-clause-place
+returns-then-number-key-2-clause-place c =
+    let r = reads _ _ _ _ _ _ _ c.walk.invariant (omega (arith, c.walk-test.true)) c.split_at.ensures.back
+    c.first_owner-found.ensures.value c.first_owner-found.ensures.small c.owner-owner.ensures.value
+    c.owner-owner.ensures.small in
+    (beside_above _ _ _ _ _ _ _ _ r c.if-found-owner.true c.first_number-number.ensures
+    c.if-number-key-2.true).place
 
-pub returns-then-found-key-2-clause-none : goal.returns-then-found-key-2-clause-none
-returns-then-found-key-2-clause-none c =
-    let m = meets _ _ _ _ _ _ c.walk.invariant (omega (arith, c.walk-test.true)) c.split_at.ensures.back
-    c.first_key-found.ensures in
-    (beside_above _ _ _ _ _ _ m (sym c.is_beside.ensures ∙ c.if-is_beside.true)
-    (omega (arith, c.if-found-key-2.true))).value
+pub returns-then-number-key-2-clause-none : goal.returns-then-number-key-2-clause-none
+returns-then-number-key-2-clause-none c =
+    let r = reads _ _ _ _ _ _ _ c.walk.invariant (omega (arith, c.walk-test.true)) c.split_at.ensures.back
+    c.first_owner-found.ensures.value c.first_owner-found.ensures.small c.owner-owner.ensures.value
+    c.owner-owner.ensures.small in
+    (beside_above _ _ _ _ _ _ _ _ r c.if-found-owner.true c.first_number-number.ensures
+    c.if-number-key-2.true).value
 
--- another record that is not below the key stands above it
-pub returns-then-not-is_below-clause-place : goal.returns-then-not-is_below-clause-place
-returns-then-not-is_below-clause-place c =
-    let m = meets _ _ _ _ _ _ c.walk.invariant (omega (arith, c.walk-test.true)) c.split_at.ensures.back
-    c.first_key-found.ensures in
-    stops _ _ _ _ _ _ m (sym c.is_below.ensures ∙ c.if-not-is_below.true)
+-- a record of a greater owner
+pub returns-then-found-owner-2-clause-place : goal.returns-then-found-owner-2-clause-place
+returns-then-found-owner-2-clause-place c =
+    let r = reads _ _ _ _ _ _ _ c.walk.invariant (omega (arith, c.walk-test.true)) c.split_at.ensures.back
+    c.first_owner-found.ensures.value c.first_owner-found.ensures.small c.owner-owner.ensures.value
+    c.owner-owner.ensures.small in
+    (owner_above _ _ _ _ _ _ _ r c.if-found-owner-2.true).place
 
-pub returns-then-not-is_below-clause-none : goal.returns-then-not-is_below-clause-none
-returns-then-not-is_below-clause-none c =
-    let m = meets _ _ _ _ _ _ c.walk.invariant (omega (arith, c.walk-test.true)) c.split_at.ensures.back
-    c.first_key-found.ensures in
-    let over = sym c.is_below.ensures ∙ c.if-not-is_below.true in
-    let above-it : is_below c.args.key.now c.first_key-found.result ≡ true =
-    elim c.else-is_beside.branch [
-      | else-is_beside-via-then-is_beside+else-found-key w ↦
-          absurd (let low = near_key _ _ (sym c.is_beside.ensures ∙ w.if-is_beside.true)
-          (omega (arith, w.if-found-key.false)) in let both = sym low ∙ over in cc)
-      | else-is_beside-via-else-is_beside w ↦ apart_key _ _ (sym c.is_beside.ensures ∙ w.if-is_beside.false) over
-    ] in
-    (above _ _ _ _ _ _ m over above-it).value
+pub returns-then-found-owner-2-clause-none : goal.returns-then-found-owner-2-clause-none
+returns-then-found-owner-2-clause-none c =
+    let r = reads _ _ _ _ _ _ _ c.walk.invariant (omega (arith, c.walk-test.true)) c.split_at.ensures.back
+    c.first_owner-found.ensures.value c.first_owner-found.ensures.small c.owner-owner.ensures.value
+    c.owner-owner.ensures.small in
+    (owner_above _ _ _ _ _ _ _ r c.if-found-owner-2.true).value
 
 -- all records are below the key
 pub returns-clause-place : goal.returns-clause-place
