@@ -6,8 +6,8 @@ use Rattle.page_locks.specs.declared.slot.Slot.{Slot}
 use Rattle.page_locks.specs.declared.slot.TheConstants.{SLOTS}
 use Rattle.page_locks.specs.Holding.{is_nobody}
 use Rattle.page_locks.specs.Probing.{home, after, gap, way, free_slot, slot_at, is_taken, holders_of}
-use Rattle.page_locks.specs.Probing.{IsProbed, IsOpened}
-use Rattle.page_locks.proofs.CircleLemmas.{after-lt, after-gap, gap-after}
+use Rattle.page_locks.specs.Probing.{HasFreeBut, IsProbed, IsOpened}
+use Rattle.page_locks.proofs.CircleLemmas.{after-lt, after-gap, after-none, gap-after}
 use Rattle.page_locks.proofs.ProbeLemmas.{taken_by, IsMoved, IsMoved-set, IsOpened-moved, holders_of-moved, StayBehind, IsProbed-closed}
 
 -- so far the hole has come `hole` steps from the start, and `steps` were looked at
@@ -22,6 +22,25 @@ pub record Closes (before slots : List Slot) (start hole steps : ℕ) : Type 0 w
   pub is_free : is_taken slots free ≡ false
   pub ahead : steps ≤ gap start free
   pub same : (name : LockName) → holders_of slots name ≡ holders_of before name
+
+-- the hole is where it opened, and the next slot is to be looked at
+pub Closes-begun : (slots : List Slot) (start : ℕ) → IsOpened slots start → HasFreeBut start slots →
+    Closes slots slots start 0 1
+Closes-begun slots start opened (free, lt, is, other) =
+    let apart : gap start free ≢ 0 =
+    λ none. other (sym (after-gap start free opened.inside lt) ∙ ap (after start) none ∙ after-none start opened.inside)
+    in
+    record {
+      start_lt = opened.inside;
+      opened = subst (IsOpened slots) (sym (after-none start opened.inside)) opened;
+      below = omega arith;
+      behind = λ u above under. absurd (omega (arith, above, under));
+      free = free;
+      free_lt = lt;
+      is_free = is;
+      ahead = omega (arith, apart);
+      same = λ name. refl;
+    }
 
 module _ (before slots : List Slot) (start hole steps : ℕ) (closes : Closes before slots start hole steps)
     (steps_lt : steps < SLOTS) where

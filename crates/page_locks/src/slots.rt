@@ -137,8 +137,24 @@ fn steps_past(slots: &[Slot], name: LockName) -> usize
     unreachable!()
 }
 
-/// Moves names back over a slot that has become free, until none had passed it.
+/// Moves names back over a slot that has become free, until none had passed it. None had where the
+/// next slot is free, as it is mostly.
+#[inline(always)]
 fn close_up(slots: &mut [Slot], start: usize)
+    requires opened { IsOpened slots.old start }
+    requires free { HasFreeBut start slots.old }
+    ensures probed { IsProbed slots.new }
+    ensures same { (name : LockName) → holders_of slots.new name ≡ holders_of slots.old name }
+{
+    if slots[(start + 1) % SLOTS].holders.is_nobody() {
+        return;
+    }
+    move_back(slots, start);
+}
+
+/// The same, name by name.
+#[inline(never)]
+fn move_back(slots: &mut [Slot], start: usize)
     requires opened { IsOpened slots.old start }
     requires free { HasFreeBut start slots.old }
     ensures probed { IsProbed slots.new }
