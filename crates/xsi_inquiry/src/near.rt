@@ -17,7 +17,9 @@ use crate::room::Room;
 use type_chains::queue_records::Record;
 
 /// Tells a call the record that it asked for under names that it holds. What it knew of each system
-/// that it could not tell from s it knows of each such system afterwards too.
+/// that it could not tell from s it knows of each such system afterwards too. It stands in whoever
+/// tells, where the kind of the record is known.
+#[inline(always)]
 pub fn tell<I: Inquiry>(
     inquiry: &mut I,
     arguments: &I::Arguments,

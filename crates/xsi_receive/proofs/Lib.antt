@@ -1,4 +1,5 @@
 pub mod Names
+pub mod Expected
 pub mod DecidingLemmas
 pub mod FitLemmas
 pub mod KnowingLemmas

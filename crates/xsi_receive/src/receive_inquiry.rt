@@ -1,15 +1,20 @@
 //! A Receive as it asks for records.
 
-ghost use Rattle.std.specs.Prelude.{◌≡◌};
+ghost use Rattle.std.specs.Prelude.{◌≡◌, ◌<◌, None, OnErr, OnOk, Some};
 ghost use Rattle.queue_model.specs.declared.errno.Errno.TheVariants.{EINVAL};
+ghost use Rattle.queue_model.specs.State.{State};
+ghost use Rattle.queue_records.specs.declared.record.Record.TheVariants as records;
+ghost use Rattle.xsi_inquiry.specs.Rooms.{Roomful};
+ghost use Rattle.xsi_inquiry.specs.Telling.{AsksRecord, Gives, IsFiled, IsTold};
 ghost use Rattle.xsi_inquiry.specs.declared.sought.Sought.TheVariants.{Unread};
-ghost use Rattle.xsi_receive.specs.Asking.{received};
+ghost use Rattle.xsi_receive.specs.Asking.{asked, asks_left, received};
+ghost use Rattle.xsi_receive.specs.Knowing.{KnowsAt};
 ghost use Rattle.xsi_receive.specs.declared.stage.Stage.TheVariants.{Refused, Seeking};
 
 use crate::removal::Removal;
 use crate::stage::Stage;
 use queue_model::{Caller, Errno, ReceiveArguments};
-use queue_records::Record;
+use queue_records::{MessageEntry, QueueEntry, Record, TypeEntry};
 use xsi_inquiry::{Decision, Inquiry, NotASystem, Room, Sought, Taken, Verdict, Wanted, Write};
 
 /// A Receive (POSIX.1-2017, `msgrcv()`) of a caller, as far as it has come with its reading: three
@@ -45,6 +50,83 @@ impl ReceiveInquiry {
             caller: by,
             stage: Stage::Refused(Errno::EINVAL),
         }
+    }
+
+    /// Tells that there is no record at the key that it asked for, as `take` does. It stands in whoever
+    /// tells it, as those for each kind of record do.
+    #[inline(always)]
+    pub fn take_none(&mut self, arguments: &ReceiveArguments) -> Result<(), NotASystem>
+        requires { AsksRecord (asked arguments.now.id self.old.stage) }
+        ensures told { (room : Roomful) (s : State) → IsFiled s →
+            KnowsAt self.old.caller arguments.now self.old.stage room s →
+            IsTold s (asked arguments.now.id self.old.stage) None →
+            Gives result (λ _. KnowsAt self.old.caller arguments.now self.new.stage room s) }
+        ensures fewer { OnOk result (asks_left self.new.stage < asks_left self.old.stage) }
+        ensures err { OnErr result (self.new ≡ self.old) }
+        ensures caller { self.new.caller ≡ self.old.caller }
+    {
+        self.stage.take_none(self.caller, arguments)
+    }
+
+    /// Tells the Queue at that key, which is lent: a record is large, and would else be moved through
+    /// memory.
+    #[inline(always)]
+    pub fn take_queue(
+        &mut self,
+        arguments: &ReceiveArguments,
+        queue: &QueueEntry,
+    ) -> Result<(), NotASystem>
+        requires { AsksRecord (asked arguments.now.id self.old.stage) }
+        ensures told { (room : Roomful) (s : State) → IsFiled s →
+            KnowsAt self.old.caller arguments.now self.old.stage room s →
+            IsTold s (asked arguments.now.id self.old.stage) (Some (records.Queue queue.now)) →
+            Gives result (λ _. KnowsAt self.old.caller arguments.now self.new.stage room s) }
+        ensures fewer { OnOk result (asks_left self.new.stage < asks_left self.old.stage) }
+        ensures err { OnErr result (self.new ≡ self.old) }
+        ensures caller { self.new.caller ≡ self.old.caller }
+    {
+        self.stage.take_queue(self.caller, arguments, queue)
+    }
+
+    /// Tells the Type at that key, which is lent.
+    #[inline(always)]
+    pub fn take_type(
+        &mut self,
+        arguments: &ReceiveArguments,
+        entry: &TypeEntry,
+    ) -> Result<(), NotASystem>
+        requires { AsksRecord (asked arguments.now.id self.old.stage) }
+        ensures told { (room : Roomful) (s : State) → IsFiled s →
+            KnowsAt self.old.caller arguments.now self.old.stage room s →
+            IsTold s (asked arguments.now.id self.old.stage) (Some (records.Type entry.now)) →
+            Gives result (λ _. KnowsAt self.old.caller arguments.now self.new.stage room s) }
+        ensures fewer { OnOk result (asks_left self.new.stage < asks_left self.old.stage) }
+        ensures err { OnErr result (self.new ≡ self.old) }
+        ensures caller { self.new.caller ≡ self.old.caller }
+    {
+        self.stage.take_type(self.caller, arguments, entry)
+    }
+
+    /// Tells the Message at that key, which is lent. Its bytes are copied into the room.
+    #[inline(always)]
+    pub fn take_message(
+        &mut self,
+        arguments: &ReceiveArguments,
+        message: &MessageEntry<'_>,
+        room: &mut Room,
+    ) -> Result<(), NotASystem>
+        requires { AsksRecord (asked arguments.now.id self.old.stage) }
+        ensures told { (s : State) → IsFiled s →
+            KnowsAt self.old.caller arguments.now self.old.stage room.old s →
+            IsTold s (asked arguments.now.id self.old.stage) (Some (records.Message message.now)) →
+            Gives result (λ _. KnowsAt self.old.caller arguments.now self.new.stage room.new s) }
+        ensures fewer { OnOk result (asks_left self.new.stage < asks_left self.old.stage) }
+        ensures err { OnErr result ((self.new ≡ self.old) × (room.new ≡ room.old)) }
+        ensures caller { self.new.caller ≡ self.old.caller }
+        ensures most { room.new.most ≡ room.old.most }
+    {
+        self.stage
+            .take_message(self.caller, arguments, message, room)
     }
 }
 

@@ -1,11 +1,9 @@
 //! How far a Receive has come with its reading.
 
-ghost use Rattle.std.specs.Prelude.{◌≡◌, ◌&&◌, ◌≤◌, ◌<◌, IfOk, Ok, OnErr, OnOk, Some, int_lt, is_none, length, pos, take};
+ghost use Rattle.std.specs.Prelude.{◌≡◌, ◌≤◌, ◌<◌, None, OnErr, OnOk, Some, int_lt, length, pos, take};
 ghost use Rattle.queue_model.specs.declared.caller.Caller.{Caller};
 ghost use Rattle.queue_model.specs.State.{State};
-ghost use Rattle.queue_records.specs.declared.message_entry.MessageEntry.{MessageEntry};
 ghost use Rattle.queue_records.specs.declared.record.Record.TheVariants as records;
-ghost use Rattle.queue_records.specs.declared.type_entry.TypeEntry.{TypeEntry};
 ghost use Rattle.xsi_inquiry.specs.Rooms.{Roomful};
 ghost use Rattle.xsi_inquiry.specs.Seeking.{IsEntryOf, Tells, asks_of_sought};
 ghost use Rattle.xsi_inquiry.specs.Telling.{AsksGiven, AsksRecord, Gives, IsFiled, IsTold, IsToldGiven};
@@ -17,7 +15,7 @@ use crate::removal::{Removal, TypeLeft, is_counted};
 use queue_model::{Access, Caller, Errno, ReceiveArguments};
 use queue_records::{MessageEntry, QueueEntry, Record, TypeEntry, message_key, type_key};
 use type_chains::permissions_in;
-use xsi_inquiry::{NotASystem, Room, Sought, Wanted, message_in, type_in};
+use xsi_inquiry::{NotASystem, Room, Sought, Wanted};
 
 /// What is known, and with it what is asked next.
 #[derive(Clone, Copy)]
@@ -116,6 +114,7 @@ impl Stage {
 
     /// Tells the record at that key, or that there is none; it goes on in place. After an error it
     /// stands where it stood.
+    #[inline(always)]
     pub fn take(
         &mut self,
         caller: Caller,
@@ -131,41 +130,150 @@ impl Stage {
         ensures err { OnErr result ((self.new ≡ self.old) × (room.new ≡ room.old)) }
         ensures most { room.new.most ≡ room.old.most }
     {
+        let Some(found) = found else {
+            return self.take_none(caller, arguments);
+        };
+        match found {
+            Record::Queue(queue) => self.take_queue(caller, arguments, &queue),
+            Record::Type(entry) => self.take_type(caller, arguments, &entry),
+            Record::Message(message) => self.take_message(caller, arguments, &message, room),
+            Record::Counter(_) => Err(NotASystem),
+            Record::Key(_) => Err(NotASystem),
+        }
+    }
+
+    /// Tells that there is no record at that key.
+    #[inline(always)]
+    pub fn take_none(
+        &mut self,
+        caller: Caller,
+        arguments: &ReceiveArguments,
+    ) -> Result<(), NotASystem>
+        requires { AsksRecord (asked arguments.now.id self.old) }
+        ensures told { (room : Roomful) (s : State) → IsFiled s →
+            KnowsAt caller arguments.now self.old room s →
+            IsTold s (asked arguments.now.id self.old) None →
+            Gives result (λ _. KnowsAt caller arguments.now self.new room s) }
+        ensures fewer { OnOk result (asks_left self.new < asks_left self.old) }
+        ensures err { OnErr result (self.new ≡ self.old) }
+    {
         match self {
-            Stage::Seeking(sought) => {
-                let mut sought = *sought;
-                sought.take(arguments.id, found)?;
-                self.at_sought(caller, arguments, &sought);
-                Ok(())
-            }
-            Stage::AtType(queue, _) => {
-                if has_none(arguments, &found) {
+            Stage::Seeking(sought) => match sought {
+                Sought::Unread => {
+                    *self = Stage::Seeking(Sought::Absent);
+                    Ok(())
+                }
+                Sought::Absent | Sought::Found(_) | Sought::Refused(_) => Err(NotASystem),
+            },
+            Stage::AtType(..) => {
+                if may_lack(arguments) {
                     *self = put_off(arguments);
                     return Ok(());
                 }
-                let entry = type_found(found)?;
-                *self = Stage::AtMessage(*queue, Some(entry), entry.first);
+                Err(NotASystem)
+            }
+            Stage::AtMessage(..) => Err(NotASystem),
+            Stage::AtTypeOf(..) => Err(NotASystem),
+            Stage::Refused(_) | Stage::PutOff | Stage::Taken(_) => Err(NotASystem),
+        }
+    }
+
+    /// Tells the Queue at that key, which is lent: it is copied once.
+    #[inline(always)]
+    pub fn take_queue(
+        &mut self,
+        caller: Caller,
+        arguments: &ReceiveArguments,
+        queue: &QueueEntry,
+    ) -> Result<(), NotASystem>
+        requires { AsksRecord (asked arguments.now.id self.old) }
+        ensures told { (room : Roomful) (s : State) → IsFiled s →
+            KnowsAt caller arguments.now self.old room s →
+            IsTold s (asked arguments.now.id self.old) (Some (records.Queue queue.now)) →
+            Gives result (λ _. KnowsAt caller arguments.now self.new room s) }
+        ensures fewer { OnOk result (asks_left self.new < asks_left self.old) }
+        ensures err { OnErr result (self.new ≡ self.old) }
+    {
+        match self {
+            Stage::Seeking(sought) => match sought {
+                Sought::Unread => {
+                    self.at_queue(caller, arguments, queue);
+                    Ok(())
+                }
+                Sought::Absent | Sought::Found(_) | Sought::Refused(_) => Err(NotASystem),
+            },
+            Stage::AtType(..) => Err(NotASystem),
+            Stage::AtMessage(..) => Err(NotASystem),
+            Stage::AtTypeOf(..) => Err(NotASystem),
+            Stage::Refused(_) | Stage::PutOff | Stage::Taken(_) => Err(NotASystem),
+        }
+    }
+
+    /// Tells the Type at that key: that of the type asked for, or that of the message.
+    #[inline(always)]
+    pub fn take_type(
+        &mut self,
+        caller: Caller,
+        arguments: &ReceiveArguments,
+        entry: &TypeEntry,
+    ) -> Result<(), NotASystem>
+        requires { AsksRecord (asked arguments.now.id self.old) }
+        ensures told { (room : Roomful) (s : State) → IsFiled s →
+            KnowsAt caller arguments.now self.old room s →
+            IsTold s (asked arguments.now.id self.old) (Some (records.Type entry.now)) →
+            Gives result (λ _. KnowsAt caller arguments.now self.new room s) }
+        ensures fewer { OnOk result (asks_left self.new < asks_left self.old) }
+        ensures err { OnErr result (self.new ≡ self.old) }
+    {
+        match self {
+            Stage::AtType(queue, _) => {
+                *self = Stage::AtMessage(*queue, Some(*entry), entry.first);
                 Ok(())
             }
+            Stage::AtTypeOf(queue, head) => {
+                let queue = *queue;
+                let head = *head;
+                self.at_head(caller.pid, arguments, queue, head, Some(*entry))
+            }
+            Stage::Seeking(_) => Err(NotASystem),
+            Stage::AtMessage(..) => Err(NotASystem),
+            Stage::Refused(_) | Stage::PutOff | Stage::Taken(_) => Err(NotASystem),
+        }
+    }
+
+    /// Tells the Message at that key. Its bytes are copied into the room.
+    #[inline(always)]
+    pub fn take_message(
+        &mut self,
+        caller: Caller,
+        arguments: &ReceiveArguments,
+        message: &MessageEntry<'_>,
+        room: &mut Room,
+    ) -> Result<(), NotASystem>
+        requires { AsksRecord (asked arguments.now.id self.old) }
+        ensures told { (s : State) → IsFiled s → KnowsAt caller arguments.now self.old room.old s →
+            IsTold s (asked arguments.now.id self.old) (Some (records.Message message.now)) →
+            Gives result (λ _. KnowsAt caller arguments.now self.new room.new s) }
+        ensures fewer { OnOk result (asks_left self.new < asks_left self.old) }
+        ensures err { OnErr result ((self.new ≡ self.old) × (room.new ≡ room.old)) }
+        ensures most { room.new.most ≡ room.old.most }
+    {
+        match self {
             Stage::AtMessage(queue, entry, _) => {
-                let message = message_found(found)?;
-                if is_long(arguments, &message) {
+                if is_long(arguments, message) {
                     *self = Stage::Refused(Errno::E2BIG);
                     return Ok(());
                 }
-                let head = MessageHead::of(&message);
+                let head = MessageHead::of(message);
                 let queue = *queue;
                 let entry = *entry;
                 self.at_head(caller.pid, arguments, queue, head, entry)?;
                 room.fill(cut(message.body.as_slice(), arguments.size as usize));
                 Ok(())
             }
-            Stage::AtTypeOf(queue, head) => {
-                let entry = type_found(found)?;
-                let queue = *queue;
-                let head = *head;
-                self.at_head(caller.pid, arguments, queue, head, Some(entry))
-            }
+            Stage::Seeking(_) => Err(NotASystem),
+            Stage::AtType(..) => Err(NotASystem),
+            Stage::AtTypeOf(..) => Err(NotASystem),
             Stage::Refused(_) | Stage::PutOff | Stage::Taken(_) => Err(NotASystem),
         }
     }
@@ -248,35 +356,11 @@ fn put_off(arguments: &ReceiveArguments) -> Stage
     Stage::PutOff
 }
 
-/// The Message that has to be there.
-fn message_found<'a>(found: Option<Record<'a>>) -> Result<MessageEntry<'a>, NotASystem>
-    ensures ok { IfOk result (λ message. found.entry ≡ Some (records.Message message)) }
-    ensures only { (message : MessageEntry) → found.entry ≡ Some (records.Message message) →
-        result ≡ Ok message }
+/// Whether there may be no Type of the type asked for, which is so of one above 0.
+fn may_lack(arguments: &ReceiveArguments) -> bool
+    ensures { result ≡ int_lt (pos 0) arguments.now.mtype }
 {
-    let Some(entry) = found else {
-        return Err(NotASystem);
-    };
-    message_in(entry)
-}
-
-/// The Type that has to be there.
-fn type_found(found: Option<Record<'_>>) -> Result<TypeEntry, NotASystem>
-    ensures ok { IfOk result (λ mtype. found.entry ≡ Some (records.Type mtype)) }
-    ensures only { (mtype : TypeEntry) →
-        found.entry ≡ Some (records.Type mtype) → result ≡ Ok mtype }
-{
-    let Some(entry) = found else {
-        return Err(NotASystem);
-    };
-    type_in(entry)
-}
-
-/// Whether no message of the type asked for stands: a type above 0 may have no Type.
-fn has_none(arguments: &ReceiveArguments, found: &Option<Record<'_>>) -> bool
-    ensures { result ≡ (is_none found.now && int_lt (pos 0) arguments.now.mtype) }
-{
-    found.is_none() && arguments.mtype > 0
+    arguments.mtype > 0
 }
 
 /// Whether a message is longer than asked for, and may not be cut.

@@ -1,4 +1,5 @@
 pub mod Names
+pub mod Expected
 pub mod Sent
 pub mod SentPlans
 pub mod SentParts

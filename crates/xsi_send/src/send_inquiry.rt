@@ -1,14 +1,18 @@
 //! A Send as it asks for records.
 
-ghost use Rattle.std.specs.Prelude.{◌≡◌};
+ghost use Rattle.std.specs.Prelude.{◌≡◌, ◌<◌, None, OnErr, OnOk, Some};
 ghost use Rattle.queue_model.specs.declared.errno.Errno.TheVariants.{EINVAL};
+ghost use Rattle.queue_model.specs.State.{State};
+ghost use Rattle.queue_records.specs.declared.record.Record.TheVariants as records;
+ghost use Rattle.xsi_inquiry.specs.Telling.{AsksRecord, Gives, IsFiled, IsTold};
+ghost use Rattle.xsi_send.specs.Knowing.{KnowsAt, asked, asks_left};
 ghost use Rattle.xsi_inquiry.specs.declared.sought.Sought.TheVariants.{Unread};
 ghost use Rattle.xsi_send.specs.declared.stage.Stage.TheVariants.{Refused, Seeking};
 
 use crate::plan::{sent_trial, sent_write, takes_more};
 use crate::stage::Stage;
 use queue_model::{Caller, Errno, SendArguments};
-use queue_records::Record;
+use queue_records::{QueueEntry, Record, TypeEntry};
 use xsi_inquiry::{Decision, Inquiry, NotASystem, Room, Sought, Verdict, Wanted, Write};
 
 /// A Send (POSIX.1-2017, `msgsnd()`) of a caller, as far as it has come with its reading: the
@@ -44,6 +48,61 @@ impl SendInquiry {
             caller: by,
             stage: Stage::Refused(Errno::EINVAL),
         }
+    }
+
+    /// Tells that there is no record at the key that it asked for, as `take` does. It stands in whoever
+    /// tells it, as `take_queue` and `take_type` do.
+    #[inline(always)]
+    pub fn take_none(&mut self, arguments: &SendArguments) -> Result<(), NotASystem>
+        requires { AsksRecord (asked arguments.now self.old.stage) }
+        ensures told { (s : State) → IsFiled s →
+            KnowsAt self.old.caller arguments.now self.old.stage s →
+            IsTold s (asked arguments.now self.old.stage) None →
+            Gives result (λ _. KnowsAt self.old.caller arguments.now self.new.stage s) }
+        ensures fewer { OnOk result (asks_left self.new.stage < asks_left self.old.stage) }
+        ensures err { OnErr result (self.new ≡ self.old) }
+        ensures caller { self.new.caller ≡ self.old.caller }
+    {
+        self.stage.take_none(self.caller, arguments)
+    }
+
+    /// Tells the Queue at that key, which is lent: a record is large, and would else be moved through
+    /// memory.
+    #[inline(always)]
+    pub fn take_queue(
+        &mut self,
+        arguments: &SendArguments,
+        queue: &QueueEntry,
+    ) -> Result<(), NotASystem>
+        requires { AsksRecord (asked arguments.now self.old.stage) }
+        ensures told { (s : State) → IsFiled s →
+            KnowsAt self.old.caller arguments.now self.old.stage s →
+            IsTold s (asked arguments.now self.old.stage) (Some (records.Queue queue.now)) →
+            Gives result (λ _. KnowsAt self.old.caller arguments.now self.new.stage s) }
+        ensures fewer { OnOk result (asks_left self.new.stage < asks_left self.old.stage) }
+        ensures err { OnErr result (self.new ≡ self.old) }
+        ensures caller { self.new.caller ≡ self.old.caller }
+    {
+        self.stage.take_queue(self.caller, arguments, queue)
+    }
+
+    /// Tells the Type at that key, which is lent.
+    #[inline(always)]
+    pub fn take_type(
+        &mut self,
+        arguments: &SendArguments,
+        entry: &TypeEntry,
+    ) -> Result<(), NotASystem>
+        requires { AsksRecord (asked arguments.now self.old.stage) }
+        ensures told { (s : State) → IsFiled s →
+            KnowsAt self.old.caller arguments.now self.old.stage s →
+            IsTold s (asked arguments.now self.old.stage) (Some (records.Type entry.now)) →
+            Gives result (λ _. KnowsAt self.old.caller arguments.now self.new.stage s) }
+        ensures fewer { OnOk result (asks_left self.new.stage < asks_left self.old.stage) }
+        ensures err { OnErr result (self.new ≡ self.old) }
+        ensures caller { self.new.caller ≡ self.old.caller }
+    {
+        self.stage.take_type(self.caller, arguments, entry)
     }
 }
 

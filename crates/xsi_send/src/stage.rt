@@ -1,19 +1,20 @@
 //! How far a Send has come with its reading.
 
-ghost use Rattle.std.specs.Prelude.{◌≡◌, ◌<◌, ◌≤◌, ◌+◌, OnErr, OnOk, false, true};
+ghost use Rattle.std.specs.Prelude.{◌≡◌, ◌<◌, ◌≤◌, ◌+◌, None, OnErr, OnOk, Some, false, true};
 ghost use Rattle.queue_model.specs.declared.caller.Caller.{Caller};
 ghost use Rattle.queue_model.specs.declared.errno.Errno.TheVariants.{EINVAL};
 ghost use Rattle.queue_model.specs.State.{State};
+ghost use Rattle.queue_records.specs.declared.record.Record.TheVariants as records;
 ghost use Rattle.xsi_inquiry.specs.declared.sought.Sought.TheVariants.{Unread};
 ghost use Rattle.xsi_inquiry.specs.Seeking.{IsEntryOf, Tells, reads_left};
 ghost use Rattle.xsi_inquiry.specs.Telling.{AsksGiven, AsksRecord, Gives, IsFiled, IsTold, IsToldGiven};
 ghost use Rattle.xsi_send.specs.declared.stage.Stage.TheVariants.{Refused, Seeking};
 ghost use Rattle.xsi_send.specs.Knowing.{IsAllowed, KnowsAt, asked, asks_left};
 
-use crate::reading::{take_neighbour, take_type};
+use crate::reading::{take_neighbour, walk};
 use crate::type_place::TypePlace;
 use queue_model::{Access, Caller, Errno, MAX_BODY, SendArguments};
-use queue_records::{QueueEntry, Record, type_key};
+use queue_records::{QueueEntry, Record, TypeEntry, type_key};
 use type_chains::{lacks_room_in, permissions_in};
 use xsi_inquiry::{NotASystem, Sought, Wanted};
 
@@ -116,6 +117,7 @@ impl Stage {
 
     /// Tells the record at that key, or that there is none. It goes on in place, since a stage is
     /// large. After an error it stands where it stood.
+    #[inline(always)]
     pub fn take(
         &mut self,
         caller: Caller,
@@ -129,15 +131,38 @@ impl Stage {
         ensures fewer { OnOk result (asks_left self.new < asks_left self.old) }
         ensures err { OnErr result (self.new ≡ self.old) }
     {
+        let Some(found) = found else {
+            return self.take_none(caller, arguments);
+        };
+        match found {
+            Record::Queue(queue) => self.take_queue(caller, arguments, &queue),
+            Record::Type(entry) => self.take_type(caller, arguments, &entry),
+            Record::Counter(_) => Err(NotASystem),
+            Record::Key(_) => Err(NotASystem),
+            Record::Message(_) => Err(NotASystem),
+        }
+    }
+
+    /// Tells that there is no record at that key.
+    #[inline(always)]
+    pub fn take_none(&mut self, caller: Caller, arguments: &SendArguments) -> Result<(), NotASystem>
+        requires { AsksRecord (asked arguments.now self.old) }
+        ensures told { (s : State) → IsFiled s → KnowsAt caller arguments.now self.old s →
+            IsTold s (asked arguments.now self.old) None →
+            Gives result (λ _. KnowsAt caller arguments.now self.new s) }
+        ensures fewer { OnOk result (asks_left self.new < asks_left self.old) }
+        ensures err { OnErr result (self.new ≡ self.old) }
+    {
         match self {
-            Stage::Seeking(sought) => {
-                let mut sought = *sought;
-                sought.take(arguments.id, found)?;
-                self.at_sought(caller, arguments, &sought);
-                Ok(())
-            }
+            Stage::Seeking(sought) => match sought {
+                Sought::Unread => {
+                    *self = Stage::Seeking(Sought::Absent);
+                    Ok(())
+                }
+                Sought::Absent | Sought::Found(_) | Sought::Refused(_) => Err(NotASystem),
+            },
             Stage::AtType(queue) => {
-                match take_type(caller, arguments, queue, found)? {
+                match walk(caller, arguments, queue) {
                     Ahead::Ends(place) => *self = Stage::Done(*queue, place),
                     Ahead::Goes(next, left) => {
                         *self = Stage::AtNeighbour(Walk {
@@ -150,8 +175,58 @@ impl Stage {
                 }
                 Ok(())
             }
+            Stage::AtNeighbour(_) => Err(NotASystem),
+            Stage::Refused(_) | Stage::Full | Stage::Done(..) => Err(NotASystem),
+        }
+    }
+
+    /// Tells the Queue at that key, which is lent: it is copied once.
+    #[inline(always)]
+    pub fn take_queue(
+        &mut self,
+        caller: Caller,
+        arguments: &SendArguments,
+        queue: &QueueEntry,
+    ) -> Result<(), NotASystem>
+        requires { AsksRecord (asked arguments.now self.old) }
+        ensures told { (s : State) → IsFiled s → KnowsAt caller arguments.now self.old s →
+            IsTold s (asked arguments.now self.old) (Some (records.Queue queue.now)) →
+            Gives result (λ _. KnowsAt caller arguments.now self.new s) }
+        ensures fewer { OnOk result (asks_left self.new < asks_left self.old) }
+        ensures err { OnErr result (self.new ≡ self.old) }
+    {
+        match self {
+            Stage::Seeking(sought) => match sought {
+                Sought::Unread => {
+                    self.at_queue(caller, arguments, queue);
+                    Ok(())
+                }
+                Sought::Absent | Sought::Found(_) | Sought::Refused(_) => Err(NotASystem),
+            },
+            Stage::AtType(_) => Err(NotASystem),
+            Stage::AtNeighbour(_) => Err(NotASystem),
+            Stage::Refused(_) | Stage::Full | Stage::Done(..) => Err(NotASystem),
+        }
+    }
+
+    /// Tells the Type at that key: that of the message's type, or one on the way up.
+    #[inline(always)]
+    pub fn take_type(
+        &mut self,
+        caller: Caller,
+        arguments: &SendArguments,
+        entry: &TypeEntry,
+    ) -> Result<(), NotASystem>
+        requires { AsksRecord (asked arguments.now self.old) }
+        ensures told { (s : State) → IsFiled s → KnowsAt caller arguments.now self.old s →
+            IsTold s (asked arguments.now self.old) (Some (records.Type entry.now)) →
+            Gives result (λ _. KnowsAt caller arguments.now self.new s) }
+        ensures fewer { OnOk result (asks_left self.new < asks_left self.old) }
+        ensures err { OnErr result (self.new ≡ self.old) }
+    {
+        match self {
             Stage::AtNeighbour(walk) => {
-                match take_neighbour(caller, arguments, walk, found)? {
+                match take_neighbour(caller, arguments, walk, entry)? {
                     Ahead::Ends(place) => *self = Stage::Done(walk.queue, place),
                     Ahead::Goes(next, left) => {
                         walk.lower = Some(walk.next);
@@ -161,6 +236,11 @@ impl Stage {
                 }
                 Ok(())
             }
+            Stage::AtType(queue) => {
+                *self = Stage::Done(*queue, TypePlace::Standing(entry.last));
+                Ok(())
+            }
+            Stage::Seeking(_) => Err(NotASystem),
             Stage::Refused(_) | Stage::Full | Stage::Done(..) => Err(NotASystem),
         }
     }

@@ -1,32 +1,16 @@
-use Rattle.xsi_send.proofs.Names.{IsBetween, IsWalked, None, SFits, Some, TypeEntry, ap, arith, clash, false, ints, rules, subst, sym, to_z-of_z, true, w64, ◌+◌, ◌<ℤ◌, ◌∙◌, ◌≡◌}
-use Rattle.xsi_send.proofs.Told.{less_of_z, never_none, same_found, same_of_z, same_type}
+use Rattle.xsi_send.proofs.Names.{IsBetween, IsWalked, None, SFits, Some, TypeEntry, ap, arith, false, ints, rules, same_Some, subst, sym, to_z-of_z, true, w64, ◌+◌, ◌<ℤ◌, ◌∙◌, ◌≡◌}
+use Rattle.queue_records.specs.declared.record.Record.TheVariants as records
+use Rattle.xsi_send.proofs.Told.{less_of_z, same_of_z, same_type}
 use Rattle.xsi_send.proofs.Walked.{higher_fits, next_apart, next_fits, next_told, walk_ascends, walk_ends_above, walk_ends_behind, walk_goes_on, walk_has_left}
 use Rattle.xsi_send.proofs.reading.take_neighbour.Goals as goal
 
--- the next type stands
+-- a queue has no more types than messages
 pub returns-in_default-clause-told : goal.returns-in_default-clause-told
 returns-in_default-clause-told c s filed (known, walked) told =
-    let a = c.args.arguments.now in
     let w = c.args.walk.now in
-    let is = next_told c.args.caller a w.queue s filed known w walked c.args.found told in
-    absurd (never_none c.args.found _ is c.in_default.is)
-
--- a queue has no more types than messages
-pub returns-in_default-checked_sub-clause-told : goal.returns-in_default-checked_sub-clause-told
-returns-in_default-checked_sub-clause-told c s filed (known, walked) told =
-    let w = c.args.walk.now in
-    let none = c.in_default-checked_sub.ensures in
+    let none = c.in_default.ensures in
     let zero_left : w.left ≡ 0 = grind (arith, none) in
     walk_has_left c.args.caller c.args.arguments.now w.queue s filed known w walked zero_left
-
--- and is a Type
-pub returns-in_err-entry-clause-told : goal.returns-in_err-entry-clause-told
-returns-in_err-entry-clause-told c s filed (known, walked) told =
-    let a = c.args.arguments.now in
-    let w = c.args.walk.now in
-    let is = next_told c.args.caller a w.queue s filed known w walked c.args.found told in
-    let one = same_found c.args.found _ _ c.in-Some.is is in
-    absurd (clash _ _ (c.type_in.ensures.only _ one) _ c.in_err-entry.was)
 
 -- it is another than the message's
 pub returns-then-walk-arguments-clause-told : goal.returns-then-walk-arguments-clause-told
@@ -57,8 +41,8 @@ pub returns-in_default-higher-clause-told : goal.returns-in_default-higher-claus
 returns-in_default-higher-clause-told c s filed (known, walked) told =
     let a = c.args.arguments.now in
     let w = c.args.walk.now in
-    let is = next_told c.args.caller a w.queue s filed known w walked c.args.found told in
-    let entry = same_type _ _ (sym c.in_ok-entry.ensures.ok ∙ same_found c.args.found _ _ c.in-Some.is is) in
+    let is = next_told c.args.caller a w.queue s filed known w walked (Some (records.Type c.args.entry.now)) told in
+    let entry = same_type _ _ (same_Some _ _ is) in
     let its : SFits w64 a.mtype = search rules in
     let fits = next_fits c.args.caller a w.queue s filed known w walked in
     let apart = next_apart c.args.caller a w.queue s filed known w walked in
@@ -75,8 +59,8 @@ pub returns-then-next-walk-clause-told : goal.returns-then-next-walk-clause-told
 returns-then-next-walk-clause-told c s filed (known, walked) told =
     let a = c.args.arguments.now in
     let w = c.args.walk.now in
-    let is = next_told c.args.caller a w.queue s filed known w walked c.args.found told in
-    let entry = same_type _ _ (sym c.in_ok-entry.ensures.ok ∙ same_found c.args.found _ _ c.in-Some.is is) in
+    let is = next_told c.args.caller a w.queue s filed known w walked (Some (records.Type c.args.entry.now)) told in
+    let entry = same_type _ _ (same_Some _ _ is) in
     let its : SFits w64 a.mtype = search rules in
     let fits = next_fits c.args.caller a w.queue s filed known w walked in
     let higher = c.in-Some-higher.next in
@@ -91,8 +75,8 @@ pub returns-clause-told : goal.returns-clause-told
 returns-clause-told c s filed (known, walked) told =
     let a = c.args.arguments.now in
     let w = c.args.walk.now in
-    let is = next_told c.args.caller a w.queue s filed known w walked c.args.found told in
-    let entry = same_type _ _ (sym c.in_ok-entry.ensures.ok ∙ same_found c.args.found _ _ c.in-Some.is is) in
+    let is = next_told c.args.caller a w.queue s filed known w walked (Some (records.Type c.args.entry.now)) told in
+    let entry = same_type _ _ (same_Some _ _ is) in
     let its : SFits w64 a.mtype = search rules in
     let fits = next_fits c.args.caller a w.queue s filed known w walked in
     let apart = next_apart c.args.caller a w.queue s filed known w walked in
@@ -101,15 +85,15 @@ returns-clause-told c s filed (known, walked) told =
     let higher = c.in-Some-higher.next in
     let some = sym (ap (λ (x : TypeEntry). x.higher) entry) ∙ c.in-Some-higher.is in
     let higher_fit = higher_fits c.args.caller a w.queue s filed known w walked higher some in
-    let one = c.in-Some-checked_sub.ensures in
-    let fewer : c.in-Some-checked_sub.left + 1 ≡ w.left = grind (arith, one) in
+    let one = c.in-Some.ensures in
+    let fewer : c.in-Some.left + 1 ≡ w.left = grind (arith, one) in
     let further = walk_goes_on c.args.caller a w.queue s filed known w walked higher some
-    c.in-Some-checked_sub.left fewer less in (
+    c.in-Some.left fewer less in (
       known,
       subst (λ n. IsWalked a.mtype (record {
         queue = w.queue;
         lower = Some w.next;
         next = n;
-        left = c.in-Some-checked_sub.left;
+        left = c.in-Some.left;
       }) known.queue) (sym (to_z-of_z w64 higher higher_fit)) further,
     )
