@@ -22,7 +22,7 @@ int lock_begin(struct lock *lock) {
     if (wrong != 0)
         return wrong;
     wrong = pthread_condattr_setclock(&monotonic, CLOCK_MONOTONIC);
-    *lock = (struct lock){.is_taken = false};
+    *lock = (struct lock){.was_late = false};
     if (wrong == 0)
         wrong = pthread_mutex_init(&lock->guard, NULL);
     if (wrong == 0 && (wrong = begin_conditions(lock, &monotonic)) != 0)
@@ -31,21 +31,35 @@ int lock_begin(struct lock *lock) {
     return wrong;
 }
 
-void lock_end(struct lock *lock) {
-    (void)pthread_cond_destroy(&lock->changed);
-    (void)pthread_cond_destroy(&lock->late_freed);
-    (void)pthread_cond_destroy(&lock->freed);
-    (void)pthread_mutex_destroy(&lock->guard);
-}
-
 /* Of what lock_begin has made these fail of nothing: POSIX has errors of misuse alone. */
 
 static void hold(struct lock *lock) {
     (void)pthread_mutex_lock(&lock->guard);
+    (void)atomic_fetch_or(&lock->state, CROWDED);
+}
+
+static bool is_taken(const struct lock *lock) {
+    return (atomic_load(&lock->state) & TAKEN) != 0;
+}
+
+static bool is_crowded(const struct lock *lock) {
+    return lock->wanting > 0 || lock->late > 0 || lock->waiting > 0 || lock->was_late;
 }
 
 static void let_go(struct lock *lock) {
+    if (!is_crowded(lock))
+        atomic_store(&lock->state, is_taken(lock) ? TAKEN : 0);
     (void)pthread_mutex_unlock(&lock->guard);
+}
+
+void lock_end(struct lock *lock) {
+    /* Who gave it back before may have the guard for a moment more. */
+    hold(lock);
+    let_go(lock);
+    (void)pthread_cond_destroy(&lock->changed);
+    (void)pthread_cond_destroy(&lock->late_freed);
+    (void)pthread_cond_destroy(&lock->freed);
+    (void)pthread_mutex_destroy(&lock->guard);
 }
 
 /* Sleeps until a condition is told, or for nothing; tells whether the end, where there is one, is over. */
@@ -63,7 +77,7 @@ static bool is_turn_of_late(const struct lock *lock) {
 
 /* Wakes whose turn it is, where the lock is free and somebody sleeps. */
 static void tell_next(struct lock *lock) {
-    if (lock->is_taken)
+    if (is_taken(lock))
         return;
     if (is_turn_of_late(lock))
         (void)pthread_cond_signal(&lock->late_freed);
@@ -72,7 +86,7 @@ static void tell_next(struct lock *lock) {
 }
 
 static void free_it(struct lock *lock) {
-    lock->is_taken = false;
+    atomic_store(&lock->state, CROWDED);
     tell_next(lock);
 }
 
@@ -80,14 +94,14 @@ static void free_it(struct lock *lock) {
 static bool await_turn(struct lock *lock, const struct timespec *end) {
     bool is_late = false;
     lock->wanting++;
-    while (!is_late && (lock->is_taken || is_turn_of_late(lock)))
+    while (!is_late && (is_taken(lock) || is_turn_of_late(lock)))
         is_late = sleep_for(lock, &lock->freed, end);
     lock->wanting--;
     if (is_late) {
         lock->late++;
         /* It may have been woken as its time ended. */
         tell_next(lock);
-        while (lock->is_taken || !is_turn_of_late(lock))
+        while (is_taken(lock) || !is_turn_of_late(lock))
             (void)sleep_for(lock, &lock->late_freed, NULL);
         lock->late--;
     }
@@ -95,17 +109,17 @@ static bool await_turn(struct lock *lock, const struct timespec *end) {
 }
 
 static inline void take(struct lock *lock, const struct timespec *end) {
-    lock->was_late = (lock->is_taken || is_turn_of_late(lock)) && await_turn(lock, end);
-    lock->is_taken = true;
+    lock->was_late = (is_taken(lock) || is_turn_of_late(lock)) && await_turn(lock, end);
+    atomic_store(&lock->state, CROWDED | TAKEN);
 }
 
-void lock_take(struct lock *lock, const struct timespec *end) {
+void lock_take_in_turn(struct lock *lock, const struct timespec *end) {
     hold(lock);
     take(lock, end);
     let_go(lock);
 }
 
-void lock_give(struct lock *lock, bool has_changed) {
+void lock_give_in_turn(struct lock *lock, bool has_changed) {
     hold(lock);
     free_it(lock);
     if (has_changed) {

@@ -106,7 +106,9 @@ impl CallLog {
         self.is_begun = true;
     }
 
-    /// The call has this answer.
+    /// The call has this answer. It stands in whoever was told it, since an answer is large, and would
+    /// else be moved through memory to be looked at.
+    #[inline(always)]
     pub fn end(&mut self, answer: &Answer)
         ensures { Ends (Some answer.now) self.old self.new }
     {

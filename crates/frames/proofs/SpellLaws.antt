@@ -6,7 +6,7 @@ use Rattle.queue_model.specs.declared.call.Call.{Call}
 use Rattle.queue_model.specs.declared.call.Call.TheVariants.{Get, Send, Receive, Stat, Set, Remove}
 use Rattle.frames.specs.declared.frame.Frame.{Frame}
 use Rattle.frames.specs.declared.spelling.Asker.{Asker}
-use Rattle.frames.specs.Little.{two, four, eight}
+use Rattle.frames.specs.Little.{four, eight}
 use Rattle.frames.specs.Frames.{frame_bytes, joined}
 use Rattle.frames.specs.Answers.{appended}
 use Rattle.frames.specs.Requests.{call_frame, or_zero, type_number}
@@ -87,20 +87,25 @@ module _ (asker : Asker) (caller : Caller) (call : Call) where
       let count : 20 + len ≡ length (behind_length h) = omega (arith, is, size, length-behind h) in
       parted len ∙ ap (λ (k : ℕ). four k ++ behind_length h) count
 
-  -- each part is put behind what stood there
-  pub put_is : (front headed rowed new : List ℕ) (len : ℕ) → len ≡ 12 + fields_len call →
-      headed ≡ appended front (head_parts asker.connection caller len) →
-      rowed ≡ appended headed (row_parts (row_of asker.number call)) → new ≡ appended rowed (field_parts call) →
-      new ≡ front ++ call_record asker caller call
-  put_is front headed rowed new len is first second third =
+  -- what stands before the fields is put behind what stood there, and then they are
+  pub put_is : (front put new : List ℕ) (len : ℕ) → len ≡ 12 + fields_len call →
+      put ≡ front
+      ++ appended (appended [] (head_parts asker.connection caller len)) (row_parts (row_of asker.number call)) →
+      new ≡ appended put (field_parts call) → new ≡ front ++ call_record asker caller call
+  put_is front put new len is first second =
       let head = joined (head_parts asker.connection caller len) in
       let row = joined (row_parts (row_of asker.number call)) in
       let fields = joined (field_parts call) in
-      let a : headed ≡ front ++ head = first ∙ regrouped front (head_parts asker.connection caller len) in
-      let b : rowed ≡ (front ++ head) ++ row =
-      second ∙ regrouped headed (row_parts (row_of asker.number call)) ∙ ap (λ (xs : List ℕ). xs ++ row) a in
-      third ∙ regrouped rowed (field_parts call) ∙ ap (λ (xs : List ℕ). xs ++ fields) b
-      ∙ append_assoc (front ++ head) row fields
-      ∙ ap (λ (xs : List ℕ). (front ++ head) ++ xs) behind
-      ∙ append_assoc front head (frame_bytes frame)
-      ∙ ap (λ (xs : List ℕ). front ++ xs) (record_is len is)
+      let parts : appended (appended [] (head_parts asker.connection caller len)) (row_parts (row_of asker.number call))
+      ≡ head ++ row =
+      regrouped (appended [] (head_parts asker.connection caller len)) (row_parts (row_of asker.number call))
+      ∙ ap (λ (xs : List ℕ). xs ++ row) (regrouped [] (head_parts asker.connection caller len)) in
+      second ∙ regrouped put (field_parts call)
+      ∙ ap (λ (xs : List ℕ). xs ++ fields) (first ∙ ap (λ (xs : List ℕ). front ++ xs) parts)
+      ∙ append_assoc front (head ++ row) fields
+      ∙ ap (λ (xs : List ℕ). front ++ xs) (append_assoc head row fields
+      ∙ ap (λ (xs : List ℕ). head ++ xs) behind ∙ record_is len is)
+
+-- a part that is set behind others
+pub set_behind : (part before parts now : List ℕ) → now ≡ before ++ part → before ≡ parts → now ≡ parts ++ part
+set_behind part before parts now is same = is ∙ ap (λ (xs : List ℕ). xs ++ part) same

@@ -1,6 +1,6 @@
 //! Numbers in bytes, the lowest byte first: read at a place, and put behind others.
 
-ghost use Rattle.std.specs.Prelude.{◌≡◌, ◌+◌, ◌≤◌, ◌++◌, length};
+ghost use Rattle.std.specs.Prelude.{◌≡◌, ◌+◌, ◌≤◌, ◌++◌, length, take};
 ghost use Rattle.std.specs.Vec.{vec_capacity};
 ghost use Rattle.frames.specs.Little.{two, four, eight, two_at, four_at, eight_at};
 
@@ -80,4 +80,37 @@ pub fn put_all(into: &mut Vec<u8>, bytes: &[u8])
     ensures room { vec_capacity into.old ≤ vec_capacity into.new }
 {
     into.extend_from_slice(bytes).unwrap();
+}
+
+/// Sets the two bytes of a number at a place.
+#[tactic(auto, unfolding(crate::specs::Little::two))]
+pub(crate) fn set_two(bytes: &mut [u8], at: usize, number: u16)
+    requires { at + 2 ≤ length bytes.old }
+    ensures front { take (at + 2) bytes.new ≡ take at bytes.old ++ two number }
+    ensures len { length bytes.new ≡ length bytes.old }
+{
+    let mut part = [0; 2];
+    LittleEndian::write_u16(&mut part, number);
+    set(bytes, at, &part);
+}
+
+/// Sets the four bytes of a number at a place.
+#[tactic(auto, unfolding(crate::specs::Little::four))]
+pub(crate) fn set_four(bytes: &mut [u8], at: usize, number: u32)
+    requires { at + 4 ≤ length bytes.old }
+    ensures front { take (at + 4) bytes.new ≡ take at bytes.old ++ four number }
+    ensures len { length bytes.new ≡ length bytes.old }
+{
+    let mut part = [0; 4];
+    LittleEndian::write_u32(&mut part, number);
+    set(bytes, at, &part);
+}
+
+/// Sets these bytes at a place.
+pub(crate) fn set(bytes: &mut [u8], at: usize, part: &[u8])
+    requires { at + length part.now ≤ length bytes.old }
+    ensures front { take (at + length part.now) bytes.new ≡ take at bytes.old ++ part.now }
+    ensures len { length bytes.new ≡ length bytes.old }
+{
+    bytes[at..at + part.len()].copy_from_slice(part);
 }

@@ -1,7 +1,7 @@
 //! A call as the record by which a client asks for it, behind other bytes (docs/PROTOCOL.md,
 //! "Requests"). `read` reads it again.
 
-ghost use Rattle.std.specs.Prelude.{◌≡◌, ◌≤◌, ◌+◌, ◌++◌, true, length};
+ghost use Rattle.std.specs.Prelude.{◌≡◌, ◌≤◌, ◌+◌, ◌++◌, [], true, length};
 ghost use Rattle.std.specs.Vec.{vec_capacity};
 ghost use Rattle.frames.specs.Answers.{appended};
 ghost use Rattle.frames.specs.Spelling.{call_record, field_parts, fields_len, has_short_body, head_parts, row_of, row_parts};
@@ -10,7 +10,7 @@ ghost use Rattle.frames.specs.declared.reading.TheConstants.{MAX_RECORD};
 use crate::bytes::Bytes;
 use crate::calls::{NO_ERROR, NO_WAIT, flag, get_flags, set_flags};
 use crate::frame::Frame;
-use crate::little::{put_all, put_eight, put_four, put_two};
+use crate::little::{put_all, put_eight, put_four, set, set_four, set_two};
 use numbers::limits::MAX_BODY;
 use queue_model::{Call, Caller};
 
@@ -32,8 +32,13 @@ pub fn put_call(into: &mut Vec<u8>, asker: Asker, caller: Caller, call: &Call)
     ensures room { vec_capacity into.old ≤ vec_capacity into.new }
 {
     let frame = row_of(asker.number, call);
-    put_head(into, asker.connection, caller, 12 + len_of_fields(call));
-    put_row(into, &frame);
+    put_front(
+        into,
+        asker.connection,
+        caller,
+        12 + len_of_fields(call),
+        &frame,
+    );
     put_fields(into, call);
 }
 
@@ -93,34 +98,28 @@ fn len_of_fields(call: &Call) -> usize
     }
 }
 
-/// Puts the relay's part of a record behind which so many bytes are to stand.
-fn put_head(into: &mut Vec<u8>, connection: u32, caller: Caller, behind: usize)
+/// Puts what stands before the fields of a record, of which so many bytes are to stand behind the
+/// relay's part: that part, and a frame without its fields. They are put all at once.
+fn put_front(into: &mut Vec<u8>, connection: u32, caller: Caller, behind: usize, frame: &Frame)
     requires few { behind ≤ 20 + MAX_BODY }
-    requires room { length into.old.items + 24 ≤ vec_capacity into.old }
-    ensures value { into.new.items ≡ appended into.old.items
-        (head_parts connection caller behind) }
-    ensures len { length into.new.items ≡ length into.old.items + 24 }
+    requires room { length into.old.items + 36 ≤ vec_capacity into.old }
+    ensures value { into.new.items ≡ into.old.items ++
+        appended (appended [] (head_parts connection caller behind)) (row_parts frame.now) }
+    ensures len { length into.new.items ≡ length into.old.items + 36 }
     ensures room { vec_capacity into.old ≤ vec_capacity into.new }
 {
-    put_four(into, (20 + behind) as u32);
-    put_four(into, connection);
-    put_four(into, 0);
-    put_four(into, caller.pid);
-    put_four(into, caller.uid);
-    put_four(into, caller.gid);
-}
-
-/// Puts a frame without its fields.
-fn put_row(into: &mut Vec<u8>, frame: &Frame)
-    requires room { length into.old.items + 12 ≤ vec_capacity into.old }
-    ensures value { into.new.items ≡ appended into.old.items (row_parts frame.now) }
-    ensures len { length into.new.items ≡ length into.old.items + 12 }
-    ensures room { vec_capacity into.old ≤ vec_capacity into.new }
-{
-    put_four(into, frame.number);
-    put_all(into, &[frame.code, frame.flags]);
-    put_two(into, frame.mode);
-    put_four(into, frame.id);
+    let mut front = [0; 36];
+    set_four(&mut front, 0, (20 + behind) as u32);
+    set_four(&mut front, 4, connection);
+    set_four(&mut front, 8, 0);
+    set_four(&mut front, 12, caller.pid);
+    set_four(&mut front, 16, caller.uid);
+    set_four(&mut front, 20, caller.gid);
+    set_four(&mut front, 24, frame.number);
+    set(&mut front, 28, &[frame.code, frame.flags]);
+    set_two(&mut front, 30, frame.mode);
+    set_four(&mut front, 32, frame.id);
+    put_all(into, &front);
 }
 
 /// Puts the fields of a call.

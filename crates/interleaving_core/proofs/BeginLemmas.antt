@@ -1,7 +1,8 @@
 -- A kernel that is opened is whole, and one at whose seat a call begins.
-use Rattle.std.proofs.Common.{◌≡◌, refl, sym, ap, ◌∙◌, subst, ℕ, zero, suc, ◌+◌, ◌-◌, ◌≤◌, ◌<◌, false, true, inl, inr, List, [], ◌∷◌, ◌++◌, Option, Some, None, length, length-append, map, replicate, slice_index_or, slice_set, arith}
+use Rattle.std.proofs.Common.{◌≡◌, refl, sym, ap, ◌∙◌, subst, ℕ, zero, suc, ◌+◌, ◌-◌, ◌≤◌, ◌<◌, false, true, inl, inr, List, [], ◌∷◌, ◌++◌, Option, Some, None, length, length-append, map, replicate, slice_index_or, slice_set, nat_lt, Bool, arith}
 use Rattle.std.specs.Prelude.{sum_by}
 use Rattle.std.proofs.lemmas.Bool.{cases_eq}
+use Rattle.std.proofs.lemmas.Bool.Decides.{nat_tests}
 use Rattle.std.proofs.lemmas.List.{length-replicate}
 use Rattle.std.proofs.lemmas.List.Sums.{sum_by-cons}
 use Rattle.std.specs.List.{All}
@@ -24,6 +25,20 @@ use Rattle.queue_model.specs.declared.entry.Entry.TheVariants.{Stopped}
 use Rattle.std.specs.Option.{is_some}
 
 -- ---- a call begins
+
+-- the session is not full
+pub not_full : (entries : ℕ) (full : Bool) → full ≡ nat_lt MAX_DECIDED entries → full ≡ false → entries ≤ MAX_DECIDED
+not_full entries full is room = let test : nat_lt MAX_DECIDED entries ≡ false = sym is ∙ room in
+    grind (arith, nat_tests)
+
+-- nor where it has so few
+pub is_few : {K : Type 0} (s : KernelState K) → length s.journal + length s.seats < MAX_DECIDED →
+    false ≡ nat_lt MAX_DECIDED (entries_of s)
+is_few s few =
+    let calls = all_due s.seats in
+    let stop = stop_due s.stopped in
+    let less : entries_of s ≤ MAX_DECIDED = omega (arith, few, calls, stop) in
+    grind (arith, nat_tests)
 
 pub caller_there : (callers : List Caller) (seat : ℕ) → 1 ≤ seat → seat ≤ length callers → (c : Caller) →
     c ≡ slice_index_or callers (seat - 1) c → caller_at callers seat ≡ Some c

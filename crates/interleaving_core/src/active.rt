@@ -115,11 +115,12 @@ impl Active {
         let Ok(draft) = Draft::of(&call, &room) else {
             return Err(call);
         };
-        self.machine.renew(caller, call, room);
+        // The draft goes to its place before the call does, so that not both are moved at once.
         self.draft = Some(draft);
         self.begun = many;
         self.decided = many;
         self.wait = None;
+        self.machine.renew(caller, call, room);
         Ok(())
     }
 

@@ -1,6 +1,6 @@
 //! The kernel.
 
-ghost use Rattle.std.specs.Prelude.{◌≡◌, ◌↔◌, ◌+◌, ◌*◌, ◌^◌, ◌≤◌, ◌<◌, Some, false, true, IsTrue, IsErrAnd, IfErr, IfOk, length, sum_by};
+ghost use Rattle.std.specs.Prelude.{◌≡◌, ◌↔◌, ◌+◌, ◌*◌, ◌^◌, ◌≤◌, ◌<◌, Some, false, true, IsTrue, IsErrAnd, IfErr, IfOk, length, nat_lt, sum_by};
 ghost use Rattle.std.specs.List.{list_any};
 ghost use Rattle.page_device.specs.Device.{HasRisen};
 ghost use Rattle.interleaving_core.specs.Active.{ActiveView};
@@ -216,7 +216,7 @@ impl<D: PageDevice + Drop, K: PseudoKey + Drop> Kernel<D, K> {
         if self.seats[place].has_call() {
             return Err((call, BeginFault::Busy));
         }
-        if self.entries() > MAX_DECIDED {
+        if self.is_full() {
             return Err((call, BeginFault::SessionFull));
         }
         let Ok(()) = self.journal.reserve(self.seats.len() + 1) else {
@@ -344,6 +344,17 @@ impl<D: PageDevice + Drop, K: PseudoKey + Drop> Kernel<D, K> {
         let journal = self.journal;
         let device = self.pool.into_device();
         Closed { device, journal }
+    }
+
+    /// Whether as many calls are decided and under way as one session may decide. The seats are only
+    /// looked at where that is near: for each of them one entry is due at most, and one for a stop.
+    fn is_full(&self) -> bool
+        ensures { result ≡ nat_lt MAX_DECIDED (entries_of self.now) }
+    {
+        if self.journal.len() + self.seats.len() < MAX_DECIDED {
+            return false;
+        }
+        self.entries() > MAX_DECIDED
     }
 
     /// The entries that the journal has, and those that are due.

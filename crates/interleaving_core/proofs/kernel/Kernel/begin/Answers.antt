@@ -1,6 +1,5 @@
 -- The call is at its seat, or comes back.
-use Rattle.std.proofs.Common.{◌≡◌, ◌∙◌, sym, ap, subst, ℕ, ◌+◌, ◌-◌, ◌≤◌, Some, length, slice_set, vec_capacity, arith}
-use Rattle.std.proofs.lemmas.Bool.Decides.{nat_tests}
+use Rattle.std.proofs.Common.{◌≡◌, ◌∙◌, sym, ap, subst, ℕ, ◌+◌, ◌-◌, ◌≤◌, Some, length, nat_lt, slice_set, vec_capacity, arith}
 use Rattle.std.proofs.lemmas.Grind.{common_steps}
 use Rattle.std.specs.Option.{is_some}
 use Rattle.interleaving_core.specs.Active.{HasBegunAt}
@@ -9,7 +8,7 @@ use Rattle.interleaving_core.specs.Kernel.{KernelState, entries_of, with_call}
 use Rattle.interleaving_core.specs.Words.{IsSeat}
 use Rattle.interleaving_core.specs.declared.fault.BeginFault.TheVariants.{NoMemory}
 use Rattle.interleaving_core.specs.declared.kernel.TheConstants.{MAX_DECIDED}
-use Rattle.interleaving_core.proofs.BeginLemmas.{begun_at, caller_there, has_call, made_of, no_call, same_seats, whole_begun}
+use Rattle.interleaving_core.proofs.BeginLemmas.{begun_at, caller_there, has_call, made_of, no_call, not_full, same_seats, whole_begun}
 use Rattle.interleaving_core.proofs.KernelLemmas.{seat_there, slot_here}
 use Rattle.interleaving_core.proofs.PlaceLemmas.{with_place}
 use Rattle.interleaving_core.proofs.kernel.Kernel.begin.Goals as goal
@@ -47,16 +46,16 @@ returns-in-Err-clause-err g c =
     let there = seat_there old c.self.invariant c.args.seat is in
     let none = no_call c.index.result.now (sym c.has_call.ensures ∙ c.if-has_call.false) in
     let free = sym (slot_here old.seats c.args.seat c.index.result.now is.0 there c.index.ensures) ∙ none in
-    let few : c.entries.result ≤ MAX_DECIDED = grind (arith, nat_tests) in
-    let same : c.entries.result ≡ entries_of old =
-    c.entries.ensures ∙ ap (λ (k : KernelState g.row.K.Denot). entries_of k) (sym c.self.view_is) in
+    let few = not_full (entries_of old) c.is_full.result
+    (c.is_full.ensures ∙ ap (λ (k : KernelState g.row.K.Denot). nat_lt MAX_DECIDED (entries_of k)) (sym c.self.view_is))
+    c.if-is_full.false in
     let made : new ≡ record old { room = new.room } =
     made_of old new.seats old.seats new.journal new.room
     (same_seats old.seats c.args.seat c.begin.new.self is.0 free c.in-Err.ensures.same) c.in-Ok.ensures.items in
     subst (λ (k : KernelState g.row.K.Denot). IsRefused c.args.seat c.args.call (c.in-Err.call, NoMemory) k new)
     c.self.view_is record {
       back = c.in-Err.ensures.err;
-      cause = (sym c.is_some.ensures ∙ c.if-is_some.false, free, λ full. omega (arith, full, few, same));
+      cause = (sym c.is_some.ensures ∙ c.if-is_some.false, free, λ full. omega (arith, full, few));
       same = made;
     }
 
@@ -93,7 +92,9 @@ invariant_of-self-2 g c =
     let there = seat_there old c.self.invariant c.args.seat is in
     let none = no_call c.index.result.now (sym c.has_call.ensures ∙ c.if-has_call.false) in
     let free = sym (slot_here old.seats c.args.seat c.index.result.now is.0 there c.index.ensures) ∙ none in
-    let few : c.entries.result ≤ MAX_DECIDED = grind (arith, nat_tests) in
+    let few = not_full (entries_of old) c.is_full.result
+    (c.is_full.ensures ∙ ap (λ (k : KernelState g.row.K.Denot). nat_lt MAX_DECIDED (entries_of k)) (sym c.self.view_is))
+    c.if-is_full.false in
     let caller = c.index-caller.result.now in
     let many : c.len-many.result ≡ length old.journal = grind (arith, common_steps) in
     let (active, is_there, begun) =
@@ -111,9 +112,7 @@ invariant_of-self-2 g c =
     c.index-caller.ensures in
     let memory : length old.journal + (length old.seats + 1) ≤ vec_capacity c.reserve.new.self =
     grind (arith, common_steps) in
-    whole_begun c.args.seat caller c.args.call active old new c.self.invariant is free sits begun made memory
-    (subst (λ (n : ℕ). n ≤ MAX_DECIDED)
-    (c.entries.ensures ∙ ap (λ (k : KernelState g.row.K.Denot). entries_of k) (sym c.self.view_is)) few)
+    whole_begun c.args.seat caller c.args.call active old new c.self.invariant is free sits begun made memory few
 
 pub returns-clause-ok : goal.returns-clause-ok
 returns-clause-ok g c =
@@ -148,9 +147,9 @@ returns-clause-ok g c =
     let there = seat_there old c.self.invariant c.args.seat is in
     let none = no_call c.index.result.now (sym c.has_call.ensures ∙ c.if-has_call.false) in
     let free = sym (slot_here old.seats c.args.seat c.index.result.now is.0 there c.index.ensures) ∙ none in
-    let few : c.entries.result ≤ MAX_DECIDED = grind (arith, nat_tests) in
-    let same : c.entries.result ≡ entries_of old =
-    c.entries.ensures ∙ ap (λ (k : KernelState g.row.K.Denot). entries_of k) (sym c.self.view_is) in
+    let few = not_full (entries_of old) c.is_full.result
+    (c.is_full.ensures ∙ ap (λ (k : KernelState g.row.K.Denot). nat_lt MAX_DECIDED (entries_of k)) (sym c.self.view_is))
+    c.if-is_full.false in
     let caller = c.index-caller.result.now in
     let many : c.len-many.result ≡ length old.journal = grind (arith, common_steps) in
     let (active, is_there, begun) =
@@ -169,7 +168,7 @@ returns-clause-ok g c =
     let may : MayBegin c.args.seat old = record {
       sound = sym c.is_some.ensures ∙ c.if-is_some.false;
       free = free;
-      few = λ full. omega (arith, full, few, same);
+      few = λ full. omega (arith, full, few);
     } in
     subst (λ (k : KernelState g.row.K.Denot). HasCall c.args.seat c.args.call k new) c.self.view_is
     (has_call c.args.seat caller c.args.call active old new may sits c.a_calls_numbers_fit.ensures begun made)
