@@ -5,8 +5,8 @@ use Rattle.msgq_cli.specs.Scripts.{Parts, script_of}
 use Rattle.msgq_cli.specs.declared.ending.Ending.{Ending}
 use Rattle.msgq_cli.specs.record_file.Files.{IsNewFile}
 use Rattle.replays.specs.Texts.{Effects}
-use Rattle.session_runs.specs.Serves.{RunsOn, RunsScript, RunsText}
-use Rattle.session_runs.specs.declared.serving.TheConstants.{MEMORY_PAGES}
+use Rattle.crash_safe_runs.specs.session_runs.Serves.{RunsOn, RunsScript, RunsText}
+use Rattle.crash_safe_runs.specs.session_runs.declared.serving.TheConstants.{MEMORY_PAGES}
 use Rattle.service_runs.specs.Beside.{RunsBesideOn, is_of_one_seat}
 use Rattle.msgq.specs.Scripts.{RunsAsOne, RunsNewAsOne, RunsRead, RunsScriptOn, RunsTextNew}
 

@@ -5,9 +5,9 @@ use Rattle.msgq_cli.specs.declared.ending.Ending.{Ending}
 use Rattle.replays.specs.Texts.{Effects}
 use Rattle.service_runs.proofs.SpelledLemmas.{beside_spelled}
 use Rattle.service_runs.specs.Beside.{is_of_one_seat}
-use Rattle.session_runs.specs.Spelled.{IsLeftUnopened}
-use Rattle.session_runs.proofs.ServeLemmas.{plainly}
-use Rattle.session_runs.proofs.SpelledLemmas.{spelled, unopened}
+use Rattle.crash_safe_runs.specs.session_runs.Spelled.{IsLeftUnopened}
+use Rattle.crash_safe_runs.proofs.of_session_runs.ServeLemmas.{plainly}
+use Rattle.crash_safe_runs.proofs.of_session_runs.SpelledLemmas.{spelled, unopened}
 use Rattle.msgq.specs.Scripts.{RunsAsOne, RunsScriptOn}
 use Rattle.msgq.specs.Spelled.{RunsAsOneSpelled, RunsScriptSpelled}
 

@@ -10,8 +10,8 @@ use Rattle.msgq_cli.specs.declared.ending.Ending.TheVariants.{WrongLine}
 use Rattle.msgq_cli.specs.record_file.Files.{IsNewFile}
 use Rattle.replays.specs.Texts.{Effects}
 use Rattle.service_runs.specs.Beside.{RunsBesideOn, is_of_one_seat}
-use Rattle.session_runs.specs.Serves.{RunsNew, RunsOn}
-use Rattle.session_runs.specs.declared.serving.TheConstants.{MEMORY_PAGES}
+use Rattle.crash_safe_runs.specs.session_runs.Serves.{RunsNew, RunsOn}
+use Rattle.crash_safe_runs.specs.session_runs.declared.serving.TheConstants.{MEMORY_PAGES}
 
 -- a script of one seat is run line by line
 abbrev pub RunsAsOne : (one : Bool) → Parts → (honest : Bool) → Effects → Ending → Type 0

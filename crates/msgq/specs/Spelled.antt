@@ -6,8 +6,8 @@ use Rattle.msgq_cli.specs.declared.ending.Ending.{Ending}
 use Rattle.replays.specs.Texts.{Effects}
 use Rattle.service_runs.specs.Beside.{RunsBesideBy, is_of_one_seat}
 use Rattle.service_runs.specs.Spelled.{HadToAdd, IsSpelledJournal, LeavesSpelled}
-use Rattle.session_runs.specs.PlainRuns.{IsPlainRunBy}
-use Rattle.session_runs.specs.Spelled.{IsLeftUnopened, RunsPages}
+use Rattle.crash_safe_runs.specs.session_runs.PlainRuns.{IsPlainRunBy}
+use Rattle.crash_safe_runs.specs.session_runs.Spelled.{IsLeftUnopened, RunsPages}
 
 -- a script of one seat is run line by line
 abbrev pub RunsAsOneSpelled : (one : Bool) → Parts → (honest : Bool) → Effects → Ending → Type 0

@@ -8,9 +8,9 @@ ghost use Rattle.msgq.specs.Scripts.{RunsScriptOn};
 ghost use Rattle.msgq.specs.Spelled.{RunsScriptSpelled};
 ghost use Rattle.service_runs.specs.Beside.{RunsBesideOn, is_of_one_seat};
 
-use crash_safe_runs::conclude;
 use crash_safe_runs::deferred_sync::safe_device::{PagePair, SafeDevice};
 use crash_safe_runs::deferred_sync::{Beginning, DeferredSync, a_settled_device_is_lent};
+use crash_safe_runs::{conclude, session_runs};
 use interleaving_core::OpenFault;
 use msgq_cli::{Output, Script};
 use page_device::PageDevice;

@@ -5,6 +5,7 @@ ghost use Rattle.msgq.specs.Scripts.{RunsInputNew, RunsTextNew};
 
 use crate::answered::Progress;
 use crate::runs::{run_on, run_over};
+use crash_safe_runs::session_runs::{MEMORY_PAGES, serve_text};
 use msgq_cli::record_file::format;
 use msgq_cli::{
     Ending, Output, Stage, complain_of, fail, leave_unopened, read_script, read_text, refuse,
@@ -14,7 +15,6 @@ use page_device::MemDevice;
 use replays::{complain_of_ran, script_in};
 use rollback_journal::{Opening, open_in_turn};
 use service_runs::{ThreadASeat, is_of_one_seat};
-use session_runs::{MEMORY_PAGES, serve_text};
 use std::fs::File;
 use std::io::{Eprint, IsTerminal, Read, Write};
 use std::rt::Files;
