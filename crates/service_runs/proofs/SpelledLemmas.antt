@@ -1,5 +1,5 @@
 -- A run of several seats on a file, told of what its pages mean.
-use Rattle.std.proofs.Common.{ℕ, zero, suc, refl, sym, subst, IsTrue, List, [], ◌∷◌, take}
+use Rattle.std.proofs.Common.{ℕ, zero, suc, refl, sym, subst, IsTrue, Bool, List, [], ◌∷◌, take}
 use Rattle.bucket_page.specs.Pseudokeys.{sha_key}
 use Rattle.interleavings.proofs.of_files_at_rest.SpelledLemmas.{spells}
 use Rattle.queue_model.proofs.JournalLemmas.{after-Leads, after-LeadsAlong}
