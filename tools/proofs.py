@@ -18,8 +18,8 @@ import threading
 
 # As many processors as a proof can use: above that there is no gain.
 MOST_JOBS = 3
-# What the start of a proof takes, in lines of code that take as long.
-START = 200
+# What the start of a proof takes, and more for each crate that it stands on, in lines of code that take as long.
+START, BELOW = 50, 20
 # A chain is long where it has so much of the longest that is left.
 LONG = 0.85
 # Another proof begins where so many bytes of memory are free, and has one processor more where so many are.
@@ -168,7 +168,7 @@ class Proofs:
         self.news, self.is_ended = threading.Condition(), False
         self.most, self.above = processors(), dict.fromkeys(crates, 0)
         for name, it in reversed([*crates.items()]):
-            self.above[name] += it.lines
+            self.above[name] += it.lines + BELOW * len(it.below)
             for low in it.below:
                 self.above[low.name] = max(self.above[low.name], self.above[name])
 

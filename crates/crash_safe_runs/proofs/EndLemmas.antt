@@ -12,7 +12,7 @@ use Rattle.msgq_cli.specs.declared.ending.Ending.{Ending}
 use Rattle.msgq_cli.specs.declared.ending.Ending.TheVariants.{Done, Faulty, Failed, Unopened, WrongLine, WrongWord}
 use Rattle.msgq_cli.specs.declared.reply.Reply.{Reply}
 use Rattle.replays.specs.Replays.{EndsWith, ending_by, is_fault_told}
-use Rattle.replays.specs.Runs.{EndsWell}
+use Rattle.session_runs.specs.Runs.{EndsWell}
 use Rattle.crash_safe_runs.specs.Concluding.{is_to_commit, is_well}
 
 -- a fault that no line met is no good ending

@@ -10,10 +10,10 @@ use Rattle.msgq_cli.specs.Refusals.{IsFaultAlone}
 use Rattle.msgq_cli.specs.Runs.{ending_of}
 use Rattle.msgq_cli.specs.Scripts.{Parts}
 use Rattle.msgq_cli.specs.declared.ending.Ending.{Ending}
-use Rattle.replays.specs.PlainRuns.{IsPlainRun, RunsPlainly}
+use Rattle.session_runs.specs.PlainRuns.{IsPlainRun, RunsPlainly}
 use Rattle.replays.specs.Replays.{EndsWith}
-use Rattle.replays.specs.Runs.{EndsWell}
-use Rattle.replays.specs.Serves.{IsRunOn, RunsOn}
+use Rattle.session_runs.specs.Runs.{EndsWell}
+use Rattle.session_runs.specs.Serves.{IsRunOn, RunsOn}
 use Rattle.replays.specs.Texts.{Effects, IsUnopened}
 use Rattle.crash_safe_runs.specs.Concluding.{Concludes, IsAbandoned, fault_of, is_to_commit, is_well}
 use Rattle.deferred_sync.specs.Crash.{Pages}

@@ -9,7 +9,7 @@ use Rattle.interleavings.specs.LoneKernelWords.{IsFileOf, State, restarted}
 use Rattle.msgq_cli.specs.Outputs.{OutputState}
 use Rattle.msgq_cli.specs.Scripts.{Parts}
 use Rattle.msgq_cli.specs.declared.ending.Ending.{Ending}
-use Rattle.replays.specs.PlainRuns.{IsPlainRun}
+use Rattle.session_runs.specs.PlainRuns.{IsPlainRun}
 use Rattle.replays.specs.Texts.{Effects}
 use Rattle.crash_safe_runs.specs.Concluding.{is_well}
 use Rattle.deferred_sync.specs.Crash.{LeavesBeforeOrAfter, Pages}

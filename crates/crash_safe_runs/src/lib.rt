@@ -13,3 +13,4 @@ pub use deferred_sync;
 pub use files::{Sources, replay_file, run_file};
 pub use replaying::replay_over;
 pub use scripts::run_over;
+pub use session_runs;

@@ -3,19 +3,20 @@
 ghost use Rattle.std.specs.Prelude.{◌≡◌, IsTrue};
 ghost use Rattle.crash_safe_runs.specs.Scripts.{RunsOver, effects_on};
 ghost use Rattle.crash_safe_runs.specs.deferred_sync.Deferred.{IsLent, IsSettled, start_of};
-ghost use Rattle.replays.specs.PlainRuns.{RunsPlainly};
-ghost use Rattle.replays.specs.Serves.{RunsOn};
+ghost use Rattle.session_runs.specs.PlainRuns.{RunsPlainly};
+ghost use Rattle.session_runs.specs.Serves.{RunsOn};
 
 use crate::concluding::conclude;
 use deferred_sync::safe_device::{PagePair, SafeDevice};
 use deferred_sync::{Beginning, DeferredSync, a_settled_device_is_lent};
+use replays::Ran;
 use replays::msgq_cli::{Output, Script};
-use replays::{Ran, run_on};
+use session_runs::run_on;
 use std::alloc::Global;
 use std::io::Write;
 use std::marker::Brand;
 
-/// Runs a script of one seat on the file of a device, line by line, as `replays::run_on` does.
+/// Runs a script of one seat on the file of a device, line by line, as `session_runs::run_on` does.
 ///
 /// Cut off at any moment, it leaves what the next opening finds as the file of before, or as that
 /// of the system which the lines left by their replies, all of which were printed; once it has

@@ -1,2 +1,3 @@
-pub mod WorkLemmas
+pub mod NewLemmas
+pub mod SpelledLemmas
 pub mod OverLemmas

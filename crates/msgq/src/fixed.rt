@@ -3,7 +3,6 @@
 ghost use Rattle.msgq_cli.specs.Tasks.{HasPages};
 
 use crate::answered::Progress;
-use crate::crew::ThreadASeat;
 use crate::scripts::{Scripted, run_file, serve};
 use crash_safe_runs::{Sources, replay_file};
 use migration::{
@@ -12,6 +11,7 @@ use migration::{
 use msgq_cli::{
     Ending, Output, Task, advise, complain, complain_of_lines, map_file, new_file, report_file,
 };
+use service_runs::ThreadASeat;
 use std::fs::File;
 use std::io::{Eprint, IsTerminal, Write};
 use std::rt::Files;

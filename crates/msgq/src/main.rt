@@ -6,7 +6,6 @@
 ghost use Rattle.msgq_cli.specs.Tasks.{HasPages};
 
 mod answered;
-mod crew;
 mod fixed;
 mod runs;
 mod scripts;

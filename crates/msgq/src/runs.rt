@@ -1,36 +1,26 @@
 //! Scripts run on the file of a device, a thread a seat.
 
-ghost use Rattle.std.specs.Prelude.{◌≡◌, ◌≤◌, ◌||◌, ℕ, IsTrue, false, length};
-ghost use Rattle.std.specs.List.{list_any};
-ghost use Rattle.bucket_page.specs.Pseudokeys.{sha_key};
+ghost use Rattle.std.specs.Prelude.{◌≡◌, IsTrue, false};
 ghost use Rattle.crash_safe_runs.specs.Scripts.{effects_on};
 ghost use Rattle.crash_safe_runs.specs.deferred_sync.Deferred.{IsLent, IsSettled, start_of};
 ghost use Rattle.msgq.specs.Runs.{RunsScriptOver, RunsSeatsOver};
-ghost use Rattle.msgq_cli.specs.Scripts.{greatest_seat};
-ghost use Rattle.service_runs.specs.Beside.{RunsBesideOn, RunsFrom, RunsScriptOn, counted_from, is_of_one_seat};
-ghost use Rattle.service_runs.specs.Desks.{AreMade, AreUntouched, IsPlanOf};
-ghost use Rattle.service_runs.specs.Lines.{is_stop};
-ghost use Rattle.service_runs.specs.Spelled.{RunsScriptSpelled};
-ghost use Rattle.workers.specs.Opening.{origin_of};
+ghost use Rattle.msgq.specs.Scripts.{RunsScriptOn};
+ghost use Rattle.msgq.specs.Spelled.{RunsScriptSpelled};
+ghost use Rattle.service_runs.specs.Beside.{RunsBesideOn, is_of_one_seat};
 
-use crate::crew::{ThreadASeat, make_all};
-use crash_safe_runs::conclude;
 use crash_safe_runs::deferred_sync::safe_device::{PagePair, SafeDevice};
 use crash_safe_runs::deferred_sync::{Beginning, DeferredSync, a_settled_device_is_lent};
+use crash_safe_runs::{conclude, session_runs};
 use interleaving_core::OpenFault;
-use msgq_cli::{Command, Line, Output, Script};
+use msgq_cli::{Output, Script};
 use page_device::PageDevice;
-use queue_model::{Call, Entry};
-use replays::{FileKeys, Ran, leave_refused, tell_end};
-use service_runs::{
-    Desk, Plan, Shared, at_desks, end_service, is_of_one_seat, prepare, print_all, seats_of,
-};
+use replays::{Ran, leave_refused};
+use service_runs::{Plan, ThreadASeat, is_of_one_seat, prepare, run_prepared};
 use std::io::{Eprint, Write};
 use std::marker::Brand;
-use std::sync::{Mutex, Wait};
+use std::sync::Wait;
 use std::thread::Threads;
 use std::time::Clock;
-use workers::{Base, GaugePass, Open, Prepared, Room, Started, Stopper};
 
 /// Runs a script on the file of a device, the lines of each seat in a thread of its own, and closes
 /// the file once all answers were handed on.
@@ -49,7 +39,7 @@ use workers::{Base, GaugePass, Open, Prepared, Room, Started, Stopper};
 /// after the replies tells; fault 20 stands there where the file can't be closed. It comes only
 /// where a transfer failed, and of an honest device so does fault 62.
 ///
-/// A script all of whose lines are of one seat is run as `replays::run_on` does, since nobody
+/// A script all of whose lines are of one seat is run as `session_runs::run_on` does, since nobody
 /// could end a wait.
 pub fn run_on<
     R: Threads + Wait + Clock + Eprint + Sync,
@@ -83,7 +73,7 @@ pub fn run_on<
 {
     let alloc = crew.alloc();
     if is_of_one_seat(script) {
-        return replays::run_on(alloc, device, script, output);
+        return session_runs::run_on(alloc, device, script, output);
     }
     let Ok(plan) = Plan::new(alloc, script) else {
         return Ran::unrun(device, leave_refused(OpenFault::NoMemory, output));
@@ -148,138 +138,4 @@ fn run_since<
 {
     let device = DeferredSync::<P, N>::new(device);
     conclude(run_on(crew, device, script, output), output)
-}
-
-/// Runs a script on a file that was opened for its seats, on a service of this name.
-fn run_prepared<
-    N: Room + Base + Send + Sync,
-    R: Threads + Wait + Clock + Eprint + Sync,
-    D: PageDevice + Drop + Send,
-    W: Write + Drop,
->(
-    crew: &ThreadASeat<'_, R>,
-    prepared: Prepared<D, FileKeys>,
-    plan: Plan<'_>,
-    output: &mut Output<W>,
-) -> Ran<D>
-    requires table { prepared.table ≡ N.table }
-    requires origin { origin_of (λ _. sha_key) prepared ≡ N.origin }
-    requires frames { length prepared.content ≤ prepared.frames }
-    requires many { length prepared.callers ≡ greatest_seat plan.script.now.lines }
-    requires plan { IsPlanOf plan.script.now plan }
-    ensures ran { (was : ℕ) → was ≤ prepared.faults → RunsFrom plan.entry.script.now
-        (counted_from was (origin_of (λ _. sha_key) prepared))
-        (record {
-          content = prepared.content;
-          left = D.content result.device;
-          synced = D.is_synced result.device;
-          was = was;
-          faults = D.fault_count result.device;
-          old = output.old;
-          new = output.new;
-          untold = result.is_untold;
-        }) result.ending }
-    ensures same { D.is_honest result.device ≡ prepared.honest }
-{
-    let alloc = crew.alloc();
-    let many = plan.seats.len();
-    let Ok(desks) = Vec::with_capacity(alloc, many) else {
-        return Ran::unrun(
-            prepared.abandon(),
-            leave_refused(OpenFault::NoMemory, output),
-        );
-    };
-    let Ok(back) = Vec::with_capacity(alloc, many) else {
-        return Ran::unrun(
-            prepared.abandon(),
-            leave_refused(OpenFault::NoMemory, output),
-        );
-    };
-    let started = match prepared.start::<Open, N>(Open) {
-        Ok(started) => started,
-        Err(device) => return Ran::unrun(device, leave_refused(OpenFault::NoMemory, output)),
-    };
-    let Started {
-        service,
-        seats: sitters,
-        stopper,
-        mut passes,
-    } = started;
-    let gauge = passes.pop();
-    let Plan {
-        script,
-        seats,
-        mut printed,
-    } = plan;
-    script.keeps_seats();
-    let desks = at_desks(sitters, seats, desks);
-    let (desks, lent) = make_lines(crew, &service, stopper, gauge, desks, script.lines());
-    let (so_far, has_stopped) = print_all(
-        script.lines(),
-        desks.as_slice(),
-        printed.as_mut_slice(),
-        output,
-    );
-    output.flush();
-    let is_untold = output.has_refused();
-    let stopper = stop_if(crew, &service, lent, has_stopped);
-    let (ended, fault) = end_service(service, seats_of(desks, back), stopper, is_untold);
-    let ending = tell_end(fault, so_far, output);
-    Ran {
-        device: ended.device,
-        failure: ended.failure,
-        is_untold,
-        ending,
-    }
-}
-
-/// Has each desk make its lines, with the stopper where one of the lines is a `stop`. No other line
-/// stops the system.
-fn make_lines<
-    's,
-    N: Room + Base + Send + Sync,
-    R: Threads + Wait + Clock + Eprint + Sync,
-    D: PageDevice + Drop + Send,
->(
-    crew: &ThreadASeat<'_, R>,
-    service: &Shared<D, N>,
-    stopper: Stopper<N>,
-    gauge: Option<GaugePass<Entry, Call, N>>,
-    desks: Vec<Desk<'s, N>>,
-    lines: &[Line],
-) -> (Vec<Desk<'s, N>>, Stopper<N>)
-    requires fresh { AreUntouched desks.items }
-    ensures made { AreMade N.origin desks.entry.items result.0.items }
-    ensures none { list_any is_stop lines.now ≡ false → result.1.used ≡ stopper.used }
-{
-    if !lines.iter().any(is_stop) {
-        return (make_all(crew, service, None, gauge, desks), stopper);
-    }
-    let shared = Mutex::new(stopper);
-    let desks = make_all(crew, service, Some(&shared), gauge, desks);
-    (desks, shared.into_inner())
-}
-
-/// Whether a line is a `stop`.
-fn is_stop(line: &Line) -> bool
-    ensures { result ≡ is_stop line.now }
-{
-    matches!(line.command, Command::Stop)
-}
-
-/// Where a line was replied that a stop is made the stopper was used: so it is now, whether or not a
-/// seat has used it.
-fn stop_if<N: Room + Base, R: Wait, D: PageDevice + Drop>(
-    crew: &ThreadASeat<'_, R>,
-    service: &Shared<D, N>,
-    stopper: Stopper<N>,
-    has_stopped: bool,
-) -> Stopper<N>
-    ensures { result.used ≡ (has_stopped || stopper.used) }
-{
-    let mut stopper = stopper;
-    if has_stopped {
-        service.stop(crew.rt(), &mut stopper);
-    }
-    stopper
 }

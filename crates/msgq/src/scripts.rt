@@ -1,20 +1,20 @@
 //! Scripts run on files of the system, and on a file in memory, a thread a seat.
 
 ghost use Rattle.std.specs.Prelude.{◌≡◌};
-ghost use Rattle.service_runs.specs.Beside.{RunsInputNew, RunsTextNew};
+ghost use Rattle.msgq.specs.Scripts.{RunsInputNew, RunsTextNew};
 
 use crate::answered::Progress;
-use crate::crew::ThreadASeat;
 use crate::runs::{run_on, run_over};
+use crash_safe_runs::session_runs::{MEMORY_PAGES, serve_text};
 use msgq_cli::record_file::format;
 use msgq_cli::{
     Ending, Output, Stage, complain_of, fail, leave_unopened, read_script, read_text, refuse,
     unread,
 };
 use page_device::MemDevice;
-use replays::{MEMORY_PAGES, complain_of_ran, script_in, serve_text};
+use replays::{complain_of_ran, script_in};
 use rollback_journal::{Opening, open_in_turn};
-use service_runs::is_of_one_seat;
+use service_runs::{ThreadASeat, is_of_one_seat};
 use std::fs::File;
 use std::io::{Eprint, IsTerminal, Read, Write};
 use std::rt::Files;

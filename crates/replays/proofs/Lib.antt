@@ -12,9 +12,3 @@ pub mod FreeLemmas
 pub mod BeginLemmas
 pub mod SoundLemmas
 pub mod ClosingLemmas
-pub mod ModelWords
-pub mod StopLemmas
-pub mod RunLemmas
-pub mod CallLemmas
-pub mod ServeLemmas
-pub mod SpelledLemmas

@@ -5,8 +5,3 @@ pub mod Journal
 pub mod PlainLists
 pub mod Replays
 pub mod Texts
-pub mod Taking
-pub mod Runs
-pub mod PlainRuns
-pub mod Serves
-pub mod Spelled

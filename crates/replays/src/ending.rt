@@ -3,6 +3,7 @@
 ghost use Rattle.std.specs.Prelude.{◌≡◌, false, None};
 ghost use Rattle.replays.specs.Replays.{EndsWith, IsClosedWell, IsReplayed, MayEndWith, may_write};
 
+use crate::keys::FileKeys;
 use crate::onlooker::Onlooker;
 use crate::printing::print_replies;
 use crate::replay::Replay;
@@ -15,7 +16,6 @@ use msgq_cli::{Ending, Output, Stage, fail};
 use numbers::faults;
 use page_device::PageDevice;
 use schedules::Event;
-use session::FileKeys;
 use std::io::Write;
 
 /// What a replay leaves.

@@ -6,6 +6,7 @@ ghost use Rattle.replays.specs.Events.{BeginsCall, BeginsCommand, BeginsNext, St
 ghost use Rattle.replays.specs.Places.{place_of};
 
 use crate::deed::{Deed, deed_by, reply_by};
+use crate::keys::FileKeys;
 use crate::onlooker::{Onlooker, Sight};
 use crate::progress::Progress;
 use interleavings::interleaving_core::Kernel;
@@ -14,7 +15,6 @@ use numbers::faults;
 use page_device::PageDevice;
 use page_locks::LockTable;
 use queue_model::Call;
-use session::FileKeys;
 
 /// The next line of a seat is begun, if one is left. It is replied at once where it is a `stop`, or
 /// where its call is refused.

@@ -10,6 +10,7 @@ ghost use Rattle.page_device.specs.Device.{HasRisen};
 ghost use Rattle.page_locks.specs.declared.lock_table.TheConstants.{MAX_SEATS};
 ghost use Rattle.replays.specs.Replays.{IsOpenedFor, IsOpenedForSeats, callers_of};
 
+use crate::keys::FileKeys;
 use crate::progress::Progress;
 use crate::replay::Replay;
 use bucket_page::{KeptKeys, ShaKey};
@@ -18,7 +19,6 @@ use interleavings::interleaving_core::{FRAMES_BESIDE, Kernel, OpenFault};
 use msgq_cli::{Ending, Output, Script, Stage, fail, print_fault};
 use page_device::PageDevice;
 use queue_model::{Caller, NoMemory};
-use session::FileKeys;
 use std::alloc::Global;
 use std::io::Write;
 

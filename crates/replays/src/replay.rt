@@ -8,13 +8,13 @@ ghost use Rattle.replays.specs.Journal.{IsSoundReplay};
 ghost use Rattle.replays.specs.Places.{is_idle_for_good};
 
 use crate::deed::Deed;
+use crate::keys::FileKeys;
 use crate::line_events::{begin_next, step_line};
 use crate::onlooker::{Onlooker, Sight};
 use crate::progress::Progress;
 use interleavings::interleaving_core::Kernel;
 use page_device::PageDevice;
 use schedules::Event;
-use session::FileKeys;
 use std::marker::Model;
 use step_rules::Kind;
 

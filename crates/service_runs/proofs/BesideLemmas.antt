@@ -19,7 +19,6 @@ use Rattle.queue_model.specs.declared.call.Call.{Call}
 use Rattle.queue_model.specs.declared.entry.Entry.{Entry}
 use Rattle.replays.specs.Replays.{EndsWith}
 use Rattle.replays.specs.Texts.{Effects}
-use Rattle.replays.specs.Serves.{RunsOn}
 use Rattle.workers.specs.Opening.{PreparedView, origin_of}
 use Rattle.workers.specs.Causes.{HadToInsert}
 use Rattle.workers.specs.Closing.{Remains}
@@ -29,7 +28,7 @@ use Rattle.service_runs.proofs.FitLemmas.{FitsAt, IsWithin, any_seat, fits_all, 
 use Rattle.service_runs.proofs.LineLemmas.{part_told}
 use Rattle.service_runs.proofs.MarkLemmas.{marks}
 use Rattle.service_runs.proofs.PairLemmas.{HasDone, long_sitters, sitter_there, sitters}
-use Rattle.service_runs.specs.Beside.{HasEnded, IsPart, RunsAsOne, RunsBeside, RunsBesideOn, RunsFrom, RunsScriptOn, counted_from, is_of_one_seat, origin_on, told_to}
+use Rattle.service_runs.specs.Beside.{HasEnded, IsPart, RunsBeside, RunsBesideOn, RunsFrom, counted_from, origin_on, told_to}
 use Rattle.service_runs.specs.Desks.{DeskView, IsPreparedFor, MayLackRoom, desk_at}
 use Rattle.service_runs.specs.Lines.{AreFitting, entries_to, is_failure, is_session_full, is_stop, lines_of, replies_to}
 use Rattle.service_runs.specs.Printing.{IsPrintedOf}
@@ -245,18 +244,6 @@ module _ (script : Parts) (honest : Bool) (c : Effects) (p : PreparedView ShaKey
       subst (λ (o : Origin). RunsFrom script o c ending) origin_is
       (subst (λ (x : List (List ℕ)). RunsFrom script (counted_from c.was (origin_of (λ _. sha_key) p))
       (record c { content = x }) ending) f.content_is runs)
-
--- ---- by how many seats
-
-pub as_one : (script : Parts) (honest : Bool) (c : Effects) (ending : Ending) → is_of_one_seat script.lines ≡ true →
-    RunsOn script honest c ending → RunsScriptOn script honest c ending
-as_one script honest c ending one runs =
-    subst (λ (b : Bool). RunsAsOne b script honest c ending) (sym one) runs
-
-pub as_several : (script : Parts) (honest : Bool) (c : Effects) (ending : Ending) →
-    is_of_one_seat script.lines ≡ false → RunsBesideOn script honest c ending → RunsScriptOn script honest c ending
-as_several script honest c ending several runs =
-    subst (λ (b : Bool). RunsAsOne b script honest c ending) (sym several) runs
 
 pub from_origin : (script : Parts) (o other : Origin) (c : Effects) (ending : Ending) → o ≡ other →
     RunsBeside script other c ending → RunsFrom script o c ending

@@ -7,5 +7,5 @@ pub mod PairLemmas
 pub mod PlanLemmas
 pub mod EndLemmas
 pub mod BesideLemmas
-pub mod NewLemmas
 pub mod SpelledLemmas
+pub mod WorkLemmas

@@ -1,5 +1,5 @@
 -- A run of several seats on a file, told of what its pages mean.
-use Rattle.std.proofs.Common.{◌⊎◌, inl, inr, ℕ, zero, suc, refl, sym, subst, IsTrue, false, true, Bool, List, [], ◌∷◌, take}
+use Rattle.std.proofs.Common.{ℕ, zero, suc, refl, sym, subst, IsTrue, Bool, List, [], ◌∷◌, take}
 use Rattle.bucket_page.specs.Pseudokeys.{sha_key}
 use Rattle.interleavings.proofs.of_files_at_rest.SpelledLemmas.{spells}
 use Rattle.queue_model.proofs.JournalLemmas.{after-Leads, after-LeadsAlong}
@@ -10,15 +10,12 @@ use Rattle.msgq_cli.specs.file_check.Whole.{IsFileOf}
 use Rattle.msgq_cli.specs.declared.ending.Ending.{Ending}
 use Rattle.interleavings.specs.LoneKernelWords.{Call, Caller, State, restarted}
 use Rattle.replays.specs.Replays.{callers_of}
-use Rattle.replays.specs.Spelled.{IsLeftUnopened}
 use Rattle.replays.specs.Texts.{Effects}
-use Rattle.replays.proofs.ServeLemmas.{plainly}
-use Rattle.replays.proofs.SpelledLemmas.{spelled, unopened}
 use Rattle.workers.specs.Causes.{HadToInsert}
 use Rattle.workers.specs.Origins.{IsJournalOf, LeavesFile}
 use Rattle.service_runs.proofs.FitLemmas.{fitting_still}
-use Rattle.service_runs.specs.Beside.{RunsAsOne, RunsBeside, RunsBesideBy, RunsScriptOn, is_of_one_seat, origin_on}
-use Rattle.service_runs.specs.Spelled.{HadToAdd, IsSpelledJournal, LeavesSpelled, RunsAsOneSpelled, RunsScriptSpelled}
+use Rattle.service_runs.specs.Beside.{RunsBeside, RunsBesideBy, origin_on}
+use Rattle.service_runs.specs.Spelled.{HadToAdd, IsSpelledJournal, LeavesSpelled}
 
 -- so many entries of a journal lead to the system after them
 leads_before : (callers : List Caller) (many : ℕ) (es : List Entry) (s t : State) → LeadsAlong callers es s t →
@@ -73,7 +70,7 @@ module _ (script : Parts) (honest : Bool) (c : Effects) (ending : Ending) where
         adds = it.inserts.adds;
       }
 
-  beside_spelled : RunsBeside script (origin_on script honest c) c ending →
+  pub beside_spelled : RunsBeside script (origin_on script honest c) c ending →
       RunsBesideBy (IsSpelledJournal script c.content) (LeavesSpelled script c.content) (HadToAdd script c.content)
       script honest c ending
   beside_spelled run = record {
@@ -99,12 +96,3 @@ module _ (script : Parts) (honest : Bool) (c : Effects) (ending : Ending) where
     reason = run.reason;
     ends = run.ends;
   }
-
-  as_one_spelled : (one : Bool) → RunsAsOne one script honest c ending →
-      RunsAsOneSpelled one script honest c ending ⊎ IsLeftUnopened c ending
-  as_one_spelled true runs = spelled script honest c ending (plainly script honest c ending runs)
-  as_one_spelled false (inl run) = inl (beside_spelled run)
-  as_one_spelled false (inr u) = inr (unopened script honest c ending u)
-
-  pub script_spelled : RunsScriptOn script honest c ending → RunsScriptSpelled script honest c ending
-  script_spelled runs = as_one_spelled (is_of_one_seat script.lines) runs

@@ -1,18 +1,13 @@
 -- What a script of several seats comes to that is run on a file, down to the bytes of its pages: in the place of what a
 -- check tells of them stands what they mean. docs/SCRIPTS.md, "Runs"; docs/FORMAT.md, "Pages", "Records".
-use Rattle.std.specs.Prelude.{◌≡◌, ◌⊎◌, ℕ, true, false, Bool, List, Some, length}
+use Rattle.std.specs.Prelude.{◌≡◌, ℕ, List, Some, length}
 use Rattle.interleavings.specs.LoneKernelWords.{Answer, Call, Caller, State, outcome, restarted}
 use Rattle.interleavings.specs.files_at_rest.Spelled.{SpellsSystem}
 use Rattle.queue_model.specs.Journal.{LeadsAlong}
 use Rattle.queue_model.specs.Rules.{AddsTo}
 use Rattle.queue_model.specs.declared.entry.Entry.{Entry}
 use Rattle.msgq_cli.specs.Scripts.{Parts, greatest_seat}
-use Rattle.msgq_cli.specs.declared.ending.Ending.{Ending}
-use Rattle.replays.specs.PlainRuns.{IsPlainRunBy}
 use Rattle.replays.specs.Replays.{callers_of}
-use Rattle.replays.specs.Spelled.{IsLeftUnopened, RunsPages}
-use Rattle.replays.specs.Texts.{Effects}
-use Rattle.service_runs.specs.Beside.{RunsBesideBy, is_of_one_seat}
 
 -- a journal that leads by the rules from the one system that these pages spell
 pub record IsSpelledJournal (script : Parts) (content : List (List ℕ)) (journal : List Entry) : Type 0 where
@@ -40,14 +35,3 @@ pub record HadToAdd (script : Parts) (content : List (List ℕ)) (call : Call) :
   pub then : State
   pub comes : outcome caller call plain.now ≡ Some (answer, then)
   pub adds : AddsTo plain.now answer
-
--- a script of one seat is run line by line
-abbrev pub RunsAsOneSpelled : (one : Bool) → Parts → (honest : Bool) → Effects → Ending → Type 0
-RunsAsOneSpelled true script honest c ending = IsPlainRunBy (RunsPages script c) script honest c ending
-RunsAsOneSpelled false script honest c ending =
-    RunsBesideBy (IsSpelledJournal script c.content) (LeavesSpelled script c.content) (HadToAdd script c.content)
-    script honest c ending
-
-abbrev pub RunsScriptSpelled : Parts → (honest : Bool) → Effects → Ending → Type 0
-RunsScriptSpelled script honest c ending =
-    RunsAsOneSpelled (is_of_one_seat script.lines) script honest c ending ⊎ IsLeftUnopened c ending

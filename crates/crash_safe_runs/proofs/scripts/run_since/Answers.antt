@@ -1,8 +1,8 @@
 -- What the run has come to, once it is concluded.
 use Rattle.std.proofs.Common.{ap, refl}
 use Rattle.deferred_sync.specs.Deferred.{DeferredState}
-use Rattle.replays.specs.PlainRuns.{RunsPlainly}
-use Rattle.replays.specs.Serves.{RunsOn}
+use Rattle.session_runs.specs.PlainRuns.{RunsPlainly}
+use Rattle.session_runs.specs.Serves.{RunsOn}
 use Rattle.replays.specs.Texts.{Effects}
 use Rattle.crash_safe_runs.specs.Concluding.{is_to_commit}
 use Rattle.crash_safe_runs.specs.Scripts.{RunsOver}

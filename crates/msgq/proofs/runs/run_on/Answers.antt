@@ -4,10 +4,11 @@ use Rattle.msgq_cli.specs.Refusals.{IsFaultAlone}
 use Rattle.msgq_cli.specs.Scripts.{Parts}
 use Rattle.msgq_cli.specs.declared.ending.Ending.{Ending}
 use Rattle.replays.specs.Texts.{Effects}
-use Rattle.service_runs.proofs.BesideLemmas.{as_several, from_prepared, no_room}
-use Rattle.service_runs.proofs.SpelledLemmas.{script_spelled}
+use Rattle.service_runs.proofs.BesideLemmas.{from_prepared, no_room}
 use Rattle.service_runs.specs.Beside.{RunsFrom, counted_from, origin_on}
 use Rattle.workers.specs.Opening.{origin_of}
+use Rattle.msgq.proofs.NewLemmas.{as_several}
+use Rattle.msgq.proofs.SpelledLemmas.{script_spelled}
 use Rattle.msgq.proofs.runs.run_on.Goals as goal
 
 -- there is no memory to begin

@@ -5,7 +5,8 @@ use Rattle.msgq.specs.Runs.{RunsSeatsOver}
 use Rattle.crash_safe_runs.specs.deferred_sync.Deferred.{DeferredState}
 use Rattle.msgq.proofs.OverLemmas.{beside_over}
 use Rattle.crash_safe_runs.proofs.ScriptLemmas.{done_to, from_lent, to_device}
-use Rattle.service_runs.specs.Beside.{RunsAsOne, RunsBesideOn}
+use Rattle.msgq.specs.Scripts.{RunsAsOne}
+use Rattle.service_runs.specs.Beside.{RunsBesideOn}
 use Rattle.replays.specs.Texts.{Effects}
 use Rattle.msgq.proofs.runs.run_since.Goals as goal
 

@@ -1,6 +1,6 @@
 use Rattle.std.proofs.Common.{refl, sym, true, ◌∙◌}
 use Rattle.replays.specs.Texts.{Effects}
-use Rattle.service_runs.proofs.NewLemmas.{one_new, several_new}
+use Rattle.msgq.proofs.NewLemmas.{one_new, several_new}
 use Rattle.msgq.proofs.scripts.serve_beside.Goals as goal
 
 -- all lines are of one seat

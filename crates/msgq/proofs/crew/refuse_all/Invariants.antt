@@ -1,6 +1,0 @@
--- Those so far are refused.
-use Rattle.msgq.proofs.WorkLemmas.{IsRefusing}
-use Rattle.msgq.proofs.crew.refuse_all.Given as goal
-
-abbrev pub invariant-loop-place : goal.invariant-loop-place
-invariant-loop-place g l = IsRefusing g.N.Base.origin l.fn.desks.items l.desks.items l.place

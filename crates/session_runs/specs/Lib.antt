@@ -1,0 +1,5 @@
+pub mod Taking
+pub mod Runs
+pub mod PlainRuns
+pub mod Serves
+pub mod Spelled
