@@ -11,6 +11,8 @@ pub use Rattle.record_file.specs.step_rules.Runs.{MovesAlong, Stop, stop}
 pub use Rattle.record_file.specs.step_rules.declared.kind.Kind.{Kind}
 use Rattle.record_file.specs.step_rules.declared.kind.Kind.TheVariants as kinds
 use Rattle.call_writes.specs.WriteWords.{Lock, PoolState, Progress, Table, row_of}
+use Rattle.call_writes.specs.declared.at_once.AtOnce.{AtOnce}
+use Rattle.call_writes.specs.declared.at_once.AtOnce.TheVariants.{Made, Left, Over}
 
 -- ---- searches
 
@@ -74,3 +76,10 @@ pub record WritesAtOnce {V : Type 0} (Makes : Promise V) (searches : V → Bool)
   pub moves : MovesAlong (AskStep Makes) (at old pool locks) (stops_through way written (at new pool' locks))
   pub counted : SearchesOnce seat way
   pub answered : searches way.looked.machine ≡ false
+
+-- where the next record was to be written so: it is, or nothing is done, and at the end this is so
+abbrev pub TriesAtOnce : {V : Type 0} → (Ends : V → Type 0) → (Goes : Type 0) → AtOnce → (old new : V) →
+    (pool pool' : PoolState) → Type 0
+TriesAtOnce Ends Goes Made old new pool pool' = Goes
+TriesAtOnce Ends Goes Left old new pool pool' = (new ≡ old) × (pool' ≡ pool)
+TriesAtOnce Ends Goes Over old new pool pool' = Ends old × ((new ≡ old) × (pool' ≡ pool))

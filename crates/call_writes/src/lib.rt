@@ -3,6 +3,7 @@
 
 #![tactic(auto)]
 
+mod at_once;
 mod deed;
 mod due;
 mod payment;
@@ -12,6 +13,7 @@ mod ranges;
 mod write_laws;
 mod writes;
 
+pub use at_once::AtOnce;
 pub use call_decisions::{AnyInquiry, MAX_NAMES, Settled, decide, name_at};
 pub use deed::Deed;
 pub use due::Due;

@@ -100,17 +100,6 @@ impl<'a> PlanOf<'a> {
         }
     }
 
-    /// Whether it is seen of the plan that no deed is left. The next one is looked for, and not made.
-    pub(crate) fn is_spent(&self, due: Due) -> bool
-        ensures { result ≡ true → next_deed self.now due ≡ None }
-    {
-        match due {
-            Due::Trying(place) => self.inquiry.trial(self.call, place).is_none(),
-            Due::Writing(from) => self.inquiry.next_write(self.call, from).is_none(),
-            Due::Full(_) | Due::Undoing(_) => self.is_done(due),
-        }
-    }
-
     /// What is due once that deed has written: of writes, from behind its slot on. It stands in the
     /// step that has written, since the plan is two references.
     #[inline(always)]

@@ -1,10 +1,10 @@
 //! The writing half of a call.
 
-ghost use Rattle.std.specs.Prelude.{◌≡◌, ◌≢◌, None, true};
+ghost use Rattle.std.specs.Prelude.{◌≡◌, None};
 ghost use Rattle.std.specs.Option.{is_some};
 ghost use Rattle.call_writes.specs.WriteWords.{EndsRow, IsReady, IsSeat, is_fault, row_of, searches_under};
 ghost use Rattle.call_writes.specs.MakeSteps.{MakesWrites, SetsOut, Settles};
-ghost use Rattle.call_writes.specs.Views.{IsOver, decided_at, is_full, writes_locks};
+ghost use Rattle.call_writes.specs.Views.{decided_at, is_full, writes_locks};
 
 mod skipping;
 
@@ -70,16 +70,6 @@ impl CallWrites {
             Some(access) => access.is_searching(),
             None => false,
         }
-    }
-
-    /// Whether it is seen that nothing is left to do: no access is under way, and no deed comes next.
-    pub fn is_over(&self, plan: &PlanOf<'_>) -> bool
-        ensures { result ≡ true → IsOver plan.now self.now }
-    {
-        if self.access.is_under_way() {
-            return false;
-        }
-        plan.is_done(self.due) || plan.is_spent(self.due)
     }
 
     /// What is due.

@@ -24,6 +24,7 @@ pub mod QuestionRunLemmas
 pub mod WriteRunLemmas
 pub mod OneGoLemmas
 pub mod DecideAtOnceLemmas
+pub mod EndingLemmas
 pub mod QuestionAtOnceLemmas
 pub mod QuestionNames
 pub mod QuestionAimLemmas

@@ -26,15 +26,13 @@ use Rattle.call_writes.specs.Views.{writes_search}
 use Rattle.xsi_calls.specs.UndecidedSteps.{MakesUndecided}
 use Rattle.xsi_calls.specs.QuestionWords.{Roomful, caller_of}
 use Rattle.xsi_calls.specs.UndecidedWords.{Decision, QuestionsView}
-use Rattle.xsi_calls.specs.Words.{AreNames, AsksAtOnce, Call, Caller, CanDecide, Change, Ended, Fault, HasRoom, IsReady, IsSeat, IsUndecided, Plan, PoolState, Progress, RecordKey, Records, Settled, State, Table, Trials, UndecidedCall, WritesAtOnce, begun_payment, its_plan, row_of, trials_of}
+use Rattle.xsi_calls.specs.Words.{AreNames, AsksAtOnce, Call, Caller, CanDecide, Change, Ended, HasRoom, IsSeat, IsUndecided, Plan, PoolState, Progress, RecordKey, Records, Settled, State, Table, Trials, UndecidedCall, WritesAtOnce, begun_payment, its_plan, row_of, trials_of}
 use Rattle.xsi_calls.proofs.AskingLemmas.{leaves_next, makes_next}
 use Rattle.xsi_calls.proofs.AtOnceLemmas.{asks_from}
 use Rattle.xsi_calls.proofs.CallAtOnceLemmas.{pays_at_once, tries_from}
 use Rattle.xsi_calls.proofs.GoLemmas.{asked_from, asks_row, goes_from, with_stage}
 use Rattle.xsi_calls.proofs.Names.{FileFault}
 use Rattle.xsi_calls.proofs.PaymentAtOnceLemmas.{payment_at_once}
-use Rattle.xsi_calls.proofs.PartLemmas.{writes_part}
-use Rattle.xsi_calls.proofs.PayLemmas.{pays_from}
 use Rattle.xsi_calls.proofs.PhaseLemmas.{it_pays, paying_still, undecided_same}
 use Rattle.xsi_calls.proofs.RoomLemmas.{asks_nothing, has_come_to, none_to_decide, only_paid, pays_it, tries_nothing}
 
@@ -299,20 +297,3 @@ module _ (hash : RecordKey → ℕ) (seat : ℕ) (stopped : Bool) (caller : Call
         (ap payment_under is) pool pool' locks
         (subst (λ (y : Plan). WritesAtOnce (MakesWrites hash seat y) writes_search seat place.writes w pool pool' locks)
         plan goes))))
-
-    -- one whose page could not be written
-    pub write_fails : (place : TrialsPlace) → part ≡ parts.Writes place → (w : CallWrites) →
-        AreNames q.names → (x : Plan) → x ≡ its_plan call (asked_with q None) → (fault : FileFault)
-        (pool pool' : PoolState) (locks : Table) → IsSeat locks seat → IsReady pool →
-        row_of locks seat ≡ call_locks now →
-        MakesWrites hash seat x (Fault fault) place.writes w pool pool' locks locks →
-        MakesCall hash seat stopped (Fault fault) now (machine caller call q
-        (parts.Writes (record place { writes = w })) phase) pool pool' locks locks
-    write_fails place is w names x plan fault pool pool' locks seated ready row makes =
-        pays_there (parts.Writes (record place { writes = w })) (no_trials place is) (ap conclusion_under is)
-        (Fault fault) pool pool' locks locks
-        (pays_from hash seat caller call u phase (payment_under part) c now view pays (asked_with q (question_under
-        part)) refl names x plan (stages.Writing w) (Fault fault) pool pool' locks locks seated ready row
-        (writes_part hash seat x (Fault fault) pool pool' locks locks (payment_under part) place.writes w
-        (ap payment_under is) makes)
-        (λ e. absurd cc) stopped)

@@ -62,16 +62,6 @@ module _ {V : Type 0} (Makes : Promise V) (searches : V → Bool) (seat : ℕ) (
     runs = both_run last.errands first.errands s new first.runs last.runs;
   }
 
-  -- behind such a run another one goes on
-  pub goes_behind : (moves n single k : ℕ) (fault : Option FileFault) (s new : At V) →
-      RunsAtOnce Makes searches seat moves single old s → GoesAtOnce Makes searches seat n k fault s new →
-      GoesAtOnce Makes searches seat (moves + n) (single + k) fault old new
-  goes_behind moves n single k fault s new first gone = record {
-    before = gone.before;
-    runs = joined moves n single k s gone.before first gone.runs;
-    ends = gone.ends;
-  }
-
 -- ---- where a call may go on from
 
 pub record MayGoOn (seat : ℕ) (s : At CallView) : Type 0 where

@@ -25,6 +25,7 @@ pub mod Below
 pub mod Stages
 pub mod Concluding
 pub mod Machine
+pub mod Ending
 pub mod Parts
 pub mod Calling
 pub mod CallSteps

@@ -148,7 +148,9 @@ impl Questions {
         self.has_asked(call)
     }
 
-    /// Whether the inquiry asks nothing more, and the names are there where it changes the file.
+    /// Whether the inquiry asks nothing more, and the names are there where it changes the file. It
+    /// stands in whoever asks, since mostly few comparisons tell it.
+    #[inline(always)]
     pub(crate) fn has_asked(&self, call: &Call) -> bool
         ensures { result ≡ has_asked call.now (asked_with self.now None) }
     {
@@ -163,7 +165,9 @@ impl Questions {
         !self.changes(call)
     }
 
-    /// Whether it inserts on trial or writes something where its inquiry has come.
+    /// Whether it inserts on trial or writes something where its inquiry has come. It stands apart,
+    /// since it is seldom asked, and makes room for a write.
+    #[inline(never)]
     fn changes(&self, call: &Call) -> bool
         ensures { result ≡ changes call.now self.now.inquiry }
     {

@@ -1,18 +1,18 @@
 //! What a call makes in one go, one errand behind the other.
 
-ghost use Rattle.std.specs.Prelude.{◌≡◌, ◌≤◌, ℕ, Bool, IfErr, IfOk, None, false, true};
+ghost use Rattle.std.specs.Prelude.{◌≡◌, ◌≤◌, ℕ, Bool, IfErr, IsOk, None, false, true};
 ghost use Rattle.step_rules.specs.declared.kind.Kind.TheVariants.{Decide, Release};
 ghost use Rattle.xsi_calls.specs.CallSteps.{MakesCall};
-ghost use Rattle.xsi_calls.specs.Machine.{call_locks, is_searching, is_undecided};
+ghost use Rattle.xsi_calls.specs.Ending.{CanDecideNow, HasPaid};
+ghost use Rattle.xsi_calls.specs.Machine.{call_locks, is_searching};
 ghost use Rattle.xsi_calls.specs.OneGo.{GoesAtOnce, RunsAtOnce};
-ghost use Rattle.xsi_calls.specs.Words.{CanDecide, Fault, IsReady, IsSeat, Moved, PoolState, RecordKey, at, row_of};
+ghost use Rattle.xsi_calls.specs.Words.{Fault, IsReady, IsSeat, Moved, PoolState, RecordKey, at, row_of};
 
 use crate::call_machine::{CallMachine, decide};
-use crate::part::Part;
 use crate::phase::Phase;
 use bucket_page::PseudoKey;
 use buffer_pool::Pool;
-use call_writes::{PlanOf, is_move};
+use call_writes::{AtOnce, is_move};
 use file_pages::FileFault;
 use page_device::PageDevice;
 use page_locks::LockTable;
@@ -30,6 +30,15 @@ pub struct Gone {
     pub moves: u32,
     /// The fault of the step behind them, where it met one.
     pub fault: Option<FileFault>,
+}
+
+/// Errands of one kind that a call has made, one behind the other.
+#[derive(Clone, Copy)]
+pub(crate) struct Errands {
+    /// So many steps were made.
+    pub(crate) moves: u32,
+    /// No other one of the kind is due.
+    pub(crate) are_all: bool,
 }
 
 impl CallMachine {
@@ -63,116 +72,140 @@ impl CallMachine {
         moves
     }
 
-    /// All records that can be written so (`write_through`).
-    pub(crate) fn write_all_through<D: PageDevice, K: PseudoKey>(
+    /// All records that it inserts on trial and that can be inserted so (`try_through`).
+    pub(crate) fn try_all_through<D: PageDevice, K: PseudoKey>(
         &mut self,
         pool: &mut Pool<D>,
         locks: &LockTable,
         keys: &K,
         seat: u8,
         most: u32,
-    ) -> Gone
+    ) -> Errands
         requires seat { IsSeat locks.now seat }
         requires ready { IsReady pool.old }
         requires row { row_of locks.now seat ≡ call_locks self.old }
-        ensures goes { (stopped : Bool) → GoesAtOnce (MakesCall (K.of_key keys.now) seat stopped)
-            is_searching seat result.moves 0 result.fault (at self.old pool.old locks.now)
+        ensures runs { (stopped : Bool) → RunsAtOnce (MakesCall (K.of_key keys.now) seat stopped)
+            is_searching seat result.moves 0 (at self.old pool.old locks.now)
             (at self.new pool.new locks.now) }
         ensures few { result.moves ≤ most }
-        ensures ready { result.fault ≡ None → IsReady pool.new }
-        ensures row { result.fault ≡ None → row_of locks.now seat ≡ call_locks self.new }
+        ensures ready { IsReady pool.new }
+        ensures row { row_of locks.now seat ≡ call_locks self.new }
+        ensures over { result.are_all ≡ true → CanDecideNow self.new }
     {
         let mut moves = 0;
         while most - moves >= WRITE_STEPS {
-            match self.write_through(pool, locks, keys, seat) {
-                Ok(true) => {
+            match self.try_through(pool, locks, keys, seat) {
+                AtOnce::Made => {
                     moves += WRITE_STEPS;
                 }
-                Ok(false) => return Gone { moves, fault: None },
-                Err(fault) => {
-                    return Gone {
+                AtOnce::Left => {
+                    return Errands {
                         moves,
-                        fault: Some(fault),
+                        are_all: false,
+                    };
+                }
+                AtOnce::Over => {
+                    return Errands {
+                        moves,
+                        are_all: true,
                     };
                 }
             }
         }
-        Gone { moves, fault: None }
+        Errands {
+            moves,
+            are_all: false,
+        }
     }
 
-    /// Its Decide, where it can decide: all is asked and nothing is inserted on trial, or its trials
-    /// are over. Else nothing is done. Where it was told what no system has, that is a fault.
+    /// All records of what it owes that can be written so (`pay_one_through`).
+    pub(crate) fn pay_all_through<D: PageDevice, K: PseudoKey>(
+        &mut self,
+        pool: &mut Pool<D>,
+        locks: &LockTable,
+        keys: &K,
+        seat: u8,
+        most: u32,
+    ) -> Errands
+        requires seat { IsSeat locks.now seat }
+        requires ready { IsReady pool.old }
+        requires row { row_of locks.now seat ≡ call_locks self.old }
+        ensures runs { (stopped : Bool) → RunsAtOnce (MakesCall (K.of_key keys.now) seat stopped)
+            is_searching seat result.moves 0 (at self.old pool.old locks.now)
+            (at self.new pool.new locks.now) }
+        ensures few { result.moves ≤ most }
+        ensures ready { IsReady pool.new }
+        ensures row { row_of locks.now seat ≡ call_locks self.new }
+        ensures over { result.are_all ≡ true → HasPaid self.new }
+    {
+        let mut moves = 0;
+        while most - moves >= WRITE_STEPS {
+            match self.pay_one_through(pool, locks, keys, seat) {
+                AtOnce::Made => {
+                    moves += WRITE_STEPS;
+                }
+                AtOnce::Left => {
+                    return Errands {
+                        moves,
+                        are_all: false,
+                    };
+                }
+                AtOnce::Over => {
+                    return Errands {
+                        moves,
+                        are_all: true,
+                    };
+                }
+            }
+        }
+        Errands {
+            moves,
+            are_all: false,
+        }
+    }
+
+    /// Its Decide, since it can decide: all is asked and nothing is inserted on trial, or its trials
+    /// are over. Where it was told what no system has, that is a fault.
     pub(crate) fn decide_at_once<K: PseudoKey>(
         &mut self,
         locks: &LockTable,
         keys: &K,
         stopped: bool,
         seat: u8,
-    ) -> Result<bool, FileFault>
+    ) -> Result<(), FileFault>
         requires seat { IsSeat locks.now seat }
         requires row { row_of locks.now seat ≡ call_locks self.old }
-        ensures made { IfOk result (λ made. made ≡ true → (pool : PoolState) → IsReady pool →
+        requires can { CanDecideNow self.old }
+        ensures made { IsOk result → (pool : PoolState) → IsReady pool →
             MakesCall (K.of_key keys.now) seat stopped (Moved Decide) self.old self.new
-            pool pool locks.now locks.now) }
-        ensures spares { IfOk result (λ made. made ≡ false → self.new ≡ self.old) }
+            pool pool locks.now locks.now }
         ensures failed { IfErr result (λ fault. (pool : PoolState) → IsReady pool →
             MakesCall (K.of_key keys.now) seat stopped (Fault fault) self.old self.new
             pool pool locks.now locks.now) }
     {
-        if !self.can_decide() {
-            return Ok(false);
-        }
         self.questions.keep_order();
         let Ok(()) = decide(&self.questions, &mut self.part, &self.call, keys, stopped) else {
             return Err(FileFault::Failed);
         };
         self.phase = Phase::Paying;
-        Ok(true)
+        Ok(())
     }
 
-    /// Whether it has not decided, and can.
-    fn can_decide(&self) -> bool
-        ensures undecided { result ≡ true → is_undecided self.now.stage ≡ true }
-        ensures can { result ≡ true → CanDecide self.now.call self.now.undecided }
-    {
-        if !self.is_undecided() {
-            return false;
-        }
-        let plan = PlanOf::new(&self.call, self.questions.inquiry());
-        match &self.part {
-            Part::Writes(place) if place.on_trial => place.writes.is_over(&plan),
-            _ => {
-                !self.questions.inquiry().inserts(&self.call)
-                    && self.questions.is_done(&self.part, &self.call)
-            }
-        }
-    }
-
-    /// The name that was taken last is given back, where all is paid, and one is held. Else nothing is
-    /// done.
+    /// The name that was taken last is given back, where one is held. All is paid.
     pub(crate) fn give_back_at_once(&mut self, locks: &mut LockTable, seat: u8) -> bool
         requires seat { IsSeat locks.old seat }
         requires row { row_of locks.old seat ≡ call_locks self.old }
+        requires paid { HasPaid self.old }
         ensures made { result ≡ true → (hash : RecordKey → ℕ) (stopped : Bool) (pool : PoolState) →
             IsReady pool → MakesCall hash seat stopped (Moved Release) self.old self.new
             pool pool locks.old locks.new }
         ensures spares { result ≡ false → (self.new ≡ self.old) × (locks.new ≡ locks.old) }
     {
-        if self.is_undecided() {
-            return false;
-        }
         if self.questions.holds_none() {
             return false;
         }
-        if self.is_paying() {
-            self.questions.keep_order();
-            let plan = PlanOf::new(&self.call, self.questions.inquiry());
-            match &self.part {
-                Part::Writes(place) if place.writes.is_over(&plan) => {}
-                _ => return false,
-            }
-            self.phase = Phase::Releasing;
-        }
+        self.questions.keep_order();
+        self.phase = Phase::Releasing;
         is_move(self.release(locks, seat))
     }
 
@@ -197,23 +230,19 @@ impl CallMachine {
         ensures row { result.fault ≡ None → row_of locks.now seat ≡ call_locks self.new }
     {
         let asked = self.ask_through(pool, locks, keys, seat, most);
-        let tried = self.write_all_through(pool, locks, keys, seat, most - asked);
+        let tried = self.try_all_through(pool, locks, keys, seat, most - asked);
         let moves = asked + tried.moves;
-        if tried.fault.is_some() {
-            return Gone {
-                moves,
-                fault: tried.fault,
-            };
+        if !tried.are_all {
+            return Gone { moves, fault: None };
         }
         if moves == most {
             return Gone { moves, fault: None };
         }
         match self.decide_at_once(locks, keys, stopped, seat) {
-            Ok(true) => Gone {
+            Ok(()) => Gone {
                 moves: moves + 1,
                 fault: None,
             },
-            Ok(false) => Gone { moves, fault: None },
             Err(fault) => Gone {
                 moves,
                 fault: Some(fault),
@@ -229,29 +258,26 @@ impl CallMachine {
         keys: &K,
         seat: u8,
         most: u32,
-    ) -> Gone
+    ) -> u32
         requires seat { IsSeat locks.old seat }
         requires ready { IsReady pool.old }
         requires row { row_of locks.old seat ≡ call_locks self.old }
-        ensures goes { (stopped : Bool) → GoesAtOnce (MakesCall (K.of_key keys.now) seat stopped)
-            is_searching seat result.moves 1 result.fault (at self.old pool.old locks.old)
+        ensures runs { (stopped : Bool) → RunsAtOnce (MakesCall (K.of_key keys.now) seat stopped)
+            is_searching seat result 1 (at self.old pool.old locks.old)
             (at self.new pool.new locks.new) }
-        ensures few { result.moves ≤ most }
+        ensures few { result ≤ most }
     {
-        let paid = self.write_all_through(pool, locks, keys, seat, most);
-        if paid.fault.is_some() {
-            return paid;
+        let paid = self.pay_all_through(pool, locks, keys, seat, most);
+        if !paid.are_all {
+            return paid.moves;
         }
         if paid.moves == most {
-            return paid;
+            return paid.moves;
         }
         if !self.give_back_at_once(locks, seat) {
-            return paid;
+            return paid.moves;
         }
-        Gone {
-            moves: paid.moves + 1,
-            fault: None,
-        }
+        paid.moves + 1
     }
 
     /// All of these in one go, up to so many steps, and no further than where one of them can't be
@@ -282,8 +308,8 @@ impl CallMachine {
         }
         let last = self.pay_through(pool, locks, keys, seat, most - first.moves);
         Gone {
-            moves: first.moves + last.moves,
-            fault: last.fault,
+            moves: first.moves + last,
+            fault: None,
         }
     }
 }

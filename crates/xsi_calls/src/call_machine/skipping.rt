@@ -1,19 +1,19 @@
 //! A question of a call that is asked in one go, and a write of it that is made so.
 
-ghost use Rattle.std.specs.Prelude.{◌≡◌, Bool, IfErr, IfOk, false, true};
+ghost use Rattle.std.specs.Prelude.{◌≡◌, Bool, false, true};
+ghost use Rattle.call_writes.specs.WriteRuns.{TriesAtOnce};
 ghost use Rattle.xsi_calls.specs.CallSteps.{MakesCall};
+ghost use Rattle.xsi_calls.specs.Ending.{CanDecideNow, HasPaid};
 ghost use Rattle.xsi_calls.specs.Machine.{call_locks, is_searching, is_undecided};
-ghost use Rattle.xsi_calls.specs.Words.{AsksAtOnce, Fault, IsReady, IsSeat, WritesAtOnce, row_of};
+ghost use Rattle.xsi_calls.specs.Words.{AsksAtOnce, IsReady, IsSeat, WritesAtOnce, row_of};
 
 use crate::call_machine::CallMachine;
 use crate::part::Part;
 use bucket_page::PseudoKey;
 use buffer_pool::Pool;
-use call_writes::PlanOf;
-use file_pages::FileFault;
+use call_writes::{AtOnce, PlanOf};
 use page_device::PageDevice;
 use page_locks::LockTable;
-use queue_model::Call;
 
 impl CallMachine {
     /// All steps of the next question, in one go, where it has not decided, nothing is inserted on
@@ -48,72 +48,92 @@ impl CallMachine {
         self.questions.skip(pool, locks, keys, seat, &self.call)
     }
 
-    /// All steps of the next record that it inserts on trial, writes or takes out of its trials, in
-    /// one go, where nobody stands in the way and nothing more is due behind it
-    /// (`Access::write_through`). Else nothing is done, it tells false, and it is left to `step`. A
-    /// fault is that of the write of its page, told as `step` tells one.
-    pub fn write_through<D: PageDevice, K: PseudoKey>(
+    /// All steps of the next record that it inserts on trial, in one go, where all is asked and nobody
+    /// stands in the way (`CallWrites::try_through`). Else nothing is done: it can decide where
+    /// nothing is left to do, and is left to `step` where something is. It stands in the loop over
+    /// all trials.
+    #[inline(always)]
+    pub(crate) fn try_through<D: PageDevice, K: PseudoKey>(
         &mut self,
         pool: &mut Pool<D>,
         locks: &LockTable,
         keys: &K,
         seat: u8,
-    ) -> Result<bool, FileFault>
+    ) -> AtOnce
         requires seat { IsSeat locks.now seat }
         requires ready { IsReady pool.old }
         requires row { row_of locks.now seat ≡ call_locks self.old }
-        ensures made { IfOk result (λ made. made ≡ true → (stopped : Bool) → WritesAtOnce
+        ensures { TriesAtOnce CanDecideNow ((stopped : Bool) → WritesAtOnce
             (MakesCall (K.of_key keys.now) seat stopped) is_searching seat self.old self.new
-            pool.old pool.new locks.now) }
-        ensures spares { IfOk result (λ made. made ≡ false →
-            (self.new ≡ self.old) × (pool.new ≡ pool.old)) }
-        ensures failed { IfErr result (λ fault. (stopped : Bool) →
-            MakesCall (K.of_key keys.now) seat stopped (Fault fault) self.old self.new
-            pool.old pool.new locks.now locks.now) }
+            pool.old pool.new locks.now) result self.old self.new pool.old pool.new }
+    {
+        if !self.is_undecided() {
+            return AtOnce::Left;
+        }
+        let tries = self.part.is_trying();
+        if !tries {
+            if !self.questions.is_done(&self.part, &self.call) {
+                return AtOnce::Left;
+            }
+            let Ok(begins) = self.part.begin_first(&self.questions, &self.call) else {
+                return AtOnce::Left;
+            };
+            if !begins {
+                return AtOnce::Over;
+            }
+        }
+        self.questions.keep_order();
+        let plan = PlanOf::new(&self.call, self.questions.inquiry());
+        match &mut self.part {
+            Part::Writes(place) => {
+                match place.writes.try_through(&plan, pool, locks, keys, seat) {
+                    AtOnce::Made => {
+                        self.questions.count_one();
+                        return AtOnce::Made;
+                    }
+                    AtOnce::Over => {
+                        if tries {
+                            return AtOnce::Over;
+                        }
+                    }
+                    AtOnce::Left => {}
+                }
+            }
+            Part::Asks(_) | Part::Sweeps(_) => unreachable!(),
+        }
+        if !tries {
+            self.part.rest();
+        }
+        AtOnce::Left
+    }
+
+    /// The same of the next record of what it owes. It owes nothing where nothing is left to do.
+    #[inline(always)]
+    pub(crate) fn pay_one_through<D: PageDevice, K: PseudoKey>(
+        &mut self,
+        pool: &mut Pool<D>,
+        locks: &LockTable,
+        keys: &K,
+        seat: u8,
+    ) -> AtOnce
+        requires seat { IsSeat locks.now seat }
+        requires ready { IsReady pool.old }
+        requires row { row_of locks.now seat ≡ call_locks self.old }
+        ensures { TriesAtOnce HasPaid ((stopped : Bool) → WritesAtOnce
+            (MakesCall (K.of_key keys.now) seat stopped) is_searching seat self.old self.new
+            pool.old pool.new locks.now) result self.old self.new pool.old pool.new }
     {
         if self.is_undecided() {
-            let tries = self.part.is_trying();
-            if !tries {
-                if !self.may_try() {
-                    return Ok(false);
-                }
-                if !self.questions.is_done(&self.part, &self.call) {
-                    return Ok(false);
-                }
-                let Ok(true) = self.part.begin_first(&self.questions, &self.call) else {
-                    return Ok(false);
-                };
-            }
-            self.questions.keep_order();
-            let plan = PlanOf::new(&self.call, self.questions.inquiry());
-            match &mut self.part {
-                Part::Writes(place) => {
-                    if place.writes.write_through(&plan, pool, locks, keys, seat)? {
-                        self.questions.count_one();
-                        return Ok(true);
-                    }
-                }
-                Part::Asks(_) | Part::Sweeps(_) => unreachable!(),
-            }
-            if !tries {
-                self.part.rest();
-            }
-            return Ok(false);
+            return AtOnce::Left;
         }
         if !self.is_paying() {
-            return Ok(false);
+            return AtOnce::Over;
         }
         self.questions.keep_order();
         let plan = PlanOf::new(&self.call, self.questions.inquiry());
         if let Part::Writes(place) = &mut self.part {
-            return place.writes.write_through(&plan, pool, locks, keys, seat);
+            return place.writes.pay_through(&plan, pool, locks, keys, seat);
         }
-        Ok(false)
-    }
-
-    /// Whether a call of its kind may insert on trial. Any other is left to its Decide, with no look at
-    /// what it would insert, which `begin_first` takes.
-    fn may_try(&self) -> bool {
-        matches!(self.call, Call::Get(_) | Call::Send(_))
+        AtOnce::Left
     }
 }

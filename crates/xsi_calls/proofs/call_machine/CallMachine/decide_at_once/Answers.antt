@@ -14,9 +14,8 @@ returns-clause-made g c = λ is pool ready.
     let i = c.self.inside in
     let u = undecided_with c.self.inside.call c.self.inside.questions c.self.inside.part in
     let hash = g.K.PseudoKey.of_key c.args.keys.now in
-    let undecided = c.can_decide.ensures.undecided c.if-not-can_decide.false in
-    let can = subst (λ (m : CallView). CanDecide m.call m.undecided) (sym c.self.view_is)
-    (c.can_decide.ensures.can c.if-not-can_decide.false) in
+    let undecided = c.requires.can.undecided in
+    let can = subst (λ (m : CallView). CanDecide m.call m.undecided) (sym c.self.view_is) c.requires.can.can in
     let row = c.requires.row ∙ undecided_row i.caller i.call u
     (stage_at i.phase (payment_under i.part) (conclusion_under i.part)) c.args.self.now c.self.view_is undecided in
     let e = can_rest hash c.args.seat i.call u.questions u.trials pool c.args.locks.now c.requires.seat ready

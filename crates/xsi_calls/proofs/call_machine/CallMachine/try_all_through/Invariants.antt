@@ -1,8 +1,8 @@
--- So far each record was written in one go.
+-- So far each record was inserted in one go.
 use Rattle.std.proofs.Common.{◌≤◌, ◌-◌}
 use Rattle.xsi_calls.specs.Words.{at}
 use Rattle.xsi_calls.proofs.OneGoLemmas.{HasGone}
-use Rattle.xsi_calls.proofs.call_machine.CallMachine.write_all_through.Given as goal
+use Rattle.xsi_calls.proofs.call_machine.CallMachine.try_all_through.Given as goal
 
 abbrev pub invariant-loop-moves : goal.invariant-loop-moves
 invariant-loop-moves g l = record {
