@@ -6,6 +6,7 @@ pub mod InquiryWords
 pub mod Laws
 pub mod Others
 pub mod Settling
+pub mod Taking
 pub mod Words
 pub mod NameLaws
 pub mod Names

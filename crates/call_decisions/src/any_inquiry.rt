@@ -172,28 +172,23 @@ impl Inquiry for AnyInquiry {
         }
     }
 
+    // By the kind of the record, where it is known.
+    #[inline(always)]
     fn take(
         &mut self,
         call: &Call,
         found: Option<Record<'_>>,
         room: &mut Room,
     ) -> Result<(), NotASystem> {
-        match (self, call) {
-            (AnyInquiry::Get(inquiry), Call::Get(arguments)) => inquiry.take(
-                arguments, found, room,
-            ),
-            (AnyInquiry::Send(inquiry), Call::Send(arguments)) => inquiry.take(
-                arguments, found, room,
-            ),
-            (AnyInquiry::Receive(inquiry), Call::Receive(arguments)) => inquiry.take(
-                arguments, found, room,
-            ),
-            (AnyInquiry::Stat(inquiry), Call::Stat { id }) => inquiry.take(id, found, room),
-            (AnyInquiry::Set(inquiry), Call::Set(arguments)) => inquiry.take(
-                arguments, found, room,
-            ),
-            (AnyInquiry::Remove(inquiry), Call::Remove { id }) => inquiry.take(id, found, room),
-            (_, _) => Err(NotASystem),
+        let Some(record) = &found else {
+            return self.take_none(call, room);
+        };
+        match record {
+            Record::Counter(counter) => self.take_counter(call, *counter, room),
+            Record::Key(key) => self.take_key(call, *key, room),
+            Record::Queue(queue) => self.take_queue(call, queue, room),
+            Record::Type(entry) => self.take_type(call, entry, room),
+            Record::Message(message) => self.take_message(call, message, room),
         }
     }
 

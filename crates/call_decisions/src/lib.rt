@@ -10,6 +10,7 @@ mod laws;
 mod name_laws;
 mod owed_laws;
 mod settled;
+mod telling;
 
 pub use any_inquiry::AnyInquiry;
 pub use decision::decide;

@@ -83,8 +83,8 @@ either (stages.AtNeighbour w) r is = of_type r is
 either (stages.Done e place) r is = absurd is
 
 -- and what a way up asks for stands
-pub next_stands : (c : Caller) (a : SendArguments) (w : Walk) (s : State) → IsFiled s → KnowsAt c a (stages.AtNeighbour w) s →
-    IsTold s (asked a (stages.AtNeighbour w)) None → ⊥
+pub next_stands : (c : Caller) (a : SendArguments) (w : Walk) (s : State) → IsFiled s →
+    KnowsAt c a (stages.AtNeighbour w) s → IsTold s (asked a (stages.AtNeighbour w)) None → ⊥
 next_stands c a w s filed (known, walked) told =
     let is = next_told c a w.queue s filed known w walked None told in
     absurd cc
