@@ -281,7 +281,9 @@ impl CallMachine {
     }
 
     /// All of these in one go, up to so many steps, and no further than where one of them can't be
-    /// made so. What is left is left to `step`.
+    /// made so. What is left is left to `step`. It stands apart from whoever drives the call, since
+    /// its loops need the registers for themselves.
+    #[inline(never)]
     pub fn go_through<D: PageDevice, K: PseudoKey>(
         &mut self,
         pool: &mut Pool<D>,
