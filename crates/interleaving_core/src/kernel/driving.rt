@@ -1,6 +1,6 @@
 //! A seat is stepped until its call does not move.
 
-ghost use Rattle.std.specs.Prelude.{◌≡◌, ◌↔◌, ◌≤◌, IsTrue, None};
+ghost use Rattle.std.specs.Prelude.{◌≡◌, ◌↔◌, ◌≤◌, IsTrue};
 ghost use Rattle.interleaving_core.specs.Counting.{AreSoundCounts, IsCountedSeat, NotesGo};
 ghost use Rattle.interleaving_core.specs.Driving.{GoesThrough, HasGoneNowhere, IsDriven, failure_at};
 ghost use Rattle.interleaving_core.specs.Owing.{IsMove, IsRun, answer_told};
@@ -107,7 +107,7 @@ impl<D: PageDevice + Drop, K: PseudoKey + Drop> Kernel<D, K> {
         active.decided = decided;
         note_entry(&active.machine, &mut active.draft, &mut self.journal, seat);
         note_go(&mut self.searches, seat, gone.moves);
-        note_fault(&mut self.failure, seat, gone.fault);
+        self.failure = failure_at(seat, gone.fault);
         gone
     }
 }
@@ -147,12 +147,12 @@ fn note_go(searches: &mut SearchCounts, seat: u8, moves: u32)
     searches.are_sound();
 }
 
-/// What failed a step of a seat is noted, where one met a fault, and none had failed before.
-fn note_fault(failure: &mut Option<Failure>, seat: u8, fault: Option<FileFault>)
-    requires { failure.old ≡ None }
-    ensures { failure.new ≡ failure_at seat fault }
+/// What failed a step of a seat, where one met a fault.
+fn failure_at(seat: u8, fault: Option<FileFault>) -> Option<Failure>
+    ensures { result ≡ failure_at seat fault }
 {
-    if let Some(fault) = fault {
-        *failure = Some(Failure { seat, fault });
+    match fault {
+        Some(fault) => Some(Failure { seat, fault }),
+        None => None,
     }
 }

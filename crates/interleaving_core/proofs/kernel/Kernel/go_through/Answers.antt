@@ -4,7 +4,6 @@ use Rattle.std.specs.Option.{is_some}
 use Rattle.std.specs.Vec.{vec_len}
 use Rattle.interleaving_core.specs.Active.{ActiveView}
 use Rattle.interleaving_core.specs.Kernel.{KernelState}
-use Rattle.interleaving_core.proofs.FailureLemmas.{none_blamed}
 use Rattle.interleaving_core.proofs.GoneLemmas.{HasGone, fits, goes_nowhere, goes_still, goes_then, kept_still, kept_then, unmade, whole_still, whole_then}
 use Rattle.interleaving_core.proofs.LentLemmas.{row_there}
 use Rattle.interleaving_core.proofs.SeatLemmas.{lent_there}
@@ -108,9 +107,6 @@ invariant_of-active-2 g c =
     (λ none. true≢false (sym (c.has_gone_nowhere.ensures.1 none) ∙ c.if-has_gone_nowhere.false))
     c.note_entry.new.draft c.note_entry.ensures.draft
 
-pub note_fault-requires : goal.note_fault-requires
-note_fault-requires g c = none_blamed _ c.self.invariant (sym c.is_some.ensures ∙ c.if-is_some.false)
-
 pub invariant_of-self-2 : goal.invariant_of-self-2
 invariant_of-self-2 g c =
     let many : vec_len c.self.inside.journal ≡ length c.self.inside.journal.items = search rules in
@@ -119,7 +115,7 @@ invariant_of-self-2 g c =
     c.note_entry.new.draft c.note_entry.ensures.draft c.note_go.new.searches c.note_go.ensures.notes
     c.note_go.ensures.sound _ c.note_entry.ensures.capacity c.decided_by-decided.result c.len.result
     (c.len.ensures ∙ many) c.decided_by-decided.ensures c.note_entry.new.journal.items c.note_entry.ensures.journal
-    c.note_fault.new.failure c.note_fault.ensures
+    c.failure_at-self-inside.result c.failure_at-self-inside.ensures
 
 pub returns-clause-goes : goal.returns-clause-goes
 returns-clause-goes g c =
@@ -129,4 +125,4 @@ returns-clause-goes g c =
     c.note_entry.new.draft c.note_entry.ensures.draft c.note_go.new.searches c.note_go.ensures.notes
     c.note_go.ensures.sound _ c.note_entry.ensures.capacity c.decided_by-decided.result c.len.result
     (c.len.ensures ∙ many) c.decided_by-decided.ensures c.note_entry.new.journal.items c.note_entry.ensures.journal
-    c.note_fault.new.failure c.note_fault.ensures
+    c.failure_at-self-inside.result c.failure_at-self-inside.ensures
