@@ -123,7 +123,7 @@ impl AnyInquiry {
         self.take_any(call, Some(Record::Key(key)), room)
     }
 
-    #[inline(never)]
+    #[inline(always)]
     fn take_lent_queue(
         &mut self,
         call: &Call,
@@ -148,7 +148,7 @@ impl AnyInquiry {
         }
     }
 
-    #[inline(never)]
+    #[inline(always)]
     fn take_lent_message(
         &mut self,
         call: &Call,
