@@ -1,5 +1,5 @@
--- A script that is run on the file of a device, and on a new file in memory: by one seat or by several. docs/SCRIPTS.md,
--- "Runs".
+-- A script that is run on the file of a device, and on a new file in memory: by one seat or by several.
+-- docs/SCRIPTS.md, "Runs".
 use Rattle.std.specs.Prelude.{ℕ, ◌≡◌, ◌⊎◌, Bool, true, false, List, Option, Result, Ok, Err}
 use Rattle.numbers.specs.declared.faults.TheConstants.{DEVICE, NO_MEMORY}
 use Rattle.msgq_cli.specs.Outputs.{OutputState}

@@ -1,4 +1,4 @@
-//! Scripts whose seats run beside one another, each at a seat of a service: all but the threads.
+//! Scripts whose seats run beside one another, each in a thread at a seat of a service.
 
 #![tactic(auto)]
 

@@ -1,4 +1,4 @@
-//! Who waits for answers. This crate starts no thread and waits for none: the program does.
+//! Who waits for answers.
 
 ghost use Rattle.std.specs.Prelude.{◌≡◌, ◌∷◌, ◌++◌, [], IfOk, IsErrOf, IsTrue, OnErr, length, true};
 ghost use Rattle.queue_model.specs.declared.entry.Entry.TheVariants.{Decided};

@@ -1,4 +1,5 @@
-//! Scripts on files of message queues, run line by line: each call is answered before the next one is made.
+//! Scripts on files of message queues, run line by line: each call is answered before the next one
+//! is made.
 
 #![tactic(auto)]
 
