@@ -49,12 +49,12 @@ pub fn peek_range<D: PageDevice>(pool: &mut Pool<D>, page: u32, pseudokey: u32) 
     if page < ROOT_PAGE {
         return false;
     }
+    // It is touched first, so that who reads the page behind this is spared another look for it.
+    pool.touch(page);
     let Some(image) = pool.resident(page) else {
         return false;
     };
-    let covers = covers(image, pseudokey);
-    pool.touch(page);
-    covers
+    covers(image, pseudokey)
 }
 
 /// What the bucket on a page has of a key, where that page is in a frame: the value, or none.

@@ -1,5 +1,6 @@
 //! A write that is made in one go, by no access: `write_through`, where nothing is seen of the access
-//! before it begins and behind its end. So none is begun, and none ends.
+//! before it begins and behind its end. So none is begun, and none ends. What is written is spelled
+//! before the page is looked for, so that nothing stands between that look and the write.
 
 ghost use Rattle.std.specs.Prelude.{◌≡◌, ℕ, true, false};
 ghost use Rattle.queue_records.specs.Range.{IsInRange};
@@ -41,11 +42,11 @@ impl Access {
     {
         let key = entry.key();
         let bucket = BucketAccess::new(Deed::Put, key, pseudokey);
+        self.make_room();
+        entry.encode(&mut self.value);
         let Some(page) = bucket.heads_for(pool, locks, seat) else {
             return false;
         };
-        self.make_room();
-        entry.encode(&mut self.value);
         put_ahead(pool, page, &key, self.value.as_slice())
     }
 
@@ -72,20 +73,20 @@ impl Access {
             Write::Replace(entry) => {
                 let key = entry.key();
                 let bucket = BucketAccess::new(Deed::Replace, key, pseudokey);
+                self.make_room();
+                entry.encode(&mut self.value);
                 let Some(page) = bucket.heads_for(pool, locks, seat) else {
                     return false;
                 };
-                self.make_room();
-                entry.encode(&mut self.value);
                 replace_ahead(pool, page, &key, self.value.as_slice())
             }
             Write::Relink(key, links) => {
                 links_fit(links);
                 let bucket = BucketAccess::new(Deed::Replace, *key, pseudokey);
+                self.make_room();
                 let Some(page) = bucket.heads_for(pool, locks, seat) else {
                     return false;
                 };
-                self.make_room();
                 relink_ahead(pool, page, key, links, &mut self.value).is_some()
             }
             Write::Delete(key) => {

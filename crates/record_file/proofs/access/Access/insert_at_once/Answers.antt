@@ -14,6 +14,15 @@ invariant_of-self g c = record {
       (c.make_room.ensures (length c.encode.new.value));
 }
 
+-- the room is taken as well where it would go to no page
+pub invariant_of-self-2 : goal.invariant_of-self-2
+invariant_of-self-2 g c = record {
+  key_is = c.self.invariant.key_is;
+  within = rw (c.encode.ensures.value) (short_value c.args.entry.now c.requires.range);
+  lent = subst (λ (a : AccessView). MayBeLent (length c.encode.new.value) a.operation) (sym c.self.view_is)
+      (c.make_room.ensures (length c.encode.new.value));
+}
+
 pub returns-clause-made : goal.returns-clause-made
 returns-clause-made g c = λ made.
     let r = c.args.entry.now in

@@ -18,6 +18,16 @@ invariant_of-self g c = record {
       (c.make_room.ensures (length c.encode.new.value));
 }
 
+-- the room is taken as well where it would go to no page
+pub invariant_of-self-in-Replace : goal.invariant_of-self-in-Replace
+invariant_of-self-in-Replace g c = record {
+  key_is = c.self.invariant.key_is;
+  within = rw (c.encode.ensures.value)
+      (short_value c.in-Replace.entry (subst HasRange c.in-Replace.is c.requires.range));
+  lent = subst (λ (a : AccessView). MayBeLent (length c.encode.new.value) a.operation) (sym c.self.view_is)
+      (c.make_room.ensures (length c.encode.new.value));
+}
+
 pub invariant_of-self-in-Relink : goal.invariant_of-self-in-Relink
 invariant_of-self-in-Relink g c = record {
   key_is = c.self-in-Relink.invariant.key_is;
